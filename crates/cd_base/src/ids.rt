@@ -16,6 +16,14 @@ pub struct CloudNo(pub u8);
 #[derive(Clone, Copy, Debug, PartialEq, Eq, PartialOrd, Ord)]
 pub struct Version(pub u64);
 
+/// The fingerprint of a share: its SHA-256 (FIPS 180-4).
+#[derive(Clone, Copy, Debug, PartialEq, Eq, PartialOrd, Ord)]
+pub struct Fp(pub [u8; 32]);
+
+/// The tag of a file's name: the SHA-256 of its name package, the same at each cloud.
+#[derive(Clone, Copy, Debug, PartialEq, Eq, PartialOrd, Ord)]
+pub struct Tag(pub [u8; 32]);
+
 /// Memory ran out. It is an answer of its own, and never stands for another one.
 #[derive(Clone, Copy, Debug, PartialEq, Eq)]
 pub struct NoMemory;

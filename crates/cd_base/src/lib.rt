@@ -3,10 +3,16 @@
 
 mod bytes;
 mod clouds;
+mod ends;
 mod ids;
+mod path;
+mod rooms;
 mod shape;
 
 pub use bytes::Bytes;
 pub use clouds::Clouds;
-pub use ids::{CloudNo, NoMemory, UserId, Version};
+pub use ends::Ends;
+pub use ids::{CloudNo, Fp, NoMemory, Tag, UserId, Version};
+pub use path::is_path;
+pub use rooms::{Room, Rooms};
 pub use shape::Shape;

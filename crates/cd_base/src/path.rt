@@ -1,0 +1,32 @@
+//! The names of files.
+
+ghost use Rattle.std.specs.Prelude.{◌↔◌, ◌≢◌, IsTrue, All};
+ghost use Rattle.cd_base.specs.Limits.{IsPath};
+
+/// Whether bytes may name a file: 1 to 1,024 of them, none of them zero.
+pub fn is_path(bytes: &[u8]) -> bool
+    ensures { IsTrue result ↔ IsPath bytes.now }
+{
+    !bytes.is_empty() && bytes.len() <= 1024 && has_no_zero(bytes)
+}
+
+// Whether no byte is zero.
+fn has_no_zero(bytes: &[u8]) -> bool
+    ensures { IsTrue result ↔ All (λ byte. byte ≢ 0) bytes.now }
+{
+    bytes.iter().all(|byte| *byte != 0)
+}
+
+#[cfg(test)]
+mod tests {
+    use super::*;
+
+    #[test]
+    fn names(rt: HostRuntime) {
+        assert!(rt; is_path(b"a"));
+        assert!(rt; !is_path(b""));
+        assert!(rt; !is_path(b"a\0b"));
+        assert!(rt; is_path(&[1; 1024]));
+        assert!(rt; !is_path(&[1; 1025]));
+    }
+}
