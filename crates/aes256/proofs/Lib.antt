@@ -1,0 +1,10 @@
+pub mod Examples
+pub mod Circuit
+pub mod Gates
+pub mod Xor
+pub mod Round
+pub mod Spread
+pub mod Keys
+pub mod Transpose
+pub mod MaskBytes
+pub mod MaskLaws
