@@ -1,1 +1,8 @@
 mod Known
+pub mod Calls
+pub mod Moments
+pub mod Overwritten
+pub mod Runs
+pub mod Shrinks
+pub mod Since
+pub mod Torn
