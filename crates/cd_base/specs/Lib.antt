@@ -1,2 +1,4 @@
+pub mod Lending
+pub mod Lengths
 pub mod Limits
 pub mod Numbers

@@ -1,7 +1,9 @@
 //! A list of bytes.
 
-ghost use Rattle.std.specs.Prelude.{◌≡◌, ℕ, List, [], ◌∷◌, ◌++◌, length, slice_get, OnOk, OnErr, IsTrue, ◌↔◌};
+ghost use Rattle.std.specs.Prelude.{◌≡◌, ℕ, List, [], ◌∷◌, ◌++◌, ◌-◌, length, take, replicate, slice_get, OnOk, OnErr, IsTrue, ◌↔◌};
 ghost use Rattle.std.specs.Option.{option_copied};
+ghost use Rattle.std.specs.Borrow.{sem};
+ghost use Rattle.cd_base.specs.Lending.{LendsAll};
 
 use crate::NoMemory;
 use std::alloc::Global;
@@ -14,6 +16,8 @@ pub struct Bytes {
 }
 
 impl Model for Bytes {
+    ghost use Rattle.std.specs.Prelude.{ℕ, List};
+
     ghost Value = { List ℕ };
 
     ghost view = { λ b. b.items.items };
@@ -75,6 +79,31 @@ impl Bytes {
         self.items.as_slice()
     }
 
+    /// The bytes, to be written in place.
+    pub fn as_mut_slice(&mut self) -> &mut [u8]
+        // the list becomes what is left behind the result
+        ensures* writes_back { sem 𝓛 (LendsAll self.entry result) }
+        ensures value { result.now ≡ self.old }
+    {
+        self.items.as_mut_slice()
+    }
+
+    /// Makes the list `len` bytes long: it is cut, or filled up with `value`. For want of memory nothing changes.
+    pub fn resize(&mut self, len: usize, value: u8) -> Result<(), NoMemory>
+        ensures ok { OnOk result (self.new ≡ take len self.old ++ replicate (len - length self.old) value) }
+        ensures err { OnErr result (self.new ≡ self.old) }
+    {
+        self.items.resize(len, value)?;
+        Ok(())
+    }
+
+    /// Drops the bytes from place `len` on, if there are any, and keeps the memory.
+    pub fn truncate(&mut self, len: usize)
+        ensures { self.new ≡ take len self.old }
+    {
+        self.items.truncate(len);
+    }
+
     /// Drops all bytes, and keeps the memory.
     pub fn clear(&mut self)
         ensures { self.new ≡ [] }
@@ -96,6 +125,11 @@ mod tests {
         assert_eq!(rt; bytes.as_slice(), [1, 2, 3].as_slice());
         assert_eq!(rt; bytes.get(2).copied(), Some(3));
         assert_eq!(rt; bytes.get(3).copied(), None);
+        bytes.as_mut_slice()[0] = 7;
+        bytes.resize(4, 9)?;
+        assert_eq!(rt; bytes.as_slice(), [7, 2, 3, 9].as_slice());
+        bytes.truncate(1);
+        assert_eq!(rt; bytes.as_slice(), [7].as_slice());
         bytes.clear();
         assert!(rt; bytes.is_empty());
         Ok(())

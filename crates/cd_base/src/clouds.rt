@@ -1,9 +1,5 @@
 //! A rising list of clouds.
 
-ghost use Rattle.std.specs.Prelude.{◌≡◌, ℕ, List, [], ◌∷◌, ◌++◌, length, slice_get, option_map, OnOk, OnErr, IsTrue, ◌↔◌};
-ghost use Rattle.std.specs.Option.{option_copied};
-ghost use Rattle.std.specs.List.Sorted.{IsStrictlyIncreasing};
-
 use crate::{CloudNo, NoMemory};
 use std::alloc::Global;
 use std::marker::Model;
@@ -27,6 +23,11 @@ impl Model for Clouds {
 }
 
 impl Clouds {
+    ghost use Rattle.std.specs.Prelude.{◌≡◌, ℕ, List, [], ◌∷◌, ◌++◌, length, slice_get, option_map, OnOk, OnErr, IsTrue, ◌↔◌};
+    ghost use Rattle.std.specs.Option.{option_copied};
+    ghost use Rattle.std.specs.List.Sorted.{IsStrictlyIncreasing};
+    ghost use Rattle.cd_base.specs.Numbers.{numbers_of};
+
     /// No clouds. It takes no memory.
     pub fn new(alloc: Global) -> Clouds
         ensures { result ≡ [] }
@@ -68,6 +69,13 @@ impl Clouds {
         ensures { option_map (λ cloud. cloud.0) (option_copied result) ≡ slice_get self.now place }
     {
         self.items.get(place)
+    }
+
+    /// The clouds.
+    pub fn as_slice(&self) -> &[CloudNo]
+        ensures { numbers_of result.now ≡ self.now }
+    {
+        self.items.as_slice()
     }
 
     /// Whether the clouds rise, as they always do. It is here for its contract.

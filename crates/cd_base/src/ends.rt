@@ -1,6 +1,6 @@
 //! A list of places.
 
-ghost use Rattle.std.specs.Prelude.{◌≡◌, ℕ, List, [], ◌∷◌, ◌++◌, length, slice_get, OnOk, OnErr, IsTrue, ◌↔◌};
+ghost use Rattle.std.specs.Prelude.{◌≡◌, ℕ, List, [], ◌∷◌, ◌++◌, length, slice_get, take, OnOk, OnErr, IsTrue, ◌↔◌};
 ghost use Rattle.std.specs.Option.{option_copied};
 
 use crate::NoMemory;
@@ -73,6 +73,13 @@ impl Ends {
         ensures { result.now ≡ self.now }
     {
         self.items.as_slice()
+    }
+
+    /// Drops all places from an index on, and keeps the memory. Where there are no more places than that, nothing changes.
+    pub fn truncate(&mut self, len: usize)
+        ensures { self.new ≡ take len self.old }
+    {
+        self.items.truncate(len);
     }
 
     /// Drops all places, and keeps the memory.

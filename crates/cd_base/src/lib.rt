@@ -3,16 +3,20 @@
 
 mod bytes;
 mod clouds;
+mod digest;
 mod ends;
 mod ids;
+mod lengths;
 mod path;
 mod rooms;
 mod shape;
 
 pub use bytes::Bytes;
 pub use clouds::Clouds;
+pub use digest::sha256;
 pub use ends::Ends;
 pub use ids::{CloudNo, Fp, NoMemory, Tag, UserId, Version};
+pub use lengths::share_len;
 pub use path::is_path;
 pub use rooms::{Room, Rooms};
 pub use shape::Shape;

@@ -1,0 +1,33 @@
+//! The lengths of shares.
+
+ghost use Rattle.std.specs.Prelude.{◌≡◌, ℕ, ◌+◌, ◌*◌, ◌≤◌};
+ghost use Rattle.cd_base.specs.Lengths.{share_len_of};
+
+use crate::Shape;
+
+/// The length in bytes of each share of a secret: the least m with `k * m >= secret_len + 32`.
+pub fn share_len(shape: Shape, secret_len: u32) -> u32
+    requires some { 1 ≤ secret_len }
+    requires few { secret_len ≤ 16384 }
+    ensures enough { secret_len + 32 ≤ shape.k * result }
+    ensures least { (m : ℕ) → secret_len + 32 ≤ shape.k * m → result ≤ m }
+    ensures value { result ≡ share_len_of shape.k secret_len }
+{
+    let k = shape.k() as u32;
+    (secret_len + 31 + k) / k
+}
+
+#[cfg(test)]
+mod tests {
+    use super::*;
+    use std::test::Fail;
+
+    #[test]
+    fn lengths(rt: HostRuntime) -> Result<(), Fail> {
+        for (n, k, secret_len, wanted) in [(4, 3, 1, 11), (4, 3, 2, 12), (16, 15, 16384, 1095)] {
+            let shape = Shape::of(n, k).unwrap_or(Shape { n: 4, k: 3 });
+            assert_eq!(rt; share_len(shape, secret_len), wanted);
+        }
+        Ok(())
+    }
+}
