@@ -1,0 +1,10 @@
+pub mod Pairs
+pub mod Contents
+pub mod Order
+pub mod Counts
+pub mod Above
+pub mod Steps
+pub mod Chains
+pub mod Unlink
+pub mod Unhash
+pub mod Rewrite

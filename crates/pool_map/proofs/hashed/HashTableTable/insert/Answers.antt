@@ -1,0 +1,44 @@
+use Rattle.std.proofs.Common.{◌≡◌, ◌∙◌, ◌+◌, length, ap, arith, sym}
+use Rattle.slot_pool.specs.Pool.{Pool}
+use Rattle.pool_map.specs.declared.Entry.{Entry}
+use Rattle.pool_map.specs.Table.{contents}
+use Rattle.pool_map.specs.Chains.{bucket}
+use Rattle.pool_map.proofs.Chains.{insert-hashed, fill-count, lacks-from-none, find-none-from}
+use Rattle.pool_map.proofs.Contents.{fill-contents}
+use Rattle.pool_map.proofs.Counts.{charged-uses, by-map}
+use Rattle.pool_map.proofs.hashed.HashTableTable.insert.Goals as goal
+
+pub overflow_add-self : goal.overflow_add-self
+overflow_add-self g c =
+    let e : Entry g.row.K.Denot g.row.W.Denot = record { key = c.args.key; value = c.args.value } in
+    let counts = fill-count c.self.inside.pool.slots c.in-Ok.slot.number c.args.account e c.in-Ok.ensures.in_range c.in-Ok.ensures.was_empty in
+    let small = c.self.invariant.0.small in
+    let len = c.self.invariant.1 in
+    omega arith
+
+pub invariant_of-self : goal.invariant_of-self
+invariant_of-self g c =
+    let e : Entry g.row.K.Denot g.row.W.Denot = record { key = c.args.key; value = c.args.value } in
+    let counts = fill-count c.self.inside.pool.slots c.in-Ok.slot.number c.args.account e c.in-Ok.ensures.in_range c.in-Ok.ensures.was_empty in
+    let slots = ap (λ (p : Pool (Entry g.row.K.Denot g.row.W.Denot)). p.slots) c.in-Ok.ensures.ok in
+    let n : c.len.result ≡ length c.self.inside.heads.items = omega arith in
+    let lacks = lacks-from-none g.K.Ord.cmp g.met.K.Ord.total g.met.K.Key.exact g.K.Key.word_of c.self.inside.pool.slots c.args.key (rw (← c.self.view_is) at c.requires.absent) in
+    rw slots (
+      insert-hashed g.K.Ord.cmp g.met.K.Ord.total g.met.K.Key.exact g.K.Key.word_of c.self.inside.pool.slots c.self.inside.heads.items c.self.inside.next.items c.self.invariant.0 c.in-Ok.slot.number c.args.account e c.in-Ok.ensures.in_range c.in-Ok.ensures.was_empty c.bucket_of-start.result c.index.result.now (c.bucket_of-start.ensures.same ∙ ap (λ k. bucket g.K.Key.word_of k c.args.key) n) (omega (arith, c.bucket_of-start.ensures.in_range)) c.index.ensures lacks,
+      ap (λ m. m + 1) c.self.invariant.1 ∙ counts.0,
+    )
+
+pub returns-in-Ok-clause-ok : goal.returns-in-Ok-clause-ok
+returns-in-Ok-clause-ok g c =
+    let e : Entry g.row.K.Denot g.row.W.Denot = record { key = c.args.key; value = c.args.value } in
+    ap (contents g.K.Ord.cmp) c.in-Ok.ensures.ok
+    ∙ (rw (← c.self.view_is) (fill-contents g.K.Ord.cmp g.met.K.Ord.total g.met.K.Key.exact c.self.inside.pool.slots c.in-Ok.slot.number c.args.account e c.in-Ok.ensures.in_range c.in-Ok.ensures.was_empty (find-none-from g.K.Ord.cmp g.met.K.Ord.total g.met.K.Key.exact g.K.Key.word_of c.self.inside.pool.slots c.args.key (rw (← c.self.view_is) at c.requires.absent))))
+
+pub returns-in-Ok-clause-refuses : goal.returns-in-Ok-clause-refuses
+returns-in-Ok-clause-refuses g c = rw (← c.self.view_is) (by-map g.K.Ord.cmp g.met.K.Ord.total c.self.inside.pool c.self.invariant.0.apart c.args.account _ c.in-Ok.ensures.refuses)
+
+pub returns-in-Err-clause-refuses : goal.returns-in-Err-clause-refuses
+returns-in-Err-clause-refuses g c = rw (← c.self.view_is) (by-map g.K.Ord.cmp g.met.K.Ord.total c.self.inside.pool c.self.invariant.0.apart c.args.account _ c.in-Err.ensures.refuses)
+
+pub returns-in-Err-clause-used : goal.returns-in-Err-clause-used
+returns-in-Err-clause-used g c = rw (← c.self.view_is) (c.in-Err.ensures.used ∙ sym (charged-uses g.K.Ord.cmp g.met.K.Ord.total c.self.inside.pool c.self.invariant.0.apart c.args.account))

@@ -1,0 +1,6 @@
+use Rattle.std.proofs.Common.{◌∙◌, sym}
+use Rattle.pool_map.proofs.Counts.{len-held}
+use Rattle.pool_map.proofs.hashed.HashTableTable.len.Goals as goal
+
+pub returns-clause-keys : goal.returns-clause-keys
+returns-clause-keys g c = rw (← c.self.view_is) (c.self.invariant.1 ∙ sym (len-held g.K.Ord.cmp g.met.K.Ord.total c.self.inside.pool c.self.invariant.0.apart))
