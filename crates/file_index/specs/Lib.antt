@@ -1,0 +1,4 @@
+pub mod Order
+pub mod Files
+pub mod Coded
+pub mod Kept

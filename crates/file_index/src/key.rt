@@ -1,0 +1,62 @@
+//! What an index is asked by, and what it answers.
+
+use cd_base::{Fp, Tag, UserId, Version};
+use pool_map::Key;
+
+/// A version of a user's file, in the order of users, tags and versions.
+#[derive(Clone, Copy, Debug, PartialEq, Eq, PartialOrd, Ord)]
+pub struct FileKey {
+    pub user: u32,
+    pub tag: [u8; 32],
+    pub version: u64,
+}
+
+/// Where the recipe of a version lies among a cloud's recipes: its first byte's place and its length in bytes, and its SHA-256.
+#[derive(Clone, Copy, Debug, PartialEq, Eq)]
+pub struct Entry {
+    pub at: u64,
+    pub len: u32,
+    pub fp: Fp,
+}
+
+impl FileKey {
+    ghost use Rattle.std.specs.Prelude.{◌≡◌, length, replicate};
+    ghost use Rattle.file_index.specs.Files.{key_of};
+
+    /// The key of a version of a user's file.
+    pub fn of(user: UserId, tag: &Tag, version: Version) -> FileKey
+        ensures key { result ≡ key_of user.0 tag.now.0 version.0 }
+        ensures tag { length result.tag ≡ 32 }
+    {
+        FileKey {
+            user: user.0,
+            tag: tag.0,
+            version: version.0,
+        }
+    }
+
+    // A key that no key of the user's is below.
+    pub(crate) fn least_of(user: UserId) -> FileKey
+        ensures { result ≡ key_of user.0 (replicate 32 0) 0 }
+    {
+        FileKey {
+            user: user.0,
+            tag: [0; 32],
+            version: 0,
+        }
+    }
+}
+
+/// The word is the tag's first 8 bytes.
+impl Key for FileKey {
+    ghost use Rattle.pool_map.specs.Word.{first_word};
+    ghost use Rattle.file_index.specs.Order.{key_exact};
+
+    ghost word_of = { λ key. first_word key.tag };
+
+    ghost exact = { key_exact };
+
+    fn word(&self) -> u64 {
+        self.tag.word()
+    }
+}
