@@ -1,0 +1,5 @@
+pub mod CloudSteps
+pub mod CloudsAt
+mod Copied
+pub mod DiskSteps
+pub mod Noted

@@ -1,0 +1,13 @@
+-- What each cloud in memory reads is one of its images.
+use Rattle.std.proofs.Common.{ℕ, zero, suc, List, [], ◌∷◌}
+use Rattle.cd_edges.specs.Disk.{IsImage, reads}
+use Rattle.cd_fakes.specs.declared.cloud.MemCloud.{MemCloud}
+use Rattle.cd_fakes.specs.Disks.{history_of}
+use Rattle.cd_fakes.specs.History.{nothing}
+use Rattle.cd_fakes.specs.Shelves.{clouds_of}
+use Rattle.cd_fakes.specs.StepsImage.{reads_image, nothing_image}
+
+pub clouds_read : (ms : List MemCloud) (number : ℕ) → IsImage (clouds_of ms number).now (reads (clouds_of ms number).now)
+clouds_read [] number = nothing_image
+clouds_read (m ∷ ms) zero = reads_image nothing (history_of m.disk) nothing_image
+clouds_read (m ∷ ms) (suc number) = clouds_read ms number
