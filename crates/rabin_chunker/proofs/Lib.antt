@@ -1,0 +1,7 @@
+pub mod Algebra
+pub mod TableChecks
+pub mod Steps
+pub mod RuleLaws
+pub mod Outcome
+pub mod Feeding
+pub mod Scanning

@@ -1,0 +1,6 @@
+pub mod Cuts
+pub mod Rolling
+pub mod Window
+pub mod Reading
+pub mod Rule
+pub mod Walk
