@@ -1,0 +1,155 @@
+//! The dispersal beside another one, which was made in Python of hashlib's SHA-256, the AES-256 of the package
+//! `cryptography`, and Lagrange's interpolation over bytes with products by shifts.
+
+ghost use Rattle.std.specs.Prelude.{◌≡◌, ◌≤◌, length};
+
+use super::*;
+use cd_base::{Bytes, CloudNo, Fp, Shape, is_path, sha256, share_len};
+use reed_solomon::are_choice;
+use std::alloc::Global;
+use std::test::Fail;
+
+// n, k, the length of a secret whose byte i is (7 i + 3) % 251, and the first half of the SHA-256 of its n shares.
+const DISPERSALS: [(u8, u8, usize, u128); 15] = [
+    (4, 3, 1, 0x94962c08a5c03b459fdcb5727344768d),
+    (4, 3, 2, 0x6f261599a5aa225e031eab70f1f950ea),
+    (4, 3, 2048, 0xe67fda09f4cef30ae95078a8fea2205e),
+    (4, 3, 8192, 0xd16499e46863f66c83bba987fb06d142),
+    (4, 3, 16384, 0xb3adc1258cc64659f6230c6833e734a9),
+    (3, 2, 1, 0x3e756585e918b07247efdc65f0cd7cee),
+    (3, 2, 2, 0xdd4431c7c2050007bef936ae22803134),
+    (3, 2, 2048, 0x9a4d26d1a4e59dcc42c09cfa112876ab),
+    (3, 2, 8192, 0xf2a15db789de61bfc69e26eab0cbb33c),
+    (3, 2, 16384, 0x8859c4306e36242864d1d0c8b78939ad),
+    (16, 15, 1, 0x62a54ce9afcb7b94381c33fc0e718c5f),
+    (16, 15, 2, 0x2503b888fb801c9015942bc01428c150),
+    (16, 15, 2048, 0x650112b5102f43099353eec8d711da03),
+    (16, 15, 8192, 0x6dac6eba206bf694369a2298a5643b7d),
+    (16, 15, 16384, 0x5517d27d3b4057293fc380057a8bed57),
+];
+
+// The package of the padded text 41 42 00 01 at k = 3, whose pad isn't zero for a secret of two bytes.
+const BAD_PAD: [u8; 36] = [
+    0x81, 0x4a, 0x49, 0x7d, 0x95, 0x03, 0x2a, 0xb7, 0xe3, 0x28, 0xda, 0x6f, 0xa8, 0xea, 0x7e, 0xd1,
+    0x42, 0x54, 0x28, 0x5f, 0x65, 0x21, 0xaa, 0xf6, 0x6d, 0x58, 0xa7, 0x32, 0xea, 0x6a, 0xea, 0x97,
+    0x1a, 0xd9, 0xe6, 0xec,
+];
+
+fn first_half(digest: Fp) -> u128 {
+    let mut half = [0; 16];
+    half.copy_from_slice(&digest.0[..16]);
+    u128::from_be_bytes(half)
+}
+
+fn write_secret(target: &mut [u8]) {
+    let mut next = 3u8;
+    for byte in target.iter_mut() {
+        *byte = next;
+        next = if next < 244 { next + 7 } else { next - 244 };
+    }
+}
+
+// Recovers a secret from the shares above the first n - k, the last one first. No bytes where the lengths don't fit.
+fn recover_from_last(
+    alloc: Global,
+    shape: Shape,
+    secret_len: u32,
+    shares: &[u8],
+) -> Result<Bytes, RecoverErr>
+    requires some { 1 ≤ secret_len }
+    requires few { secret_len ≤ 16384 }
+{
+    let width = share_len(shape, secret_len) as usize;
+    let mut points = Bytes::new(alloc);
+    let mut given = Bytes::new(alloc);
+    let mut out = Bytes::new(alloc);
+    for place in 0..shape.k {
+        let number = shape.n - 1 - place;
+        points.push(number)?;
+        let start = number as usize * width;
+        if start + width <= shares.len() {
+            given.extend(&shares[start..start + width])?;
+        }
+    }
+    if given.len() == shape.k as usize * width && are_choice(shape, points.as_slice()) {
+        recover(
+            shape,
+            secret_len,
+            points.as_slice(),
+            given.as_slice(),
+            &mut out,
+        )?;
+    }
+    Ok(out)
+}
+
+#[test]
+fn disperses(rt: HostRuntime) -> Result<(), Fail> {
+    let mut text = [0; 16384];
+    write_secret(&mut text);
+    let mut shares = Bytes::new(rt.alloc());
+    for (n, k, len, half) in DISPERSALS {
+        if let Some(shape) = Shape::of(n, k) {
+            if 1 <= len && len <= 16384 {
+                disperse(shape, &text[..len], &mut shares)?;
+                assert_eq!(rt;
+                    first_half(sha256(shares.as_slice())),
+                    half,
+                    "{n} {k} {len}"
+                );
+                let secret = recover_from_last(rt.alloc(), shape, len as u32, shares.as_slice())?;
+                assert_eq!(rt; *secret.as_slice(), text[..len], "{n} {k} {len}");
+            }
+        }
+    }
+    Ok(())
+}
+
+#[test]
+fn refuses(rt: HostRuntime) -> Result<(), Fail> {
+    let points = [0, 1, 2];
+    if let Some(shape) = Shape::of(4, 3) {
+        let mut out = Bytes::new(rt.alloc());
+        out.push(9)?;
+        let mut package = BAD_PAD;
+        if are_choice(shape, &points) && share_len(shape, 2) == 12 && shape.k() == 3 {
+            let answer = recover(shape, 2, &points, &package, &mut out);
+            assert_eq!(rt; answer, Err(RecoverErr::BadPad { at: 3, byte: 1 }));
+            package[35] ^= 1;
+            match recover(shape, 2, &points, &package, &mut out) {
+                Err(RecoverErr::BadSecret { named, found }) => {
+                    assert_eq!(rt; first_half(named), 0x5fff175ce7fc75ddae25284bcb4678b8);
+                    assert_eq!(rt; first_half(found), 0xa3b39a2b2b9f0745efaa4a4868aa078b);
+                }
+                _ => assert!(rt; false),
+            }
+        }
+        assert_eq!(rt; out.as_slice(), [9].as_slice());
+    }
+    Ok(())
+}
+
+#[test]
+fn names(rt: HostRuntime) -> Result<(), Fail> {
+    let path = b"a";
+    if let Some(shape) = Shape::of(4, 3) {
+        let cloud = CloudNo(3);
+        if is_path(path) && cloud.0 < shape.n {
+            let tag = tag_of(rt.alloc(), shape, path)?;
+            assert_eq!(rt; first_half(Fp(tag.0)), 0x5d68886a3c18c6681152c8912b098df2);
+            let mut out = Bytes::new(rt.alloc());
+            name_package(shape, path, &mut out)?;
+            assert_eq!(rt; first_half(sha256(out.as_slice())), first_half(Fp(tag.0)));
+            assert_eq!(rt; out.len(), 33);
+            name_share(rt.alloc(), shape, cloud, path, &mut out)?;
+            assert_eq!(rt; out.len(), 44);
+            if out.len() == 44 {
+                let last = [
+                    0xb9, 0xdb, 0x83, 0x85, 0x7c, 0xd2, 0xe8, 0xfb, 0x86, 0x3a, 0x67,
+                ];
+                assert_eq!(rt; out.as_slice()[33..], last[..]);
+            }
+        }
+    }
+    Ok(())
+}
