@@ -1,0 +1,6 @@
+pub mod Laws
+pub mod WordLaws
+pub mod NumeralLaws
+pub mod HexadecimalLaws
+pub mod FieldLaws
+pub mod Places

@@ -1,0 +1,5 @@
+pub mod Readers
+pub mod Words
+pub mod Numerals
+pub mod Hexadecimal
+pub mod Fields

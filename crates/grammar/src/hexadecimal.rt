@@ -1,0 +1,119 @@
+//! Bytes as text, two digits a byte in lower case.
+
+ghost use Rattle.std.specs.Prelude.{◌≡◌, ◌<◌, ◌*◌, ◌++◌, length, Some, None, OnOk, OnErr, IfOk, IsTrue, take, false};
+ghost use Rattle.grammar.specs.Hexadecimal.{hex, hex_digit, unhex, unhex_digit, pair_value};
+
+use crate::{after, before};
+use cd_base::{Bytes, NoMemory};
+use std::alloc::Global;
+
+// How many bytes are decoded or encoded at a time.
+const BLOCK: usize = 4096;
+
+fn digit_of(c: u8) -> Option<u8>
+    ensures { result ≡ unhex_digit c }
+{
+    match c {
+        b'0'..=b'9' => Some(c - 48),
+        b'a'..=b'f' => Some(c - 87),
+        _ => None,
+    }
+}
+
+fn byte_of(high: u8, low: u8) -> Option<u8>
+    ensures { result ≡ pair_value (unhex_digit high) (unhex_digit low) }
+{
+    let (Some(high), Some(low)) = (digit_of(high), digit_of(low)) else {
+        return None;
+    };
+    if high < 16 && low < 16 {
+        Some(16 * high + low)
+    } else {
+        None
+    }
+}
+
+// Decodes a block of text into as many bytes as it spells. True where all of it is digits in lower case.
+fn decode_block(text: &[u8], out: &mut [u8]) -> bool
+    requires { length text.now ≡ 2 * length out.old }
+    ensures good { IsTrue result → unhex text.now ≡ Some out.new }
+    ensures bad { result ≡ false → unhex text.now ≡ None }
+{
+    for i in 0..out.len() {
+        let Some(byte) = byte_of(text[2 * i], text[2 * i + 1]) else {
+            return false;
+        };
+        out[i] = byte;
+    }
+    true
+}
+
+/// The bytes that a text spells, two digits a byte in lower case; None where the text is another.
+pub fn decode(alloc: Global, text: &[u8]) -> Result<Option<Bytes>, NoMemory>
+    ensures { IfOk result (λ bytes. bytes ≡ unhex text.now) }
+{
+    let mut bytes = Bytes::new(alloc);
+    let mut block = [0; BLOCK];
+    let mut rest = text;
+    while rest.len() >= 2 {
+        let n = (rest.len() / 2).min(BLOCK);
+        let (front, more) = rest.split_at(2 * n);
+        if !decode_block(front, &mut block[..n]) {
+            return Ok(None);
+        }
+        bytes.extend(&block[..n])?;
+        rest = more;
+    }
+    if rest.is_empty() {
+        Ok(Some(bytes))
+    } else {
+        Ok(None)
+    }
+}
+
+fn digit(value: u8) -> u8
+    requires { value < 16 }
+    ensures { result ≡ hex_digit value }
+{
+    if value < 10 { 48 + value } else { 87 + value }
+}
+
+// Encodes a block of bytes.
+fn encode_block(bytes: &[u8], out: &mut [u8])
+    requires { length out.old ≡ 2 * length bytes.now }
+    ensures { out.new ≡ hex bytes.now }
+{
+    for (i, byte) in bytes.iter().enumerate() {
+        out[2 * i] = digit(*byte / 16);
+        out[2 * i + 1] = digit(*byte % 16);
+    }
+}
+
+fn encode_blocks(bytes: &[u8], out: &mut Bytes) -> Result<(), NoMemory>
+    ensures ok { OnOk result (out.new ≡ out.old ++ hex bytes.now) }
+    ensures err { OnErr result (take (length out.old) out.new ≡ out.old) }
+{
+    let mut block = [0; 2 * BLOCK];
+    let mut rest = bytes;
+    while !rest.is_empty() {
+        let n = rest.len().min(BLOCK);
+        let (front, more) = rest.split_at(n);
+        encode_block(front, &mut block[..2 * n]);
+        out.extend(&block[..2 * n])?;
+        rest = more;
+    }
+    Ok(())
+}
+
+/// Appends the text of bytes, two digits a byte in lower case. For want of memory nothing changes.
+pub fn encode(bytes: &[u8], out: &mut Bytes) -> Result<(), NoMemory>
+    ensures ok { OnOk result (out.new ≡ out.old ++ hex bytes.now) }
+    ensures err { OnErr result (out.new ≡ out.old) }
+{
+    let len = out.len();
+    let done = encode_blocks(bytes, out);
+    if done.is_err() {
+        out.truncate(len);
+    }
+    done
+}
