@@ -1,14 +1,14 @@
 -- Bytes that are read are the bytes that were written, and what was written is read again.
-use Rattle.std.proofs.Common.{◌≡◌, ◌⊎◌, ℕ, ◌+◌, ◌-◌, ◌*◌, ◌/◌, ◌%◌, ◌<◌, ◌≤◌, Bool, true, false, ◌&&◌, cond, leb, ltb, eqb, List, [], ◌∷◌, ◌++◌, length, take, drop, get_or, Option, Some, None, set, zero, suc, refl, sym, ap, subst, ◌∙◌, append_assoc, arith, inl, inr}
+use Rattle.std.proofs.Common.{◌≡◌, ◌⊎◌, ℕ, ◌+◌, ◌-◌, ◌*◌, ◌/◌, ◌%◌, ◌<◌, ◌≤◌, Bool, true, false, ◌&&◌, cond, leb, ltb, List, [], ◌∷◌, ◌++◌, length, take, drop, get_or, Option, Some, None, set, zero, suc, max, refl, sym, ap, subst, ◌∙◌, append_assoc, arith, inl, inr}
 use Rattle.std.specs.List.{AllByRecursion}
 use Rattle.std.proofs.lemmas.Bool.Decides.{nat_tests}
-use Rattle.std.proofs.lemmas.Bool.{and_parts, leb-true, lt-ltb, le-ltb}
+use Rattle.std.proofs.lemmas.Bool.{cases_lt, and_parts, leb-true, lt-ltb, le-ltb}
 use Rattle.std.proofs.lemmas.Option.{cond_some, same_Some}
 use Rattle.std.proofs.Math.Seq.{take-suc, take-suc-set, drop-cons}
-use Rattle.std.proofs.lemmas.List.{take_more_set, take-append-drop, take-append-le, length-take, append-nil}
+use Rattle.std.proofs.lemmas.List.{take_more_set, take-append-drop, take-append-le, length-take, append-nil, take_all}
 use Rattle.std.proofs.Math.ListN.{length-set}
 use Rattle.grammar.specs.Words.{is_blank, onto}
-use Rattle.grammar.specs.Hexadecimal.{hex_digit, hex, unhex_digit, pair_value, unhex}
+use Rattle.grammar.specs.Hexadecimal.{hex_digit, hex, unhex_digit, value_or, pair_value, unhex}
 use Rattle.grammar.proofs.WordLaws.{Plain, onto_some, prepend, prepend_none, prepend_prepend}
 
 abbrev pub AreBytes : List ℕ → Type 0
@@ -184,6 +184,41 @@ decode_stops text out i e lt len pair =
     ap unhex parts ∙ unhex_front (take (2 * i) text) next (take i out) e
     ∙ ap (λ (o : Option ℕ). prepend (take i out) (onto o (unhex more))) (sym pair)
 
+-- ---- two digits at a time
+
+pair_good : (o p : Option ℕ) → value_or o < 16 → value_or p < 16 → Some (16 * value_or o + value_or p) ≡ pair_value o p
+pair_good None p a b = absurd (omega arith)
+pair_good (Some high) None a b = absurd (omega arith)
+pair_good (Some high) (Some low) a b = refl
+
+pair_bad : (o p : Option ℕ) → ((d : ℕ) → o ≡ Some d → d < 16) → ((d : ℕ) → p ≡ Some d → d < 16) → 16 ≤ max (value_or o) (value_or p) → None ≡ pair_value o p
+pair_bad None p f g h = refl
+pair_bad (Some high) None f g h = refl
+pair_bad (Some high) (Some low) f g h = let a = f high refl in let b = g low refl in absurd (omega arith)
+
+-- what a loop over pairs of digits keeps: the bytes so far, while no byte was wrong
+pub record Decoded (text out : List ℕ) (i greatest : ℕ) : Type 0 where
+  pub good : greatest < 16 → unhex (take (2 * i) text) ≡ Some (take i out)
+  pub bad : 16 ≤ greatest → unhex text ≡ None
+
+pub decode_turn : (text out : List ℕ) (i greatest high low b now : ℕ) → Decoded text out i greatest → i < length out → length text ≡ 2 * length out
+    → high ≡ value_or (unhex_digit (get_or text (2 * i) 0)) → low ≡ value_or (unhex_digit (get_or text (2 * i + 1) 0)) → now ≡ max (max greatest high) low
+    → (high < 16 → low < 16 → b ≡ 16 * high + low) → Decoded text (set out i b) (i + 1) now
+decode_turn text out i greatest high low b now inv lt len e f m byte =
+    let o = unhex_digit (get_or text (2 * i) 0) in
+    let p = unhex_digit (get_or text (2 * i + 1) 0) in
+    record {
+      good = λ small.
+          let is : b ≡ 16 * high + low = byte (omega arith) (omega arith) in
+          let pair : Some b ≡ pair_value o p = ap Some (is ∙ omega (arith, e, f)) ∙ pair_good o p (omega arith) (omega arith) in
+          decode_step text out i b (inv.good (omega arith)) lt len pair;
+      bad = λ large.
+          elim (cases_lt greatest 16) [
+            | inl small ↦ decode_stops text out i (inv.good small) lt len (pair_bad o p (λ d h. (digit_takes (get_or text (2 * i) 0) d h).1) (λ d h. (digit_takes (get_or text (2 * i + 1) 0) d h).1) (omega arith))
+            | inr ge ↦ inv.bad ge
+          ];
+    }
+
 -- a block of a text, and what follows it
 pub block_read : (bytes front more rest block : List ℕ) (total : Option (List ℕ)) → rest ≡ front ++ more → unhex front ≡ Some block → prepend bytes (unhex rest) ≡ total → prepend (bytes ++ block) (unhex more) ≡ total
 block_read bytes front more rest block total parts e h =
@@ -222,3 +257,7 @@ begins_more old now more e =
 
 pub unhex_length : (text bs : List ℕ) → unhex text ≡ Some bs → length text ≡ 2 * length bs
 unhex_length text bs e = ap length (unhex_takes text bs e).0 ∙ length-hex bs
+
+pub decoded_all : (text out : List ℕ) (i greatest : ℕ) → Decoded text out i greatest → length out ≤ i → length text ≡ 2 * length out → greatest < 16 → unhex text ≡ Some out
+decoded_all text out i greatest inv le len small =
+    ap unhex (sym (take_all (2 * i) text (omega arith))) ∙ inv.good small ∙ ap Some (take_all i out le)

@@ -7,7 +7,7 @@ use Rattle.std.proofs.lemmas.List.{take_at, drop_at, take-append-drop, length-ap
 use Rattle.std.proofs.lemmas.List.Sums.{position_or_len_is}
 use Rattle.std.proofs.Math.Seq.{get_or-append_right}
 use Rattle.grammar.specs.Words.{is_blank, cut, spelled, word_at, field_at, keep, onto}
-use Rattle.grammar.proofs.Laws.{Lawful, Takes, ok_is, err_is, takes_both}
+use Rattle.grammar.proofs.Laws.{Lawful, Takes, ok_is, err_is}
 
 -- no blank in a text
 abbrev pub Plain : List ℕ → Type 0

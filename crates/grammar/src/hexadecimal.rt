@@ -1,7 +1,7 @@
 //! Bytes as text, two digits a byte in lower case.
 
 ghost use Rattle.std.specs.Prelude.{◌≡◌, ◌<◌, ◌*◌, ◌++◌, length, Some, None, OnOk, OnErr, IfOk, IsTrue, take, false};
-ghost use Rattle.grammar.specs.Hexadecimal.{hex, hex_digit, unhex, unhex_digit, pair_value};
+ghost use Rattle.grammar.specs.Hexadecimal.{hex, hex_digit, unhex, unhex_digit, value_or};
 
 use crate::{after, before};
 use cd_base::{Bytes, NoMemory};
@@ -10,26 +10,19 @@ use std::alloc::Global;
 // How many bytes are decoded or encoded at a time.
 const BLOCK: usize = 4096;
 
-fn digit_of(c: u8) -> Option<u8>
-    ensures { result ≡ unhex_digit c }
+// The value of a digit in lower case, or 255 where the byte is none. It has no branch, so that a block of digits is
+// decoded in lanes.
+fn value_of(c: u8) -> u8
+    ensures { result ≡ value_or (unhex_digit c) }
 {
-    match c {
-        b'0'..=b'9' => Some(c - 48),
-        b'a'..=b'f' => Some(c - 87),
-        _ => None,
-    }
-}
-
-fn byte_of(high: u8, low: u8) -> Option<u8>
-    ensures { result ≡ pair_value (unhex_digit high) (unhex_digit low) }
-{
-    let (Some(high), Some(low)) = (digit_of(high), digit_of(low)) else {
-        return None;
-    };
-    if high < 16 && low < 16 {
-        Some(16 * high + low)
+    let digit = c.wrapping_sub(48);
+    let letter = c.wrapping_sub(97);
+    if digit < 10 {
+        digit
+    } else if letter < 6 {
+        letter + 10
     } else {
-        None
+        255
     }
 }
 
@@ -39,13 +32,14 @@ fn decode_block(text: &[u8], out: &mut [u8]) -> bool
     ensures good { IsTrue result → unhex text.now ≡ Some out.new }
     ensures bad { result ≡ false → unhex text.now ≡ None }
 {
+    let mut greatest: u8 = 0;
     for i in 0..out.len() {
-        let Some(byte) = byte_of(text[2 * i], text[2 * i + 1]) else {
-            return false;
-        };
-        out[i] = byte;
+        let high = value_of(text[2 * i]);
+        let low = value_of(text[2 * i + 1]);
+        greatest = greatest.max(high).max(low);
+        out[i] = high.wrapping_mul(16).wrapping_add(low);
     }
-    true
+    greatest < 16
 }
 
 /// The bytes that a text spells, two digits a byte in lower case; None where the text is another.
