@@ -1,0 +1,203 @@
+//! The kinds of words that only scripts have.
+
+ghost use Rattle.std.specs.Prelude.{◌≡◌, IfOk, length, if◌then◌else◌, ◌==◌};
+ghost use Rattle.grammar.specs.Readers.{Gives};
+ghost use Rattle.grammar.specs.Words.{word_at, field_at};
+ghost use Rattle.session.specs.Reading.{literal, path, contents, clouds, command};
+
+use crate::limits::{FILE_LIMIT, PUT_LIMIT};
+use cd_base::{Bytes, CloudNo, Clouds, NoMemory, Shape, is_path};
+use grammar::{Stop, after, before, cut_word, decode, len_to, number_of};
+use std::alloc::Global;
+
+#[tactic(auto, unfolding(crate::specs::Reading::literal))]
+fn literal_of(word: &[u8], name: &[u8]) -> Option<()>
+    ensures { result ≡ literal name.now word.now }
+{
+    if word == name { Some(()) } else { None }
+}
+
+/// What follows one word, with which the line begins.
+#[tactic(auto, unfolding(grammar::specs::Words::word_at))]
+pub fn literal_word<'a>(line: &'a [u8], name: &[u8]) -> Result<&'a [u8], Stop>
+    ensures { Gives (λ x. (tt, x.now)) result (word_at (literal name.now) line.now) }
+{
+    let (word, rest) = cut_word(line);
+    match literal_of(word, name) {
+        Some(()) => Ok(rest),
+        None => Err(Stop::Left(line.len())),
+    }
+}
+
+/// What follows one word behind a blank.
+#[tactic(auto, unfolding(grammar::specs::Words::field_at))]
+pub fn literal_field<'a>(bytes: &'a [u8], name: &[u8]) -> Result<&'a [u8], Stop>
+    ensures { Gives (λ x. (tt, x.now)) result (field_at (literal name.now) bytes.now) }
+{
+    match bytes {
+        [b' ', bytes @ ..] => literal_word(bytes, name),
+        _ => Err(Stop::Left(bytes.len())),
+    }
+}
+
+#[tactic(auto, unfolding(crate::specs::Reading::path))]
+fn path_of(alloc: Global, word: &[u8]) -> Result<Option<Bytes>, NoMemory>
+    ensures { IfOk result (λ o. o ≡ path word.now) }
+{
+    if word.len() > 2048 {
+        return Ok(None);
+    }
+    match decode(alloc, word)? {
+        Some(bytes) => {
+            if is_path(bytes.as_slice()) {
+                Ok(Some(bytes))
+            } else {
+                Ok(None)
+            }
+        }
+        None => Ok(None),
+    }
+}
+
+/// A path behind a blank, and what follows it.
+#[tactic(auto, unfolding(grammar::specs::Words::field_at, grammar::specs::Words::word_at))]
+pub fn path_field(alloc: Global, bytes: &[u8]) -> Result<(Bytes, &[u8]), Stop>
+    ensures { Gives (λ x. (x.0, x.1.now)) result (field_at path bytes.now) }
+{
+    match bytes {
+        [b' ', bytes @ ..] => {
+            let (word, rest) = cut_word(bytes);
+            match path_of(alloc, word)? {
+                Some(path) => Ok((path, rest)),
+                None => Err(Stop::Left(bytes.len())),
+            }
+        }
+        _ => Err(Stop::Left(bytes.len())),
+    }
+}
+
+#[tactic(auto, unfolding(crate::specs::Reading::contents))]
+fn contents_of(alloc: Global, word: &[u8]) -> Result<Option<Bytes>, NoMemory>
+    ensures { IfOk result (λ o. o ≡ contents word.now) }
+{
+    if word == b"-".as_slice() {
+        return Ok(Some(Bytes::new(alloc)));
+    }
+    if word.len() > 2 * FILE_LIMIT {
+        return Ok(None);
+    }
+    match decode(alloc, word)? {
+        Some(bytes) => {
+            if bytes.is_empty() {
+                Ok(None)
+            } else {
+                Ok(Some(bytes))
+            }
+        }
+        None => Ok(None),
+    }
+}
+
+/// A file's bytes behind a blank, and what follows them.
+#[tactic(auto, unfolding(grammar::specs::Words::field_at, grammar::specs::Words::word_at))]
+pub fn contents_field(alloc: Global, bytes: &[u8]) -> Result<(Bytes, &[u8]), Stop>
+    ensures { Gives (λ x. (x.0, x.1.now)) result (field_at contents bytes.now) }
+{
+    match bytes {
+        [b' ', bytes @ ..] => {
+            let (word, rest) = cut_word(bytes);
+            match contents_of(alloc, word)? {
+                Some(contents) => Ok((contents, rest)),
+                None => Err(Stop::Left(bytes.len())),
+            }
+        }
+        _ => Err(Stop::Left(bytes.len())),
+    }
+}
+
+// The clouds, where there are k of them.
+fn full_of(clouds: Clouds, shape: Shape) -> Option<Clouds>
+    ensures { result ≡ (if length clouds == shape.k then Some clouds else None) }
+{
+    if clouds.len() == shape.k as usize {
+        Some(clouds)
+    } else {
+        None
+    }
+}
+
+// The clouds between commas. The first that doesn't rise ends the reading, so no more of them are kept than there are.
+fn clouds_of(alloc: Global, word: &[u8], shape: Shape) -> Result<Option<Clouds>, NoMemory>
+    ensures { IfOk result (λ o. o ≡ clouds shape word.now) }
+{
+    let mut out = Clouds::new(alloc);
+    let mut rest = word;
+    'texts: loop {
+        let end = len_to(rest, b',');
+        let Some(number) = number_of(before(rest, end), 0, shape.n as u64 - 1) else {
+            return Ok(None);
+        };
+        let cloud = CloudNo(number as u8);
+        if !out.can_push(cloud) {
+            return Ok(None);
+        }
+        out.push(cloud)?;
+        if end == rest.len() {
+            return Ok(full_of(out, shape));
+        }
+        rest = after(rest, end + 1);
+    }
+}
+
+/// k clouds behind a blank, and what follows them.
+#[tactic(auto, unfolding(grammar::specs::Words::field_at, grammar::specs::Words::word_at))]
+pub fn clouds_field(alloc: Global, bytes: &[u8], shape: Shape) -> Result<(Clouds, &[u8]), Stop>
+    ensures { Gives (λ x. (x.0, x.1.now)) result (field_at (clouds shape) bytes.now) }
+{
+    match bytes {
+        [b' ', bytes @ ..] => {
+            let (word, rest) = cut_word(bytes);
+            match clouds_of(alloc, word, shape)? {
+                Some(clouds) => Ok((clouds, rest)),
+                None => Err(Stop::Left(bytes.len())),
+            }
+        }
+        _ => Err(Stop::Left(bytes.len())),
+    }
+}
+
+/// The first word of a line.
+#[derive(Clone, Copy, Debug, PartialEq, Eq)]
+pub enum Command {
+    Put,
+    Get,
+}
+
+#[tactic(auto, unfolding(crate::specs::Reading::command))]
+fn command_of(word: &[u8], puts: u32) -> Option<Command>
+    ensures { result ≡ command puts word.now }
+{
+    if word == b"put".as_slice() {
+        if puts < PUT_LIMIT {
+            Some(Command::Put)
+        } else {
+            None
+        }
+    } else if word == b"get".as_slice() {
+        Some(Command::Get)
+    } else {
+        None
+    }
+}
+
+/// The first word of a line, where so many puts came before it, and what follows it.
+#[tactic(auto, unfolding(grammar::specs::Words::word_at))]
+pub fn first_word(line: &[u8], puts: u32) -> Result<(Command, &[u8]), Stop>
+    ensures { Gives (λ x. (x.0, x.1.now)) result (word_at (command puts) line.now) }
+{
+    let (word, rest) = cut_word(line);
+    match command_of(word, puts) {
+        Some(command) => Ok((command, rest)),
+        None => Err(Stop::Left(line.len())),
+    }
+}
