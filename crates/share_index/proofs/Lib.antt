@@ -1,0 +1,6 @@
+pub mod SumBelow
+pub mod Counting
+pub mod Owning
+pub mod Placing
+pub mod Indexing
+pub mod Scanning

@@ -1,0 +1,36 @@
+-- How a hash table keeps the placed shares. No public clause cites this module.
+use Rattle.std.specs.Prelude.{◌≡◌, ℕ, ◌<◌, ◌≤◌, ◌^◌, ◌==◌, List, [], ◌∷◌, Option, count_by}
+use Rattle.std.specs.FinMap.{FinMap, len, entries}
+use Rattle.slot_pool.specs.Pool.{Pool}
+use Rattle.pool_map.specs.declared.Entry.{Entry as Pair}
+use Rattle.pool_map.specs.Table.{contents}
+use Rattle.pool_map.specs.Shown.{shown}
+use Rattle.index_base.specs.declared.Accounts.TheVariants.{Shared}
+use Rattle.index_base.specs.Charges.{IsCharged}
+use Rattle.index_base.specs.Slots.{shown_slots}
+use Rattle.share_index.specs.declared.key.Kept.{Kept}
+use Rattle.share_index.specs.Order.{fp_cmp}
+use Rattle.share_index.specs.Counting.{room_of}
+
+pub record Places : Type 0 where
+  pub kept : FinMap fp_cmp Kept
+  pub slots : List (Option (List ℕ × Kept))
+  pub room : ℕ
+
+-- how many have no owner
+abbrev pub zeros : FinMap fp_cmp Kept → ℕ
+zeros m = count_by (λ e. e.1.owners == 0) (entries m)
+
+abbrev pub places_in : Pool (Pair (List ℕ) Kept) → Places
+places_in table = record {
+  kept = shown (λ (x : ℕ × Kept). x.1) (contents fp_cmp table);
+  slots = shown_slots (λ (k : Kept). k) table.slots;
+  room = room_of table.limits;
+}
+
+pub record IsPlacing (table : Pool (Pair (List ℕ) Kept)) (ownerless : ℕ) : Type 0 where
+  pub limits : table.limits ≡ room_of table.limits ∷ []
+  pub small : room_of table.limits < 2 ^ 32
+  pub charged : IsCharged (Shared (room_of table.limits)) (λ (k : List ℕ). 0) (contents fp_cmp table)
+  pub few : len (places_in table).kept ≤ room_of table.limits
+  pub counted : ownerless ≡ zeros (places_in table).kept

@@ -1,0 +1,55 @@
+//! What an index is asked by, and what it answers.
+
+use cd_base::{Fp, UserId};
+use pool_map::Key;
+
+/// Where a share lies among a cloud's shares: its first byte's place and its length in bytes.
+#[derive(Clone, Copy, Debug, PartialEq, Eq)]
+pub struct Place {
+    pub at: u64,
+    pub len: u32,
+}
+
+/// A user that owns a fingerprint, in the order of users and fingerprints.
+#[derive(Clone, Copy, Debug, PartialEq, Eq, PartialOrd, Ord)]
+pub struct Owner {
+    pub user: u32,
+    pub fp: [u8; 32],
+}
+
+impl Owner {
+    ghost use Rattle.std.specs.Prelude.{◌≡◌};
+    ghost use Rattle.share_index.specs.Order.{owner_of};
+
+    /// A user with a fingerprint.
+    pub fn of(user: UserId, fp: &Fp) -> Owner
+        ensures { result ≡ owner_of user.0 fp.now.0 }
+    {
+        Owner {
+            user: user.0,
+            fp: fp.0,
+        }
+    }
+}
+
+/// The word is the fingerprint's first 8 bytes, turned by the user's number.
+impl Key for Owner {
+    ghost use Rattle.share_index.specs.Order.{owner_word, owner_exact};
+
+    ghost word_of = { owner_word };
+
+    ghost exact = { owner_exact };
+
+    fn word(&self) -> u64 {
+        self.fp
+            .word()
+            .wrapping_add((self.user as u64).wrapping_mul(11400714819323198485))
+    }
+}
+
+/// A placed share, and how many users own it.
+#[derive(Clone, Copy, Debug, PartialEq, Eq)]
+pub struct Kept {
+    pub place: Place,
+    pub owners: u32,
+}
