@@ -1,0 +1,10 @@
+pub mod Append
+pub mod Begin
+pub mod Chain
+pub mod FrameRecord
+pub mod HeaderBytes
+pub mod Loaded
+pub mod Next
+pub mod Openings
+pub mod Taken
+pub mod Unique
