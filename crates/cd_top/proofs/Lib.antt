@@ -1,0 +1,6 @@
+pub mod Clouds
+pub mod LinesRead
+pub mod Named
+pub mod StepsMade
+pub mod Texts
+pub mod WordsRead

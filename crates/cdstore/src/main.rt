@@ -1,0 +1,66 @@
+//! cdstore keeps each file on n clouds so that any k of them give it back.
+//!
+//! The program is thin: it answers `--help` and `--version` by itself, and else hands its words, its standard input and
+//! its standard output to `cd_top::run`, and ends with the status that this answers.
+#![tactic(auto)]
+
+mod stream;
+
+use cd_top::run;
+use std::env;
+use std::io::ErrorKind;
+use std::process::ExitCode;
+use stream::{StdSink, StdSource};
+
+const HELP: &str = "\
+usage: cdstore replay DIR
+
+  replay DIR   run the session script on standard input, and write its transcript
+
+A script's first line is `cdstore 1 N K`: N clouds, of which any K give a file back. The others are
+  put USER PATH VERSION BYTES     store a version of a file; PATH and BYTES in hexadecimal
+  get USER PATH VERSION CLOUDS    read it back from K clouds, such as 1,2,3
+
+status: 0 done, 1 wrong words, 2 a wrong line, 3 input failed, 4 output failed, 6 out of memory
+";
+
+const VERSION: &str = "cdstore 0.1.0\n";
+
+// The words after the program's name, or the status where there are none: 1 where one isn't UTF-8, 6 for want of memory.
+fn words(rt: &HostRuntime) -> Result<Vec<String>, u8> {
+    let args = match env::args(rt) {
+        Ok(args) => args,
+        Err(error) => return Err(if error.kind() == ErrorKind::OutOfMemory {
+            6
+        } else {
+            1
+        }),
+    };
+    args.skip(1).collect(rt.alloc()).map_err(|_| 6)
+}
+
+fn main(rt: HostRuntime) -> ExitCode {
+    let words = match words(&rt) {
+        Ok(words) => words,
+        Err(status) => return ExitCode::from(status),
+    };
+    if let [word] = words.as_slice() {
+        if word.as_str() == "--help" {
+            return told(&rt, HELP);
+        }
+        if word.as_str() == "--version" {
+            return told(&rt, VERSION);
+        }
+    }
+    let mut source = StdSource::new(rt.stdin());
+    let mut sink = StdSink::new(rt.stdout());
+    ExitCode::from(run(rt.alloc(), &words, &mut source, &mut sink))
+}
+
+// Prints a text, and answers 0, or 4 where that failed.
+fn told(rt: &HostRuntime, text: &str) -> ExitCode {
+    match rt.print(text) {
+        Ok(()) => ExitCode::from(0),
+        Err(_) => ExitCode::from(4),
+    }
+}
