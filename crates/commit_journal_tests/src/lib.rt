@@ -1,0 +1,5 @@
+//! The journal over clouds in memory.
+#![tactic(auto)]
+
+#[cfg(test)]
+mod tests;
