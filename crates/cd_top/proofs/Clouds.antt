@@ -1,27 +1,29 @@
 -- What the clouds hold, and what is read from them.
-use Rattle.std.proofs.Common.{◌≡◌, ◌⊎◌, ◌<◌, ◌≤◌, ℕ, zero, suc, ◌+◌, ◌-◌, ◌*◌, ◌/◌, Bool, true, false, List, [], ◌∷◌, ◌++◌, length, take, drop, get_or, slice_index, Option, Some, None, refl, sym, ap, ◌∙◌, subst, arith, append-nil, length-drop, length-take-le, length-append, replicate, lit<, mod-lt, ◌&&◌, cond, take_all}
+use Rattle.std.proofs.Common.{◌≡◌, ◌⊎◌, ◌<◌, ◌≤◌, ℕ, zero, suc, ◌+◌, ◌-◌, ◌*◌, ◌/◌, Bool, true, false, List, [], ◌∷◌, ◌++◌, length, take, drop, get_or, slice_index, Option, Some, None, Result, Ok, Err, refl, sym, ap, ◌∙◌, subst, arith, append-nil, length-drop, length-take-le, length-append, replicate, lit<, mod-lt, ◌&&◌, cond, take_all}
 use Rattle.std.proofs.Math.Seq.{take-append_seam}
-use Rattle.std.proofs.lemmas.List.{ext_get_or, length-replicate, get_or_default}
-use Rattle.std.proofs.Math.Nat.{add-mul, one-mul, mul-le-mul_right, div-add-mod}
+use Rattle.std.proofs.lemmas.List.{ext_get_or, get_or_default}
+use Rattle.std.proofs.Math.Nat.{add-mul, one-mul, mul-le-mul_right}
 use Rattle.cd_base.specs.declared.shape.Shape.{Shape}
 use Rattle.cd_top.specs.Puts.{FilePut, is_under, put_under, puts_with}
-use Rattle.cd_top.specs.declared.first.StoredFile.{StoredFile}
-use Rattle.std.specs.Prelude.{find, MatchOption, IsTrue, IsFalse, IsSome, ◌==◌, slice_index_or, All}
+use Rattle.cd_top.specs.declared.stored.StoredFile.{StoredFile}
+use Rattle.std.specs.Prelude.{find, MatchOption, IsTrue, IsFalse, IsSome, IsErr, IfOk, ◌≢◌, ◌==◌, slice_index_or, All}
 use Rattle.std.specs.Str.{bytes_eq}
 use Rattle.cd_base.specs.declared.ids.UserId.{UserId}
+use Rattle.cd_base.specs.declared.ids.NoMemory.{NoMemory}
 use Rattle.cd_base.specs.declared.ids.Version.{Version}
 use Rattle.cd_top.specs.declared.first.TheConstants.{NUMBERS}
 use Rattle.cd_top.specs.declared.first.PutNews.{PutNews}
 use Rattle.cd_top.specs.declared.first.PutNews.TheVariants as answers
 use Rattle.cd_top.specs.News.{news_of, IsNewsOf, AreBytesOf}
-use Rattle.cd_top.specs.Held.{piece_len, padded, IsFileAt, AreFilesAt, HoldsAt, Holds, Held, is_named}
-use Rattle.reed_solomon.specs.Dispersal.{row, share_of, AreChoice}
-use Rattle.reed_solomon.proofs.Shares.{row_byte, length-row, shares_determine}
-use Rattle.reed_solomon.proofs.Recovery.{whole_rows, number_at}
-
--- a list that was written whole, as the vector holds it
-pub written_back : (new rest : List ℕ) (len : ℕ) → len ≡ length new → take len (new ++ rest) ≡ new
-written_back new rest len e = rw e (take-append_seam new rest)
+use Rattle.cd_top.specs.Held.{file_width, file_share, IsFileAt, AreFilesAt, HoldsAt, Holds, Held, is_named}
+use Rattle.cd_base.specs.Lengths.{share_len_of}
+use Rattle.caont_rs.specs.Opening.{opened}
+use Rattle.caont_rs.specs.declared.opening.RecoverErr.{RecoverErr}
+use Rattle.caont_rs.specs.declared.opening.RecoverErr.TheVariants as errors
+use Rattle.caont_rs.proofs.Opened.{gives_back}
+use Rattle.reed_solomon.specs.Dispersal.{row, AreChoice}
+use Rattle.reed_solomon.proofs.Shares.{row_byte}
+use Rattle.reed_solomon.proofs.Recovery.{number_at}
 
 -- a row that lies within has the width
 row_len : (w j : ℕ) (xs : List ℕ) → (j + 1) * w ≤ length xs → length (row w j xs) ≡ w
@@ -36,86 +38,76 @@ same_row w a b xs ys la lb same =
     ext_get_or 0 (row w a xs) (row w b ys) (row_len w a xs la ∙ sym (row_len w b ys lb))
     (λ c l. let lt : c < w = omega (arith, row_len w a xs la) in row_byte w a c xs lt ∙ same c lt ∙ sym (row_byte w b c ys lt))
 
--- what is decoded from the shares of pieces are the pieces
-pub decoded_whole : (s : Shape) (w : ℕ) (points shares given out original : List ℕ) → AreChoice s points → ((i : ℕ) → slice_index out i < 256) → ((i : ℕ) → slice_index original i < 256) →
-    length original ≡ s.k * w → length given ≡ s.k * w → length out ≡ length given →
-    ((t : ℕ) → t < length points → (slice_index points t + 1) * w ≤ length shares) →
-    ((t c : ℕ) → t < length points → c < w → slice_index given (t * w + c) ≡ slice_index shares (slice_index points t * w + c)) →
-    ((t : ℕ) → t < s.k → row w (slice_index points t) shares ≡ share_of s original (slice_index points t)) →
-    ((t : ℕ) → t < s.k → share_of s out (slice_index points t) ≡ row (length given / s.k) t given) → out ≡ original
-decoded_whole s w points shares given out original choice bytes_out bytes long long_given long_out within gathered rows decoded =
-    let pos : 0 < s.k = omega (arith, s.several) in
-    let whole = whole_rows s.k w (length out) pos (long_out ∙ long_given) in
-    let width = (whole_rows s.k w (length given) pos long_given).0 in
-    shares_determine s points out original choice (long_out ∙ long_given ∙ sym long) whole.1 bytes_out bytes
-    (λ t lt.
-    let lt' : t < length points = omega (arith, choice.count) in
-    let fits : (t + 1) * w ≤ s.k * w = mul-le-mul_right w (omega arith) in
-    let la : (t + 1) * w ≤ length given = omega arith in
-    decoded t lt ∙ ap (λ (z : ℕ). row z t given) width
-    ∙ same_row w t (slice_index points t) given shares la (within t lt') (λ c l. gathered t c lt' l)
-    ∙ rows t lt)
+-- a list that was written whole, as the vector holds it
+written_back : (new rest : List ℕ) (len : ℕ) → len ≡ length new → take len (new ++ rest) ≡ new
+written_back new rest len e = rw e (take-append_seam new rest)
 
--- the shares that were written into a vector
-pub shares_long : (new items : List ℕ) (len total : ℕ) → len ≡ length items → length new ≡ length items → len ≡ total → length (take len (new ++ drop (length new) items)) ≡ total
-shares_long new items len total vec_long same count = ap length (written_back new (drop (length new) items) len (vec_long ∙ sym same)) ∙ same ∙ sym vec_long ∙ count
+-- the shares that the points name, one after another
+abbrev pub Gathered : ℕ → List ℕ → List ℕ → List ℕ → Type 0
+Gathered w points shares given = (t c : ℕ) → t < length points → c < w → slice_index given (t * w + c) ≡ slice_index shares (slice_index points t * w + c)
 
-pub share_rows : (s : Shape) (new items pieces text : List ℕ) (len width : ℕ) → len ≡ length items → length new ≡ length items → pieces ≡ text →
-    ((j : ℕ) → j < s.n → row width j new ≡ share_of s pieces j) → (j : ℕ) → j < s.n → row width j (take len (new ++ drop (length new) items)) ≡ share_of s text j
-share_rows s new items pieces text len width vec_long same is rows j lt =
-    ap (row width j) (written_back new (drop (length new) items) len (vec_long ∙ sym same)) ∙ rows j lt ∙ ap (λ p. share_of s p j) is
+-- what is opened of a file's shares are its bytes
+pub opened_file : (s : Shape) (w : ℕ) (points given : List ℕ) (file : StoredFile) (put : FilePut) → AreChoice s points → IsFileAt s points file put → 0 < file.len → w ≡ share_len_of s.k file.len →
+    ((i : ℕ) → slice_index given i < 256) → length given ≡ s.k * w → ((t : ℕ) → t < length points → (slice_index points t + 1) * w ≤ length file.shares) → Gathered w points file.shares given →
+    opened s file.len points given ≡ Ok put.bytes
+opened_file s w points given file put choice at some width bytes long within gathered = by_bytes put.bytes at.len_is at.are_bytes at.shares_are
+  where
+    by_bytes : (text : List ℕ) → file.len ≡ length text → ((i : ℕ) → slice_index text i < 256) →
+        ((t : ℕ) → t < length points → row (file_width s.k file.len) (slice_index points t) file.shares ≡ file_share s (slice_index points t) text) → opened s file.len points given ≡ Ok text
+    by_bytes [] len are rows = absurd (omega arith)
+    by_bytes (b ∷ text) len are rows =
+        let w_is : w ≡ share_len_of s.k (length (b ∷ text)) = width ∙ ap (share_len_of s.k) len in
+        ap (λ z. opened s z points given) len ∙
+        gives_back s (b ∷ text) points given choice are bytes (long ∙ ap (λ z. s.k * z) w_is)
+        (λ t lt.
+        let lt' : t < length points = omega (arith, choice.count) in
+        let fits : (t + 1) * w ≤ s.k * w = mul-le-mul_right w (omega arith) in
+        let la : (t + 1) * w ≤ length given = omega arith in
+        ap (λ z. row z t given) (sym w_is) ∙ same_row w t (slice_index points t) given file.shares la (within t lt') (λ c l. gathered t c lt' l)
+        ∙ ap (λ z. row z (slice_index points t) file.shares) (w_is ∙ ap (file_width s.k) (sym len)) ∙ rows t lt')
 
--- what the code makes of pieces of one width
-pub rows_of_width : (s t : Shape) (width : ℕ) (pieces shares : List ℕ) → t ≡ s → length pieces ≡ s.k * width →
-    ((j : ℕ) → j < t.n → row (length pieces / t.k) j shares ≡ share_of t pieces j) → (j : ℕ) → j < s.n → row width j shares ≡ share_of s pieces j
-rows_of_width s t width pieces shares same long rows j lt =
-    let rows' = subst (λ (u : Shape). (i : ℕ) → i < u.n → row (length pieces / u.k) i shares ≡ share_of u pieces i) same rows in
-    let pos : 0 < s.k = omega (arith, s.several) in
-    ap (λ z. row z j shares) (sym (whole_rows s.k width (length pieces) pos long).0) ∙ rows' j lt
+-- what is opened of the gathered shares, as the vector holds them
+pub opened_read : (s : Shape) (w : ℕ) (points shares target items read : List ℕ) (len : ℕ) (file : StoredFile) (put : FilePut) → AreChoice s points → IsFileAt s points file put → (file.len ≡ 0 → ⊥) → w ≡ share_len_of s.k file.len →
+    shares ≡ file.shares → length file.shares ≡ s.n * w → ((i : ℕ) → slice_index target i < 256) → Gathered w points shares target → len ≡ length items → len ≡ s.k * w → length target ≡ length items →
+    read ≡ take len (target ++ drop (length target) items) → opened s file.len points read ≡ Ok put.bytes
+opened_read s w points shares target items read len file put choice at some width shares_are long bytes gathered vec_long vec_len target_len is =
+    let read_is : read ≡ target = is ∙ written_back target (drop (length target) items) len (vec_long ∙ sym target_len) in
+    let pos : 0 < file.len = omega (arith, some) in
+    ap (opened s file.len points) read_is ∙
+    opened_file s w points target file put choice at pos width bytes (target_len ∙ sym vec_long ∙ vec_len)
+    (λ t lt. let lt' : t < s.k = omega (arith, choice.count) in let in_n = choice.within t lt' in let le : (slice_index points t + 1) * w ≤ s.n * w = mul-le-mul_right w (omega arith) in omega arith)
+    (λ t c lt l. gathered t c lt l ∙ ap (λ z. slice_index z (slice_index points t * w + c)) shares_are)
 
--- the bytes that were read into a vector, cut to the file's length
-pub bytes_read : (s : Shape) (width len vec_len vec_len' : ℕ) (new items text bytes : List ℕ) → vec_len ≡ length items → length new ≡ length items → new ≡ text → take (length bytes) text ≡ bytes → len ≡ length bytes →
-    take len (take vec_len (new ++ drop (length new) items)) ≡ bytes
-bytes_read s width len vec_len vec_len' new items text bytes vec_long same is front count =
-    ap (take len) (written_back new (drop (length new) items) vec_len (vec_long ∙ sym same) ∙ is) ∙ ap (λ n. take n text) count ∙ front
+-- an opening gives one text
+abbrev text_of : Result (List ℕ) RecoverErr → List ℕ
+text_of (Ok text) = text
+text_of (Err error) = []
 
--- zeros behind bytes are bytes
-behind_zeros : (bytes : List ℕ) (n : ℕ) → ((i : ℕ) → slice_index bytes i < 256) → (i : ℕ) → slice_index (bytes ++ replicate n 0) i < 256
-behind_zeros [] zero are i = are i
-behind_zeros [] (suc n) are zero = lit< tt
-behind_zeros [] (suc n) are (suc i) = behind_zeros [] n are i
-behind_zeros (b ∷ bytes) n are zero = are zero
-behind_zeros (b ∷ bytes) n are (suc i) = behind_zeros bytes n (λ j. are (suc j)) i
+pub opened_text : (s : Shape) (len : ℕ) (points given text bytes read : List ℕ) → opened s len points given ≡ Ok bytes → opened s len points given ≡ Ok text → read ≡ [] ++ text → Some read ≡ Some bytes
+opened_text s len points given text bytes read a b appended = ap Some (appended ∙ ap text_of (sym b ∙ a))
 
--- the padded bytes begin with the bytes
-pub front_of_padded : (k : ℕ) (bytes : List ℕ) → take (length bytes) (padded k bytes) ≡ bytes
-unfolding padded
-front_of_padded k bytes = take-append_seam bytes _
+-- a refusal comes only for want of memory
+pub never_refused : (s : Shape) (len : ℕ) (points given bytes : List ℕ) (error : RecoverErr) (result : Result (Option (List ℕ)) NoMemory) → opened s len points given ≡ Ok bytes →
+    (error ≢ errors.NoMemory → opened s len points given ≡ Err error) → (error ≡ errors.NoMemory → IsErr result) → IfOk result (λ read. read ≡ Some bytes)
+never_refused s len points given bytes (errors.BadSecret named found) result opens refused unread = let e = sym opens ∙ refused (λ same. cc) in absurd cc
+never_refused s len points given bytes (errors.BadPad at byte) result opens refused unread = let e = sym opens ∙ refused (λ same. cc) in absurd cc
+never_refused s len points given bytes errors.NoMemory (Ok read) opens refused unread = let e = unread refl in absurd cc
+never_refused s len points given bytes errors.NoMemory (Err e) opens refused unread = tt
 
-pub padded_bytes : (k : ℕ) (bytes : List ℕ) → ((i : ℕ) → slice_index bytes i < 256) → (i : ℕ) → slice_index (padded k bytes) i < 256
-unfolding padded
-padded_bytes k bytes are i = behind_zeros bytes _ are i
+-- a file without bytes
+pub empty_file : (s : Shape) (points : List ℕ) (file : StoredFile) (put : FilePut) → IsFileAt s points file put → file.len ≡ 0 → [] ≡ put.bytes
+empty_file s points file put at none = by_bytes put.bytes at.len_is
+  where
+    by_bytes : (text : List ℕ) → file.len ≡ length text → [] ≡ text
+    by_bytes [] len = refl
+    by_bytes (b ∷ text) len = absurd (omega arith)
 
-pub padded_long : (k : ℕ) (bytes : List ℕ) → 0 < k → length (padded k bytes) ≡ k * piece_len k (length bytes)
-unfolding padded
-padded_long k bytes pos =
-    let enough : length bytes ≤ k * piece_len k (length bytes) = omega (arith, div-add-mod (length bytes + (k - 1)) k, mod-lt (length bytes + (k - 1)) pos) in
-    omega (arith, length-append bytes (replicate (k * piece_len k (length bytes) - length bytes) 0), length-replicate {A = ℕ} (k * piece_len k (length bytes) - length bytes) 0)
-
--- the rows that are read are those of the padded bytes
-pub rows_at : (s : Shape) (width total : ℕ) (points : List ℕ) (file : StoredFile) (put : FilePut) → total ≡ length file.shares.items → width ≡ total / s.n → (at : IsFileAt s points file put) → length points ≡ s.k →
-    (t : ℕ) → t < s.k → row width (slice_index points t) file.shares.items ≡ share_of s (padded s.k put.bytes) (slice_index points t)
-rows_at s width total points file put count is at chosen t lt =
-    let pos : 0 < s.n = omega (arith, s.spare) in
-    let w : width ≡ piece_len s.k file.len = is ∙ ap (λ z. z / s.n) count ∙ (whole_rows s.n (piece_len s.k file.len) (length file.shares.items) pos at.long).0 in
-    let lt' : t < length points = omega arith in
-    ap (λ z. row z (slice_index points t) file.shares.items) w ∙ at.shares_are t lt'
-
--- the width of the shares that are read
-pub width_read : (s : Shape) (total : ℕ) (points : List ℕ) (file : StoredFile) (put : FilePut) → total ≡ length file.shares.items → (at : IsFileAt s points file put) → piece_len s.k (length put.bytes) ≡ total / s.n
-width_read s total points file put count at =
-    let pos : 0 < s.n = omega (arith, s.spare) in
-    ap (piece_len s.k) (sym at.len_is) ∙ sym (whole_rows s.n (piece_len s.k file.len) (length file.shares.items) pos at.long).0 ∙ ap (λ z. z / s.n) (sym count)
+pub file_long : (s : Shape) (points : List ℕ) (file : StoredFile) (put : FilePut) (w : ℕ) → IsFileAt s points file put → 0 < file.len → w ≡ share_len_of s.k file.len → length file.shares ≡ s.n * w
+file_long s points file put w at some width = at.long ∙ ap (λ z. s.n * z) (by_len file.len some ∙ sym width)
+  where
+    by_len : (len : ℕ) → 0 < len → file_width s.k len ≡ share_len_of s.k len
+    by_len zero pos = absurd (omega arith)
+    by_len (suc len) pos = refl
 
 -- ---- the first k clouds
 
@@ -184,12 +176,18 @@ none_found s clouds None None none found = refl
 none_found s clouds None (Some put) none found = absurd found
 none_found s clouds (Some file) put none found = absurd cc
 
-pub read_found : (s : Shape) (clouds read : List ℕ) (stored : Option StoredFile) (file : StoredFile) (put : Option FilePut) → stored ≡ Some file → Found s clouds stored put →
-    ((p : FilePut) → IsFileAt s clouds file p → read ≡ p.bytes) → AreBytesOf put (Some read)
-read_found s clouds read None file put is found reads = absurd cc
-read_found s clouds read (Some other) file None is found reads = absurd found
-read_found s clouds read (Some other) file (Some put) is found reads =
-    let same : other ≡ file = cc in (reads put (subst (λ f. IsFileAt s clouds f put) same found), refl)
+-- what was read is what the put says, where it is what any such put says
+bytes_of_found : (s : Shape) (clouds : List ℕ) (read : Option (List ℕ)) (file : StoredFile) (put : FilePut) → IsFileAt s clouds file put → ((p : FilePut) → IsFileAt s clouds file p → read ≡ Some p.bytes) → AreBytesOf (Some put) read
+bytes_of_found s clouds None file put at reads = let e = reads put at in absurd cc
+bytes_of_found s clouds (Some read) file put at reads = (let e = reads put at in cc, refl)
+
+pub read_found : (s : Shape) (clouds : List ℕ) (result : Result (Option (List ℕ)) NoMemory) (stored : Option StoredFile) (file : StoredFile) (put : Option FilePut) → stored ≡ Some file → Found s clouds stored put →
+    ((p : FilePut) → IsFileAt s clouds file p → IfOk result (λ read. read ≡ Some p.bytes)) → IfOk result (λ read. AreBytesOf put read)
+read_found s clouds result None file put is found reads = absurd cc
+read_found s clouds result (Some other) file None is found reads = absurd found
+read_found s clouds (Err e) (Some other) file (Some put) is found reads = tt
+read_found s clouds (Ok read) (Some other) file (Some put) is found reads =
+    let same : other ≡ file = cc in bytes_of_found s clouds read file put (subst (λ f. IsFileAt s clouds f put) same found) reads
 
 pub news_found : (s : Shape) (clouds bytes : List ℕ) (stored : Option StoredFile) (file : StoredFile) (put : Option FilePut) (same : Bool) → stored ≡ Some file → Found s clouds stored put →
     ((p : FilePut) → IsFileAt s clouds file p → same ≡ bytes_eq p.bytes bytes) → IsNewsOf put bytes (Some (cond same answers.Stored answers.Exists))
@@ -224,16 +222,16 @@ known_at s files read puts user path bytes version known holds same tests =
     tests puts (subst (λ l. AreFilesAt s (take s.k NUMBERS) l puts) (sym same) (holds (take s.k NUMBERS) (first_within s)).files_are)
 
 pub file_at : (s : Shape) (clouds : List ℕ) (file : StoredFile) (put : FilePut) → file.user ≡ put.user → file.path.items ≡ put.path → file.version ≡ put.version → ((i : ℕ) → slice_index put.bytes i < 256) →
-    file.len ≡ length put.bytes → length file.shares.items ≡ s.n * piece_len s.k (length put.bytes) →
-    ((cloud : ℕ) → cloud < s.n → row (piece_len s.k (length put.bytes)) cloud file.shares.items ≡ share_of s (padded s.k put.bytes) cloud) → All (λ cloud. cloud < s.n) clouds → IsFileAt s clouds file put
+    file.len ≡ length put.bytes → length file.shares ≡ s.n * file_width s.k (length put.bytes) →
+    ((cloud : ℕ) → cloud < s.n → row (file_width s.k (length put.bytes)) cloud file.shares ≡ file_share s cloud put.bytes) → All (λ cloud. cloud < s.n) clouds → IsFileAt s clouds file put
 file_at s clouds file put user path version bytes len long rows within = record {
   user_is = user;
   path_is = path;
   version_is = version;
   are_bytes = bytes;
   len_is = len;
-  long = long ∙ ap (λ z. s.n * piece_len s.k z) (sym len);
-  shares_are = λ t lt. ap (λ z. row (piece_len s.k z) (slice_index clouds t) file.shares.items) len ∙ rows (slice_index clouds t) (within t 0 lt);
+  long = long ∙ ap (λ z. s.n * file_width s.k z) (sym len);
+  shares_are = λ t lt. ap (λ z. row (file_width s.k z) (slice_index clouds t) file.shares) len ∙ rows (slice_index clouds t) (within t 0 lt);
 }
 
 pub news_none : (found : Option FilePut) (bytes : List ℕ) → found ≡ None → answers.Stored ≡ news_of found bytes

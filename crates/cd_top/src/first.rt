@@ -1,30 +1,19 @@
 //! The clouds of the first sessions: in memory, and each version of a file whole.
 
-ghost use Rattle.std.specs.Prelude.{◌≡◌, ◌≤◌, ◌<◌, ◌+◌, ◌*◌, ◌/◌, ◌++◌, ℕ, List, length, find, replicate, slice_index, IfOk, IfSome, take, option_map};
+ghost use Rattle.std.specs.Prelude.{◌≡◌, ◌≤◌, ◌<◌, ◌+◌, ◌*◌, ℕ, List, length, find, slice_index, take, IfOk, IsErr, Some};
 ghost use Rattle.std.specs.Option.{option_copied};
 ghost use Rattle.std.specs.Str.{bytes_eq};
 ghost use Rattle.session.specs.Spelling.{file_limit, AreClouds};
-ghost use Rattle.reed_solomon.specs.Dispersal.{AreChoice, row, share_of};
-ghost use Rattle.cd_top.specs.Held.{AreFilesAt, piece_len, padded, IsFileAt, is_named};
+ghost use Rattle.reed_solomon.specs.Dispersal.{AreChoice, row};
+ghost use Rattle.cd_top.specs.Held.{AreFilesAt, file_width, file_share, IsFileAt, is_named};
 ghost use Rattle.cd_top.specs.Puts.{FilePut, put_under};
 ghost use Rattle.cd_top.specs.News.{IsNewsOf, AreBytesOf};
 
-use cd_base::{Bytes, Clouds, NoMemory, Shape, UserId, Version};
-use reed_solomon::Coder;
+use crate::stored::StoredFile;
+use caont_rs::{RecoverErr, disperse, recover};
+use cd_base::{Bytes, Clouds, NoMemory, Shape, UserId, Version, share_len};
 use std::alloc::Global;
 use std::marker::Model;
-
-/// A version of a file as the clouds hold it.
-#[derive(Debug, Drop)]
-pub struct StoredFile {
-    user: UserId,
-    path: Vec<u8>,
-    version: Version,
-    /// The length of the file, in bytes.
-    len: usize,
-    /// The n shares, one after another: share c lies at cloud c.
-    shares: Vec<u8>,
-}
 
 // Whether the file is of this user, path and version.
 fn is_under(file: &StoredFile, user: UserId, path: &[u8], version: Version) -> bool
@@ -56,52 +45,16 @@ fn copy_of(alloc: Global, bytes: &[u8]) -> Result<Vec<u8>, NoMemory>
     Ok(copy)
 }
 
-// The length of a piece: the least of which k hold so many bytes.
-fn width_of(k: u8, len: usize) -> usize
-    requires some { 0 < k }
-    requires few { len ≤ file_limit }
-    ensures is { result ≡ piece_len k len }
-    ensures enough { len ≤ k * result }
-    ensures few { result ≤ len }
-{
-    let k = k as usize;
-    (len + (k - 1)) / k
-}
-
-// The bytes with the fewest zeros behind them that make k pieces of one length.
-#[tactic(auto, unfolding(crate::specs::Held::padded))]
-fn pad(alloc: Global, k: u8, bytes: &[u8]) -> Result<Vec<u8>, NoMemory>
-    requires some { 0 < k }
-    requires few { length bytes.now ≤ file_limit }
-    ensures padded { IfOk result (λ pieces. pieces.items ≡ padded k bytes.now) }
-    ensures len { IfOk result (λ pieces. length pieces.items ≡ k * piece_len k (length bytes.now)) }
-{
-    let width = width_of(k, bytes.len());
-    let mut pieces = Vec::new(alloc);
-    pieces.extend_from_slice(bytes)?;
-    pieces.resize(k as usize * width, 0)?;
-    Ok(pieces)
-}
-
-// Writes the shares of pieces of one width.
-fn encode_rows(shape: Shape, width: usize, pieces: &[u8], shares: &mut [u8])
-    requires whole { length pieces.now ≡ shape.k * width }
-    requires room { length shares.old ≡ shape.n * width }
-    ensures { (cloud : ℕ) → cloud < shape.n → row width cloud shares.new ≡ share_of shape pieces.now cloud }
-{
-    Coder::of(shape).encode(pieces, shares);
-}
-
-// The shares of a file.
-fn shares_of(alloc: Global, shape: Shape, bytes: &[u8]) -> Result<Vec<u8>, NoMemory>
+// The shares of a file, one after another.
+fn shares_of(alloc: Global, shape: Shape, bytes: &[u8]) -> Result<Bytes, NoMemory>
     requires { length bytes.now ≤ file_limit }
-    ensures len { IfOk result (λ shares. length shares.items ≡ shape.n * piece_len shape.k (length bytes.now)) }
-    ensures rows { IfOk result (λ shares. (cloud : ℕ) → cloud < shape.n → row (piece_len shape.k (length bytes.now)) cloud shares.items ≡ share_of shape (padded shape.k bytes.now) cloud) }
+    ensures len { IfOk result (λ shares. length shares ≡ shape.n * file_width shape.k (length bytes.now)) }
+    ensures rows { IfOk result (λ shares. (cloud : ℕ) → cloud < shape.n → row (file_width shape.k (length bytes.now)) cloud shares ≡ file_share shape cloud bytes.now) }
 {
-    let width = width_of(shape.k, bytes.len());
-    let pieces = pad(alloc, shape.k, bytes)?;
-    let mut shares = vec![in alloc; 0; shape.n as usize * width]?;
-    encode_rows(shape, width, &pieces, &mut shares);
+    let mut shares = Bytes::new(alloc);
+    if !bytes.is_empty() {
+        disperse(shape, bytes, &mut shares)?;
+    }
     Ok(shares)
 }
 
@@ -119,7 +72,7 @@ fn points_of(alloc: Global, clouds: &Clouds) -> Result<Vec<u8>, NoMemory>
 }
 
 // Writes the shares that the points name, one after another.
-fn gather(points: &[u8], shares: &[u8], width: usize, target: &mut [u8])
+fn copy_named(points: &[u8], shares: &[u8], width: usize, target: &mut [u8])
     requires room { length target.old ≡ length points.now * width }
     requires within { (t : ℕ) → t < length points.now → (slice_index points.now t + 1) * width ≤ length shares.now }
     ensures { (t c : ℕ) → t < length points.now → c < width → slice_index target.new (t * width + c) ≡ slice_index shares.now (slice_index points.now t * width + c) }
@@ -131,42 +84,50 @@ fn gather(points: &[u8], shares: &[u8], width: usize, target: &mut [u8])
     }
 }
 
-// Writes the pieces whose shares the points name. `given` is room for those shares.
-fn decode_at(
-    shape: Shape,
-    points: &[u8],
-    shares: &[u8],
-    width: usize,
-    given: &mut [u8],
-    pieces: &mut [u8],
-)
-    requires choice { AreChoice shape points.now }
+// Writes the shares that the points name, and says that what stands then are bytes.
+fn gather(points: &[u8], shares: &[u8], width: usize, target: &mut [u8])
+    requires room { length target.old ≡ length points.now * width }
     requires within { (t : ℕ) → t < length points.now → (slice_index points.now t + 1) * width ≤ length shares.now }
-    requires given { length given.old ≡ shape.k * width }
-    requires pieces { length pieces.old ≡ shape.k * width }
-    ensures { (original : List ℕ) → ((i : ℕ) → slice_index original i < 256) → length original ≡ shape.k * width
-        → ((t : ℕ) → t < shape.k → row width (slice_index points.now t) shares.now ≡ share_of shape original (slice_index points.now t)) → pieces.new ≡ original }
+    ensures bytes { (i : ℕ) → slice_index target.new i < 256 }
+    ensures same { (t c : ℕ) → t < length points.now → c < width → slice_index target.new (t * width + c) ≡ slice_index shares.now (slice_index points.now t * width + c) }
 {
-    gather(points, shares, width, given);
-    Coder::of(shape).decode(points, given, pieces);
+    copy_named(points, shares, width, target);
 }
 
-// The bytes of a file, from the shares that the points name.
+// What stands for a file that doesn't open: None, or want of memory.
+fn unread(error: RecoverErr) -> Result<Option<Bytes>, NoMemory>
+    ensures { error ≡ RecoverErr.NoMemory → IsErr result }
+{
+    match error {
+        RecoverErr::NoMemory => Err(NoMemory),
+        _ => Ok(None),
+    }
+}
+
+// The bytes of a file, from the shares that the points name; None where these are no file's shares.
 fn bytes_at(
     alloc: Global,
     shape: Shape,
     file: &StoredFile,
     points: &[u8],
-) -> Result<Vec<u8>, NoMemory>
+) -> Result<Option<Bytes>, NoMemory>
     requires { AreChoice shape points.now }
-    ensures { (put : FilePut) → IsFileAt shape points.now file.now put → IfOk result (λ bytes. bytes.items ≡ put.bytes) }
+    ensures { (put : FilePut) → IsFileAt shape points.now file.now put → IfOk result (λ read. read ≡ Some put.bytes) }
 {
-    let width = file.shares.len() / shape.n as usize;
+    let mut bytes = Bytes::new(alloc);
+    if file.len == 0 {
+        return Ok(Some(bytes));
+    }
+    let width = share_len(shape, file.len) as usize;
+    if file.shares.len() != shape.n as usize * width {
+        return Ok(None);
+    }
     let mut given = vec![in alloc; 0; shape.k as usize * width]?;
-    let mut pieces = vec![in alloc; 0; shape.k as usize * width]?;
-    decode_at(shape, points, &file.shares, width, &mut given, &mut pieces);
-    pieces.truncate(file.len);
-    Ok(pieces)
+    gather(points, file.shares.as_slice(), width, &mut given);
+    match recover(shape, file.len, points, &given, &mut bytes) {
+        Ok(()) => Ok(Some(bytes)),
+        Err(error) => unread(error),
+    }
 }
 
 /// What a put answers.
@@ -185,8 +146,10 @@ fn has_bytes(alloc: Global, shape: Shape, file: &StoredFile, bytes: &[u8]) -> Re
     ensures { (put : FilePut) → IsFileAt shape (take shape.k NUMBERS) file.now put → IfOk result (λ same. same ≡ bytes_eq put.bytes bytes.now) }
 {
     let numbers = NUMBERS;
-    let read = bytes_at(alloc, shape, file, &numbers[..shape.k as usize])?;
-    Ok(read.as_slice() == bytes)
+    match bytes_at(alloc, shape, file, &numbers[..shape.k as usize])? {
+        Some(read) => Ok(read.as_slice() == bytes),
+        None => Ok(false),
+    }
 }
 
 // What a put of these bytes answers where there is a file under its name.
@@ -220,15 +183,15 @@ fn bytes_under(
     path: &[u8],
     version: Version,
     clouds: &Clouds,
-) -> Result<Option<Vec<u8>>, NoMemory>
+) -> Result<Option<Bytes>, NoMemory>
     requires { AreClouds shape clouds.now }
-    ensures { (puts : List FilePut) → AreFilesAt shape clouds.now files.now puts → IfOk result (λ read. AreBytesOf (put_under user path.now version puts) (option_map (λ v. v.items) read)) }
+    ensures { (puts : List FilePut) → AreFilesAt shape clouds.now files.now puts → IfOk result (λ read. AreBytesOf (put_under user path.now version puts) read) }
 {
     let Some(file) = file_under(files, user, path, version) else {
         return Ok(None);
     };
     let points = points_of(alloc, clouds)?;
-    Ok(Some(bytes_at(alloc, shape, file, &points)?))
+    bytes_at(alloc, shape, file, &points)
 }
 
 /// n clouds in memory. Contracts see the versions of files that they hold.
@@ -273,7 +236,7 @@ impl Plain {
 
     /// Puts a version of a file of at most 4,096 bytes on all clouds. `Exists` comes exactly where this user put this
     /// path and version before with other bytes, and changes nothing. Else each cloud has the version once: its length,
-    /// and the cloud's share of the bytes with the fewest zeros behind them that make k pieces of one length.
+    /// and the cloud's share of the whole file by convergent dispersal, none of an empty file.
     pub fn put(
         &mut self,
         user: UserId,
@@ -296,7 +259,7 @@ impl Plain {
             user,
             path: copy_of(alloc, path)?,
             version,
-            len: bytes.len(),
+            len: bytes.len() as u32,
             shares: shares_of(alloc, self.shape, bytes)?,
         };
         self.files.push(file)?;
@@ -321,7 +284,7 @@ impl Plain {
         match bytes_under(alloc, self.shape, &self.files, user, path, version, clouds)? {
             None => Ok(false),
             Some(bytes) => {
-                out.extend(&bytes)?;
+                out.extend(bytes.as_slice())?;
                 Ok(true)
             }
         }

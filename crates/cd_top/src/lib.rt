@@ -3,6 +3,7 @@
 
 pub mod first;
 mod replay;
+mod stored;
 mod top;
 
 pub use top::run;

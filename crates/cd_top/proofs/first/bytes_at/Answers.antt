@@ -1,20 +1,18 @@
-use Rattle.std.proofs.Common.{◌*◌, ◌/◌, ◌∙◌, ℕ, List, ◌<◌, refl, sym, ap, length, slice_index, arith}
-use Rattle.reed_solomon.specs.Dispersal.{row}
-use Rattle.cd_top.specs.Held.{padded}
-use Rattle.cd_top.proofs.Clouds.{bytes_read, rows_at, width_read, front_of_padded, padded_bytes, padded_long}
+use Rattle.std.proofs.Common.{◌∙◌, ◌++◌, List, ℕ, sym, ap, length}
+use Rattle.cd_top.proofs.Clouds.{opened_read, opened_text, never_refused}
 use Rattle.cd_top.proofs.first.bytes_at.Goals as goal
 
-pub returns : goal.returns
-returns c put at =
-    let s = c.args.shape in
-    let points = c.args.points.now in
-    let total = c.len.ensures ∙ c.args.file.now.shares.ok.0 in
-    let pos : 0 < s.k = omega (arith, s.several) in
-    c.truncate.ensures.items
-    ∙ bytes_read s (c.len.result / s.n) c.args.file.now.len c.in_ok-pieces.pieces.len c.in_ok-pieces.pieces.len c.decode_at.new.pieces c.in_ok-pieces.pieces.items (padded s.k put.bytes) put.bytes
-    c.in_ok-pieces.pieces.ok.0 (c.decode_at.auto.pieces ∙ ap length c.deref_mut-2.ensures.value)
-    (c.decode_at.ensures (padded s.k put.bytes) (padded_bytes s.k put.bytes at.are_bytes)
-    (padded_long s.k put.bytes pos ∙ ap (λ (z : ℕ). s.k * z) (width_read s c.len.result points c.args.file.now put total at))
-    (λ t lt. ap (λ (l : List ℕ). row (c.len.result / s.n) (slice_index points t) l) c.deref.ensures.value
-    ∙ rows_at s (c.len.result / s.n) c.len.result points c.args.file.now put total refl at c.requires.count t lt))
-    (front_of_padded s.k put.bytes) at.len_is
+pub returns-in-Ok : goal.returns-in-Ok
+returns-in-Ok c put at =
+    let opens = opened_read c.args.shape c.share_len-width.result c.args.points.now c.as_slice.result.now c.gather.new.target c.in_ok-given.given.items c.deref.result.now c.in_ok-given.given.len c.args.file.now put
+    c.requires at c.if-file-eq0.false c.share_len-width.ensures.value c.as_slice.ensures (sym c.len.ensures ∙ c.if-len-shape.false) c.gather.ensures.bytes c.gather.ensures.same c.in_ok-given.given.ok.0 c.in_ok-given.ensures.len
+    (c.gather.auto.target ∙ ap length c.deref_mut.ensures.value) c.deref.ensures.value in
+    let read = c.in-Ok.ensures.ok in
+    opened_text c.args.shape c.args.file.now.len c.args.points.now c.deref.result.now read.0 put.bytes c.recover.new.out opens read.1 (read.2 ∙ ap (λ (l : List ℕ). l ++ read.0) c.new-bytes.ensures)
+
+pub returns-in-Err : goal.returns-in-Err
+returns-in-Err c put at =
+    let opens = opened_read c.args.shape c.share_len-width.result c.args.points.now c.as_slice.result.now c.gather.new.target c.in_ok-given.given.items c.deref.result.now c.in_ok-given.given.len c.args.file.now put
+    c.requires at c.if-file-eq0.false c.share_len-width.ensures.value c.as_slice.ensures (sym c.len.ensures ∙ c.if-len-shape.false) c.gather.ensures.bytes c.gather.ensures.same c.in_ok-given.given.ok.0 c.in_ok-given.ensures.len
+    (c.gather.auto.target ∙ ap length c.deref_mut.ensures.value) c.deref.ensures.value in
+    never_refused c.args.shape c.args.file.now.len c.args.points.now c.deref.result.now put.bytes c.in-Err.error c.unread.result opens c.in-Err.ensures.err c.unread.ensures

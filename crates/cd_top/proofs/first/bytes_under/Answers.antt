@@ -12,6 +12,6 @@ returns-in_default c puts are =
 pub returns : goal.returns
 returns c puts are =
     let points = sym (c.deref.ensures.value ∙ c.in_ok-points.ensures) in
-    read_found c.args.shape c.args.clouds.now c.in_ok-bytes_at.field-0.items _ c.in-Some.file.now (put_under c.args.user c.args.path.now c.args.version puts) (sym c.in-Some.ensures)
+    read_found c.args.shape c.args.clouds.now c.bytes_at.result _ c.in-Some.file.now (put_under c.args.user c.args.path.now c.args.version puts) (sym c.in-Some.ensures)
     (found c.args.shape c.args.clouds.now c.args.path.now c.args.user c.args.version c.args.files.now puts are)
-    (λ p at. c.in_ok-bytes_at.ensures p (subst (λ (l : List ℕ). IsFileAt c.args.shape l c.in-Some.file.now p) points at))
+    (λ p at. c.bytes_at.ensures p (subst (λ (l : List ℕ). IsFileAt c.args.shape l c.in-Some.file.now p) points at))
