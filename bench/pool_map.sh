@@ -8,7 +8,9 @@ trap 'rm -rf "$work"' EXIT
 mkdir -p "$work/crates/bench_pool_map/src"
 for crate in slot_pool pool_map; do
     mkdir "$work/crates/$crate"
-    cp -r "$top/crates/$crate/src" "$top/crates/$crate/specs" "$top/crates/$crate/proofs" "$work/crates/$crate/"
+    for part in src specs proofs; do
+        [ ! -d "$top/crates/$crate/$part" ] || cp -r "$top/crates/$crate/$part" "$work/crates/$crate/"
+    done
     grep "^$crate:" "$top/crates.txt" >> "$work/crates.txt"
 done
 echo 'bench_pool_map: pool_map slot_pool anyhow' >> "$work/crates.txt"
