@@ -229,7 +229,7 @@ pub opening_short : (script : List ℕ) (shape : Shape) (reader : Lines) (left b
 opening_short script shape reader left before after faults faults' stop opens cut =
     not_written (due script) _ (line_text (lines.Opened shape)) before after faults faults' stop opens.due_is cut
 
-pub ends_after : (due rest : Due) (text : List ℕ) (before middle after left : Option (List ℕ)) (result : Result ℕ Stop) → due ≡ after_text text rest → Appends before middle text → Ends rest middle after left result → Ends due before after left result
+pub ends_after : (due rest : Due) (text : List ℕ) (before middle after left : Option (List ℕ)) (result : Result Unit Stop) → due ≡ after_text text rest → Appends before middle text → Ends rest middle after left result → Ends due before after left result
 ends_after due rest text before middle after left (Ok events) e first whole = record {
   status = ap (λ (d : Due). d.status) e ∙ whole.status;
   written = subst (Appends before after) (ap (λ (d : Due). d.text) (sym e)) (appends_both before middle after text rest.text first whole.written);
@@ -237,7 +237,7 @@ ends_after due rest text before middle after left (Ok events) e first whole = re
 }
 ends_after due rest text before middle after left (Err stop) e first stops = stops_after due rest text before middle after stop e first stops
 
-pub opened : (script : List ℕ) (shape : Shape) (reader : Lines) (left before middle after final : Option (List ℕ)) (faults faults' : ℕ) (result : Result ℕ Stop) → (opens : Opens script shape reader left) →
+pub opened : (script : List ℕ) (shape : Shape) (reader : Lines) (left before middle after final : Option (List ℕ)) (faults faults' : ℕ) (result : Result Unit Stop) → (opens : Opens script shape reader left) →
     IsWritten before middle faults faults' (line_text (lines.Opened shape)) →
     Ends (due_at (length script + 1) (first_place shape reader.taken opens.rest)) middle after final result → Ends (due script) before after final result
 opened script shape reader left before middle after final faults faults' result opens written ends =

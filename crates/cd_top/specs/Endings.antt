@@ -37,8 +37,8 @@ StopsAs due before after (stops.Wrong number at found) = IsWrong due number (rec
 StopsAs due before after stop = IsPart due before after
 
 -- how a replay of a script ends, by its answer
-abbrev pub Ends : Due → Option (List ℕ) → Option (List ℕ) → Option (List ℕ) → Result ℕ Stop → Type 0
-Ends due before after left (Ok events) = IsWhole due before after left
+abbrev pub Ends : Due → Option (List ℕ) → Option (List ℕ) → Option (List ℕ) → Result Unit Stop → Type 0
+Ends due before after left (Ok done) = IsWhole due before after left
 Ends due before after left (Err stop) = StopsAs due before after stop
 
 -- the counts of faults of a source and a sink

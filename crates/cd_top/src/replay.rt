@@ -226,7 +226,7 @@ fn answer_lines<S: Source, K: Sink>(
     text: &mut Bytes,
     source: &mut S,
     sink: &mut K,
-) -> Result<u64, Stop>
+) -> Result<(), Stop>
     requires few { session.old.events ≤ reader.old.taken }
     requires limited { reader.old.taken ≤ script_limit }
     ensures told { (place : Place) (steps : ℕ) → IsAt place session.old reader.old (S.left source.old) → length place.rest < steps →
@@ -247,15 +247,15 @@ fn answer_lines<S: Source, K: Sink>(
         text,
         sink,
     ) {
-        Ok(()) => Ok(session.events),
+        Ok(()) => Ok(()),
         Err(stop) => Err(stop),
     }
 }
 
-/// Replays the script in the source, and writes its transcript; it answers the number of lines after the first. What
-/// stops it comes by its cause: the script is wrong in the line that was reached, a count of faults rose, or memory ran
-/// out. The line that names a wrong place isn't written here.
-pub fn replay<S: Source, K: Sink>(alloc: Global, source: &mut S, sink: &mut K) -> Result<u64, Stop>
+/// Replays the script in the source, and writes its transcript. What stops it comes by its cause: the script is wrong in
+/// the line that was reached, a count of faults rose, or memory ran out. The line that names a wrong place isn't written
+/// here.
+pub fn replay<S: Source, K: Sink>(alloc: Global, source: &mut S, sink: &mut K) -> Result<(), Stop>
     ensures told { (script : List ℕ) → S.left source.old ≡ Some script → Ends (due script) (K.written sink.old) (K.written sink.new) (S.left source.new) result }
     ensures cause { HasCause (record { source = S.faults source.old; sink = K.faults sink.old }) (record { source = S.faults source.new; sink = K.faults sink.new }) result }
 {

@@ -116,6 +116,70 @@ fn failures_have_their_status(rt: HostRuntime) -> Result<(), Fail> {
     Ok(())
 }
 
+const LONGEST: &[u8] = &[b'6'; 2048];
+
+#[test]
+fn a_path_has_a_limit(rt: HostRuntime) -> Result<(), Fail> {
+    for (more, text) in [
+        (b"".as_slice(), b"open 4 3\nstored 1\ndone 1\n".as_slice()),
+        (b"61", b"open 4 3\nscript 2 6 36\n"),
+    ] {
+        let mut script = Vec::new(rt.alloc());
+        for part in [
+            b"cdstore 1 4 3\nput 7 ".as_slice(),
+            LONGEST,
+            more,
+            b" 1 41\n",
+        ] {
+            script.extend_from_slice(part)?;
+        }
+        let ended = session(rt.alloc(), &script)?;
+        assert_eq!(rt; ended.text.as_slice(), text);
+    }
+    Ok(())
+}
+
+#[test]
+fn a_script_has_a_limit(rt: HostRuntime) -> Result<(), Fail> {
+    let mut script = Vec::new(rt.alloc());
+    script.extend_from_slice(b"cdstore 1 4 3\n")?;
+    for _ in 0..986_895u32 {
+        script.extend_from_slice(b"get 7 61 1 0,1,2\n")?;
+    }
+    let ended = ran_into(rt.alloc(), 18_000_000, &script)?;
+    assert_eq!(rt; ended.status, 2);
+    assert!(rt;
+        ended
+            .text
+            .ends_with(b"\nrefused missing 0\nscript 986896 4 37\n")
+    );
+    Ok(())
+}
+
+// A session whose sink takes nothing once it has these bytes.
+fn ran_into(alloc: Global, room: usize, script: &[u8]) -> Result<Ended, Fail> {
+    let mut words = Vec::new(alloc);
+    for word in ["replay", "d"] {
+        words.push(String::from_str(alloc, word)?)?;
+    }
+    let mut source = MemSource::of(alloc, script, 4096, &[])?;
+    let mut sink = MemSink::of(alloc, room, 4096, &[])?;
+    let status = run(alloc, &words, &mut source, &mut sink);
+    let mut text = Vec::new(alloc);
+    text.extend_from_slice(sink.written())?;
+    Ok(Ended { status, text })
+}
+
+#[test]
+fn a_full_sink_is_a_fault(rt: HostRuntime) -> Result<(), Fail> {
+    for room in [0, 1, 9, 12, FIRST_TEXT.len() - 1] {
+        let ended = ran_into(rt.alloc(), room, FIRST)?;
+        assert_eq!(rt; ended.status, 4);
+        assert_eq!(rt; ended.text.as_slice(), &FIRST_TEXT[..room]);
+    }
+    Ok(())
+}
+
 #[test]
 fn other_words_do_nothing(rt: HostRuntime) -> Result<(), Fail> {
     let tables: [&[&str]; 4] = [&[], &["replay"], &["replay", "d", "e"], &["play", "d"]];

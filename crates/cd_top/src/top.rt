@@ -113,7 +113,7 @@ pub fn run<S: Source, K: Sink>(alloc: Global, words: &[String], source: &mut S, 
         return 1;
     }
     match replay(alloc, source, sink) {
-        Ok(_events) => 0,
+        Ok(()) => 0,
         Err(Stop::Wrong { line, at, found }) => name_wrong(alloc, line, at, found, sink),
         Err(Stop::SourceFault) => 3,
         Err(Stop::SinkFault) => 4,
