@@ -2,3 +2,4 @@ pub mod Lending
 pub mod Lengths
 pub mod Limits
 pub mod Numbers
+pub mod Reading

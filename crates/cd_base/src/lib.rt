@@ -3,8 +3,10 @@
 
 mod bytes;
 mod clouds;
+mod cursor;
 mod digest;
 mod ends;
+mod fps;
 mod ids;
 mod lengths;
 mod path;
@@ -13,8 +15,10 @@ mod shape;
 
 pub use bytes::Bytes;
 pub use clouds::Clouds;
+pub use cursor::Cursor;
 pub use digest::sha256;
 pub use ends::Ends;
+pub use fps::Fps;
 pub use ids::{CloudNo, Fp, NoMemory, Tag, UserId, Version};
 pub use lengths::share_len;
 pub use path::is_path;
