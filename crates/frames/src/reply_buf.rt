@@ -1,0 +1,56 @@
+//! The content of a frame that is being made.
+
+use cd_base::NoMemory;
+use std::alloc::Global;
+use std::marker::Model;
+
+/// Up to 4 MiB of content. Contracts see the list of its bytes.
+#[derive(Debug, Drop)]
+pub struct ReplyBuf {
+    bytes: Vec<u8>,
+}
+
+impl Model for ReplyBuf {
+    ghost use Rattle.std.specs.Prelude.{ℕ, ◌≤◌, List, length, vec_capacity};
+
+    ghost Value = { List ℕ };
+
+    ghost view = { λ b. b.bytes.items };
+
+    ghost invariant = { λ b. (length b.bytes.items ≤ 4194304) × (4194304 ≤ vec_capacity b.bytes) };
+}
+
+impl ReplyBuf {
+    ghost use Rattle.std.specs.Prelude.{◌≡◌, ◌+◌, ◌≤◌, [], ◌++◌, length, IfOk};
+
+    /// No content, with memory for 4 MiB of it. The only error is want of memory.
+    pub fn make(alloc: Global) -> Result<ReplyBuf, NoMemory>
+        ensures { IfOk result (λ buf. buf ≡ []) }
+    {
+        let bytes = Vec::with_capacity(alloc, 4_194_304)?;
+        Ok(ReplyBuf { bytes })
+    }
+
+    /// The content.
+    pub fn content(&self) -> &[u8]
+        ensures value { result.now ≡ self.now }
+        ensures few { length self.now ≤ 4194304 }
+    {
+        self.bytes.as_slice()
+    }
+
+    /// Drops the content, and keeps the memory.
+    pub fn clear(&mut self)
+        ensures { self.new ≡ [] }
+    {
+        self.bytes.clear();
+    }
+
+    /// Appends bytes. It takes no memory.
+    pub fn put(&mut self, bytes: &[u8])
+        requires { length self.old + length bytes.now ≤ 4194304 }
+        ensures { self.new ≡ self.old ++ bytes.now }
+    {
+        let _ = self.bytes.extend_from_slice(bytes);
+    }
+}
