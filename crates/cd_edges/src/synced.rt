@@ -1,7 +1,7 @@
 //! A write, and a sync of it.
-ghost use Rattle.std.specs.Prelude.{◌≡◌, ◌≢◌, IsTrue, OnOk, OnErr};
+ghost use Rattle.std.specs.Prelude.{◌≡◌, ◌≢◌, ◌+◌, IsTrue, OnOk, OnErr};
 ghost use Rattle.cd_edges.specs.declared.area.Area.{Area};
-ghost use Rattle.cd_edges.specs.Disk.{LeavesOnly, IsAtArea, MayLeave, overwritten};
+ghost use Rattle.cd_edges.specs.Disk.{LeavesOnly, IsAtArea, MayLeave, moment, overwritten};
 ghost use Rattle.cd_edges.specs.Shelf.{IsCall, HasFailed, KeepsCounts, wrote, stable};
 
 use crate::{Area, Failed, Shelf};
@@ -10,8 +10,8 @@ use cd_base::CloudNo;
 /// Writes the bytes at the place and makes sure of them, by one write and one sync of the area.
 ///
 /// Whenever a crash comes it leaves of this area what it may leave after the write, and of the others what it might have
-/// left before. After Ok the area is as it reads, and a crash leaves it so. `Failed` comes where the write or the sync
-/// failed; the sync isn't tried after a failed write.
+/// left before. After Ok the area is as it reads, a crash leaves it so, and the cloud's moment is higher by two, one for each
+/// call. `Failed` comes where the write or the sync failed; the sync isn't tried after a failed write.
 pub fn write_synced<S: Shelf>(
     shelf: &mut S,
     cloud: CloudNo,
@@ -27,6 +27,8 @@ pub fn write_synced<S: Shelf>(
 
     ensures others { IsTrue (S.cloud_at shelf.old cloud.0).told → OnOk result ((other : Area) → other ≢ area
         → (S.cloud_at shelf.new cloud.0).now other ≡ (S.cloud_at shelf.old cloud.0).now other) }
+
+    ensures moments { IsTrue (S.cloud_at shelf.old cloud.0).told → OnOk result (moment (S.cloud_at shelf.new cloud.0) ≡ moment (S.cloud_at shelf.old cloud.0) + 2) }
 
     ensures call { IsCall (S.cloud_at shelf.old) (S.cloud_at shelf.new) cloud.0 (S.faults shelf.old) (S.faults shelf.new) }
     ensures failed { OnErr result (HasFailed (S.cloud_at shelf.old cloud.0) (S.cloud_at shelf.new cloud.0) (S.faults shelf.old) (S.faults shelf.new)) }
