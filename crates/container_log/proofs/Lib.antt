@@ -1,0 +1,5 @@
+pub mod Blobs
+pub mod Laid
+pub mod Least
+pub mod Rooms
+pub mod Staged

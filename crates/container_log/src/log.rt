@@ -1,0 +1,207 @@
+//! The log of an area.
+
+ghost use Rattle.std.specs.Prelude.{◌≡◌, ◌≢◌, ◌↔◌, ℕ, ◌+◌, ◌-◌, ◌^◌, ◌<◌, ◌≤◌, List, [], ◌∷◌, ◌++◌, length, take, replicate, map, All, IsTrue, IsOk, IfOk, OnOk, OnErr, MatchResult};
+ghost use Rattle.cd_edges.specs.declared.area.Area.{Area};
+ghost use Rattle.cd_edges.specs.Disk.{LeavesOnly, IsAtArea, MayLeave, moment, overwritten};
+ghost use Rattle.cd_edges.specs.Shelf.{IsCall, HasFailed, KeepsCounts, Stays, ReadsFrom, wrote, stable};
+ghost use Rattle.container_log.specs.Kept.{KeepsBelow};
+ghost use Rattle.container_log.specs.Laying.{Placed, lengths, placed, IsAt};
+ghost use Rattle.container_log.specs.Places.{place_of, end_after, end_of_laid};
+ghost use Rattle.container_log.specs.States.{State, HasStaged, staged_end, need_of, with_blob, without_staged, after_flush};
+
+use crate::LogFull;
+use crate::places::gap_behind;
+use cd_base::{CloudNo, NoMemory};
+use cd_edges::{Area, Failed, Shelf, write_synced};
+use std::alloc::Global;
+use std::marker::Model;
+use std::mem;
+
+/// The most bytes that can be staged, with the zeros between blobs: as many as a container has.
+pub const STAGING: usize = 4_194_304;
+
+/// The log of an area: blobs in containers of 4,194,304 bytes, each in one container, behind one another.
+///
+/// A blob begins at the current end, or, where it wouldn't fit into the rest of that container, at the next container's first
+/// place, with zeros between. The end is then the blob's end. Blobs are staged first, and then written by one flush.
+#[derive(Drop)]
+pub struct Log {
+    area: Area,
+    limit: u64,
+    end: u64,
+    // The bytes that are staged, in front.
+    buffer: Vec<u8>,
+    used: usize,
+}
+
+impl Model for Log {
+    ghost use Rattle.std.specs.Prelude.{◌≡◌, ◌+◌, ◌^◌, ◌<◌, ◌≤◌, take, vec_len};
+    ghost use Rattle.container_log.specs.States.{State};
+
+    ghost Value = { State };
+
+    ghost view = { λ l. record { area = l.area; limit = l.limit; end = l.end; staged = take l.used l.buffer.items } };
+
+    ghost invariant = { λ l. (vec_len l.buffer ≡ 4194304) × (l.used ≤ 4194304) × (l.end + l.used < 2 ^ 64) };
+}
+
+// A buffer of so many bytes.
+fn buffer_of(alloc: Global, len: usize) -> Result<Vec<u8>, NoMemory>
+    ensures { IfOk result (λ v. length v.items ≡ len) }
+{
+    Ok(vec![in alloc; 0u8; len]?)
+}
+
+// Puts zeros and a blob behind what a buffer has in front.
+fn put_behind(buffer: &mut [u8], used: usize, gap: usize, blob: &[u8])
+    requires room { used + gap + length blob.now ≤ length buffer.old }
+    ensures { take (used + gap + length blob.now) buffer.new ≡ take used buffer.old ++ replicate gap 0 ++ blob.now }
+{
+    let from = used + gap;
+    buffer[used..from].fill(0);
+    buffer[from..from + blob.len()].copy_from_slice(blob);
+}
+
+impl Log {
+    /// The log of this area, which has no blob yet and may end at `limit` at most. It takes all its memory here: a buffer of
+    /// 4,194,304 bytes.
+    pub fn make(alloc: Global, area: Area, limit: u64) -> Result<Log, NoMemory>
+        ensures made { IfOk result (λ log. log ≡ record { area = area; limit = limit; end = 0; staged = [] }) }
+        ensures none { IfOk result (λ log. HasStaged log []) }
+    {
+        Ok(Log {
+            area,
+            limit,
+            end: 0,
+            buffer: buffer_of(alloc, STAGING)?,
+            used: 0,
+        })
+    }
+
+    /// Says where the log ends, as a place of the area, and forgets what is staged.
+    pub fn reset(&mut self, end: u64)
+        ensures reset { self.new ≡ record self.old { end = end; staged = [] } }
+        ensures none { HasStaged self.new [] }
+    {
+        self.end = end;
+        self.used = 0;
+    }
+
+    /// The place where the log ends. What is staged isn't counted.
+    pub fn end(&self) -> u64
+        ensures { result ≡ self.now.end }
+    {
+        self.end
+    }
+
+    /// Whether a blob of `len` bytes has room among what can be staged, zeros counted: it would end 4,194,304 bytes behind
+    /// the log's end at most. So a blob of up to 4,194,304 bytes has room where the log ends at a container's first place and
+    /// nothing is staged.
+    pub fn has_room(&self, len: usize) -> bool
+        ensures { IsTrue result ↔ (need_of self.now len ≤ 4194304) }
+    {
+        let gap = gap_behind(self.end + self.used as u64, len as u64);
+        len <= STAGING && self.used as u64 + gap + len as u64 <= STAGING as u64
+    }
+
+    /// Stages a blob, and answers its place in the area. LogFull comes exactly where the blob would end past the limit:
+    /// `used` is the log's end, `need` reaches from there to the blob's end, and together they are more than `limit`. Nothing
+    /// changes then. It copies the blob once and takes no memory.
+    pub fn stage(&mut self, blob: &[u8]) -> Result<u64, LogFull>
+        requires room { need_of self.old (length blob.now) ≤ 4194304 }
+
+        ensures answer { MatchResult result
+            (λ place. (self.old.end + need_of self.old (length blob.now) ≤ self.old.limit) × (place ≡ place_of (staged_end self.old) (length blob.now)))
+            (λ full. (self.old.limit < self.old.end + need_of self.old (length blob.now)) × (full ≡ record { used = self.old.end; need = need_of self.old (length blob.now); limit = self.old.limit })) }
+        ensures ok { OnOk result (self.new ≡ with_blob self.old blob.now) }
+        ensures err { OnErr result (self.new ≡ self.old) }
+        ensures place { (blobs : List (List ℕ)) → HasStaged self.old blobs → IfOk result (λ place. place ≡ place_of (end_of_laid self.old.end (lengths blobs)) (length blob.now)) }
+        ensures staged { (blobs : List (List ℕ)) → HasStaged self.old blobs → OnOk result (HasStaged self.new (blobs ++ blob.now ∷ [])) }
+    {
+        let behind = self.end + self.used as u64;
+        let gap = gap_behind(behind, blob.len() as u64);
+        let need = self.used as u64 + gap + blob.len() as u64;
+        if self.end > self.limit || need > self.limit - self.end {
+            return Err(LogFull {
+                used: self.end,
+                need,
+                limit: self.limit,
+            });
+        }
+        put_behind(&mut self.buffer, self.used, gap as usize, blob);
+        self.used = need as usize;
+        Ok(behind + gap)
+    }
+
+    /// Forgets what is staged.
+    pub fn unstage(&mut self)
+        ensures forgets { self.new ≡ without_staged self.old }
+        ensures none { HasStaged self.new [] }
+    {
+        self.used = 0;
+    }
+
+    /// Writes what is staged at the log's end, by one write and one sync of the area; where nothing is staged, it makes no
+    /// device call. After Ok the log ends behind the last blob, and a crash leaves each at its place. After Failed, which
+    /// comes only where the cloud's count of faults rose, the log ends where it did. Nothing is staged afterwards. It takes
+    /// no memory.
+    ///
+    /// Whenever a crash comes, each byte below the log's old end that lay in the area at its last Ok sync and wasn't written
+    /// since is there still, and the other areas are left as they might have been before. An area may be longer than the
+    /// log, by what an earlier crash left of a flush: as many bytes of that tail are written over as are staged, and what
+    /// lies behind them stays. Where the area is shorter, zeros fill the gap.
+    pub fn flush<V: Shelf>(&mut self, shelf: &mut V, cloud: CloudNo) -> Result<(), Failed>
+        ensures any_moment { IsTrue (V.cloud_at shelf.old cloud.0).told → LeavesOnly (V.cloud_at shelf.old cloud.0) (V.cloud_at shelf.new cloud.0)
+            (IsAtArea (V.cloud_at shelf.old cloud.0).now self.old.area (KeepsBelow self.old.end ((V.cloud_at shelf.old cloud.0).now self.old.area))) }
+        ensures torn { IsTrue (V.cloud_at shelf.old cloud.0).told → LeavesOnly (V.cloud_at shelf.old cloud.0) (V.cloud_at shelf.new cloud.0)
+            (IsAtArea (V.cloud_at shelf.old cloud.0).now self.old.area (MayLeave (wrote ((V.cloud_at shelf.old cloud.0).now self.old.area) self.old.end self.old.staged))) }
+
+        ensures written { IsTrue (V.cloud_at shelf.old cloud.0).told → self.old.staged ≢ []
+            → OnOk result ((V.cloud_at shelf.new cloud.0).now self.old.area ≡ stable (overwritten ((V.cloud_at shelf.old cloud.0).now self.old.area).read self.old.end self.old.staged)) }
+        ensures placed { IsTrue (V.cloud_at shelf.old cloud.0).told → (blobs : List (List ℕ)) → HasStaged self.old blobs
+            → OnOk result (All (IsAt ((V.cloud_at shelf.new cloud.0).now self.old.area).read) (placed self.old.end blobs)) }
+        ensures kept { IsTrue (V.cloud_at shelf.old cloud.0).told → (b : Placed) → b.place + length b.blob ≤ self.old.end → IsAt ((V.cloud_at shelf.old cloud.0).now self.old.area).read b
+            → OnOk result (IsAt ((V.cloud_at shelf.new cloud.0).now self.old.area).read b) }
+        ensures others { IsTrue (V.cloud_at shelf.old cloud.0).told → OnOk result ((other : Area) → other ≢ self.old.area → (V.cloud_at shelf.new cloud.0).now other ≡ (V.cloud_at shelf.old cloud.0).now other) }
+        ensures moments { IsTrue (V.cloud_at shelf.old cloud.0).told → self.old.staged ≢ [] → OnOk result (moment (V.cloud_at shelf.new cloud.0) ≡ moment (V.cloud_at shelf.old cloud.0) + 2) }
+        ensures nothing { self.old.staged ≡ [] → (shelf.new ≡ shelf.old) × (self.new ≡ self.old) × IsOk result }
+
+        ensures log { self.new ≡ after_flush self.old result }
+        ensures end { (blobs : List (List ℕ)) → HasStaged self.old blobs → OnOk result (self.new.end ≡ end_of_laid self.old.end (lengths blobs)) }
+        ensures none { HasStaged self.new [] }
+        ensures call { IsCall (V.cloud_at shelf.old) (V.cloud_at shelf.new) cloud.0 (V.faults shelf.old) (V.faults shelf.new) }
+        ensures failed { OnErr result (HasFailed (V.cloud_at shelf.old cloud.0) (V.cloud_at shelf.new cloud.0) (V.faults shelf.old) (V.faults shelf.new)) }
+        ensures uncounted { OnOk result (KeepsCounts (V.cloud_at shelf.old cloud.0) (V.cloud_at shelf.new cloud.0) (V.faults shelf.old) (V.faults shelf.new)) }
+    {
+        if self.used == 0 {
+            return Ok(());
+        }
+        let used = mem::take(&mut self.used);
+        write_synced(shelf, cloud, self.area, self.end, &self.buffer[..used])?;
+        self.end += used as u64;
+        Ok(())
+    }
+
+    /// Puts what the area has from place `place` on in front of `out`, by one device call, and answers how many bytes that
+    /// are: fewer than `out.len()` exactly where the area ends there. What is staged isn't seen. Failed comes only where the
+    /// cloud's count of faults rose. It takes no memory.
+    pub fn read<V: Shelf>(
+        &mut self,
+        shelf: &mut V,
+        cloud: CloudNo,
+        place: u64,
+        out: &mut [u8],
+    ) -> Result<usize, Failed>
+        ensures bytes { IsTrue (V.cloud_at shelf.old cloud.0).told → IfOk result (λ count. ReadsFrom ((V.cloud_at shelf.old cloud.0).now self.old.area).read place count out.new) }
+        ensures blob { IsTrue (V.cloud_at shelf.old cloud.0).told → (b : Placed) → b.place ≡ place → length b.blob ≡ length out.old → IsAt ((V.cloud_at shelf.old cloud.0).now self.old.area).read b
+            → OnOk result (out.new ≡ b.blob) }
+        ensures bound { IfOk result (λ count. count ≤ length out.new) }
+        ensures log { self.new ≡ self.old }
+        ensures stays { Stays (V.cloud_at shelf.old cloud.0) (V.cloud_at shelf.new cloud.0) }
+        ensures call { IsCall (V.cloud_at shelf.old) (V.cloud_at shelf.new) cloud.0 (V.faults shelf.old) (V.faults shelf.new) }
+        ensures failed { OnErr result (HasFailed (V.cloud_at shelf.old cloud.0) (V.cloud_at shelf.new cloud.0) (V.faults shelf.old) (V.faults shelf.new)) }
+        ensures uncounted { OnOk result (KeepsCounts (V.cloud_at shelf.old cloud.0) (V.cloud_at shelf.new cloud.0) (V.faults shelf.old) (V.faults shelf.new)) }
+    {
+        shelf.read(cloud, self.area, place, out)
+    }
+}

@@ -1,0 +1,5 @@
+//! The log over clouds in memory.
+#![tactic(auto)]
+
+#[cfg(test)]
+mod tests;
