@@ -3,7 +3,7 @@
 ghost use Rattle.std.specs.Prelude.{◌≡◌, ◌≢◌, ◌⊎◌, ℕ, ◌+◌, ◌-◌, ◌*◌, ◌^◌, ◌<◌, ◌≤◌, List, [], ◌∷◌, ◌++◌, length, take, drop, vec_len, IsTrue, IfOk, OnOk, OnErr, is_ok, if◌then◌else◌};
 ghost use Rattle.commit_journal.specs.Records.{framed, IsBeforeOrAfter};
 ghost use Rattle.cd_edges.specs.declared.area.Area.{Area};
-ghost use Rattle.cd_edges.specs.Disk.{LeavesOnly, IsAtArea};
+ghost use Rattle.cd_edges.specs.Disk.{LeavesOnly, IsAtArea, moment};
 ghost use Rattle.commit_journal.specs.declared.journal.Stage.TheVariants.{Shut};
 ghost use Rattle.cd_edges.specs.Shelf.{IsCall, HasFailed, KeepsCounts, Stays, stable};
 
@@ -23,7 +23,8 @@ pub enum Stage {
     AtEnd,
 }
 
-/// The most that is read or written at once: a whole record with the next gate.
+/// The most bytes that are read or written at once: 64 KiB, and the five bytes of a gate and a length, which are as many as
+/// the longest record has with its own gate and the next one.
 pub const WINDOW: usize = GREATEST + 6;
 
 /// The journal of a cloud.
@@ -106,7 +107,8 @@ impl Journal {
     /// the length and its byte). Failed comes only where the cloud's count of faults rose. After an Err only `reopen` may
     /// be called.
     ///
-    /// It makes one device call at most, and none where the record was read ahead.
+    /// It makes one device call at most, and none where the record was read ahead. A call reads from the record's gate on as
+    /// much as the window takes, which is 64 KiB and a record's frame.
     pub fn next<V: Shelf>(&mut self, shelf: &mut V, cloud: CloudNo) -> Result<bool, JournalErr>
         requires { (state_of self.old).stage ≢ Stage.Shut }
         ensures reads { IsTrue (V.cloud_at shelf.old cloud.0).told → (bodies : List (List ℕ)) → IsReading (state_of self.old) ((V.cloud_at shelf.old cloud.0).now Area.Journal) bodies
@@ -130,7 +132,7 @@ impl Journal {
     /// or those and this one. Full comes exactly where the bytes used, up to and with the gate, and the body's length and 5
     /// pass the limit together; no device call is made then and nothing changes. Failed comes only where the cloud's count
     /// of faults rose, and then only `reopen` may be called. It makes two writes, each with a sync: the record with the next
-    /// gate, closed, and then its own gate. It takes no memory.
+    /// gate, closed, and then its own gate. So after Ok the cloud's moment is higher by four. It takes no memory.
     pub fn append<V: Shelf>(
         &mut self,
         shelf: &mut V,
@@ -146,6 +148,8 @@ impl Journal {
         ensures added { IsTrue (V.cloud_at shelf.old cloud.0).told → (bodies : List (List ℕ)) → IsEnded (state_of self.old) ((V.cloud_at shelf.old cloud.0).now Area.Journal) bodies
             → OnOk result (IsEnded (state_of self.new) ((V.cloud_at shelf.new cloud.0).now Area.Journal) (bodies ++ body.now ∷ [])) }
         ensures others { IsTrue (V.cloud_at shelf.old cloud.0).told → OnOk result ((other : Area) → other ≢ Area.Journal → (V.cloud_at shelf.new cloud.0).now other ≡ (V.cloud_at shelf.old cloud.0).now other) }
+
+        ensures moments { IsTrue (V.cloud_at shelf.old cloud.0).told → OnOk result (moment (V.cloud_at shelf.new cloud.0) ≡ moment (V.cloud_at shelf.old cloud.0) + 4) }
 
         ensures full { AppendIs (state_of self.old).limit ((state_of self.old).gate + 1) (length body.now + 5) result }
         ensures full_alone { (state_of self.old).limit < (state_of self.old).gate + 1 + (length body.now + 5) → (shelf.new ≡ shelf.old) × (self.new ≡ self.old) }
@@ -186,6 +190,7 @@ impl Journal {
         ensures added { IsTrue (V.cloud_at shelf.old cloud.0).told → (bodies : List (List ℕ)) → IsEnded (state_of self.old) ((V.cloud_at shelf.old cloud.0).now Area.Journal) bodies
             → OnOk result (IsEnded (state_of self.new) ((V.cloud_at shelf.new cloud.0).now Area.Journal) (bodies ++ body.now ∷ [])) }
         ensures others { IsTrue (V.cloud_at shelf.old cloud.0).told → OnOk result ((other : Area) → other ≢ Area.Journal → (V.cloud_at shelf.new cloud.0).now other ≡ (V.cloud_at shelf.old cloud.0).now other) }
+        ensures moments { IsTrue (V.cloud_at shelf.old cloud.0).told → OnOk result (moment (V.cloud_at shelf.new cloud.0) ≡ moment (V.cloud_at shelf.old cloud.0) + 4) }
         ensures gate { OnOk result (self.new.gate ≡ self.old.gate + 5 + length body.now) }
         ensures stage { self.new.stage ≡ (if is_ok result then Stage.AtEnd else Stage.Shut) }
         ensures limit { self.new.limit ≡ self.old.limit }

@@ -6,8 +6,9 @@ ghost use Rattle.commit_journal.specs.States.{state_of};
 
 use cd_base::{CloudNo, Shape};
 use cd_edges::{Area, Failed, Shelf};
-use cd_fakes::MemShelf;
+use cd_fakes::{MemShelf, Note};
 use commit_journal::{Header, Journal, JournalErr, OpenErr};
+use std::alloc::Global;
 use std::test::Fail;
 
 const TWO: CloudNo = CloudNo(2);
@@ -40,7 +41,7 @@ fn records<V: Shelf>(journal: &mut Journal, shelf: &mut V, begin: bool) -> Resul
         Ok(()) => {}
         Err(error) => return Err(Stop::Open(error)),
     }
-    for count in 0..9u32 {
+    for count in 0..9_999u32 {
         match journal.next(shelf, TWO) {
             Ok(true) => {}
             Ok(false) => return Ok(count),
@@ -205,5 +206,98 @@ fn damage_is_found(rt: HostRuntime) -> Result<(), Fail> {
         behind(&mut journal, &mut shelf, &[2, 0, 0, 0, 1, 5, 0]),
         Ok(0)
     );
+    Ok(())
+}
+
+// How many calls on the cloud came, and how many writes and syncs of them were Ok.
+fn calls(shelf: &MemShelf) -> (u64, u32, u32) {
+    let mut writes = 0u32;
+    let mut syncs = 0u32;
+    let Some(cloud) = shelf.clouds.get(2) else {
+        return (0, 0, 0);
+    };
+    for note in cloud.disk.notes.iter() {
+        match note {
+            Note::Wrote { .. } => writes = writes.saturating_add(1),
+            Note::Synced { .. } => syncs = syncs.saturating_add(1),
+            Note::Emptied => {}
+        }
+    }
+    (cloud.calls, writes, syncs)
+}
+
+// Adds so many records of the same body.
+fn append_all<V: Shelf>(
+    journal: &mut Journal,
+    shelf: &mut V,
+    count: u32,
+    body: &[u8],
+) -> Result<(), Stop>
+    requires { (state_of journal.old).stage ≡ AtEnd }
+{
+    if body.is_empty() || body.len() > 65_535 {
+        return Err(Stop::TooMany);
+    }
+    'records: for _ in 0..count {
+        match journal.append(shelf, TWO, body) {
+            Ok(()) => {}
+            Err(error) => return Err(Stop::Next(error)),
+        }
+    }
+    Ok(())
+}
+
+// A cloud whose journal has so many records of so many bytes behind its header.
+fn filled(alloc: Global, count: u32, len: usize) -> Result<MemShelf, Fail> {
+    let mut shelf = MemShelf::of(alloc, 3, 500_000, 20_000, &[])?;
+    let mut journal = Journal::make(alloc, 500_000)?;
+    let body = vec![in alloc; 5u8; len]?;
+    if records(&mut journal, &mut shelf, true).is_ok() {
+        let _ = append_all(&mut journal, &mut shelf, count, &body);
+    }
+    Ok(shelf)
+}
+
+// Opens the journal, goes over its records, and adds one.
+fn add_one<V: Shelf>(journal: &mut Journal, shelf: &mut V, body: &[u8]) -> Result<(), Stop> {
+    match records(journal, shelf, true) {
+        Ok(_) => append_all(journal, shelf, 1, body),
+        Err(stop) => Err(stop),
+    }
+}
+
+// A beginning makes a sync, asks for the length, reads, and makes three writes and syncs; `next` then reads once. An opening
+// of a short journal makes a sync, asks for the length and reads, and `next` reads no more. An append makes four calls.
+#[test]
+fn a_record_is_two_writes_and_two_syncs(rt: HostRuntime) -> Result<(), Fail> {
+    let mut shelf = MemShelf::of(rt.alloc(), 3, 200_000, 100, &[])?;
+    let mut journal = Journal::make(rt.alloc(), 200_000)?;
+    let body = vec![in rt.alloc(); 5u8; 65_535]?;
+    assert_eq!(rt; records(&mut journal, &mut shelf, true), Ok(0));
+    assert_eq!(rt; calls(&shelf), (10, 3, 4));
+    assert_eq!(rt; add_one(&mut journal, &mut shelf, &[7]), Ok(()));
+    assert_eq!(rt; calls(&shelf), (17, 5, 7));
+    assert_eq!(rt; add_one(&mut journal, &mut shelf, &body), Ok(()));
+    assert_eq!(rt; calls(&shelf), (24, 7, 10));
+    Ok(())
+}
+
+// An opening makes one sync and asks for the length once; all else are reads.
+#[test]
+fn records_are_read_ahead(rt: HostRuntime) -> Result<(), Fail> {
+    for (count, len, reads) in [
+        (0u32, 1usize, 1u64),
+        (600, 104, 1),
+        (3_000, 100, 6),
+        (12, 30_000, 12),
+    ] {
+        let mut shelf = filled(rt.alloc(), count, len)?;
+        let mut journal = Journal::make(rt.alloc(), 500_000)?;
+        let (before, _, _) = calls(&shelf);
+        assert_eq!(rt; records(&mut journal, &mut shelf, false), Ok(count));
+        let (after, _, _) = calls(&shelf);
+        assert!(rt; after <= before.saturating_add(2 + reads));
+        assert!(rt; after > before.saturating_add(2));
+    }
     Ok(())
 }
