@@ -11,7 +11,7 @@ use Rattle.session.specs.declared.event.Event.TheVariants as events
 
 -- the most bytes of a file
 abbrev pub file_limit : ℕ
-file_limit = 4096
+file_limit = 67108864
 
 -- the most puts of a script
 abbrev pub put_limit : ℕ

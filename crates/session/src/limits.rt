@@ -1,7 +1,7 @@
 //! The limits of scripts.
 
 /// The most bytes of a file.
-pub const FILE_LIMIT: usize = 4096;
+pub const FILE_LIMIT: usize = 67_108_864;
 
 /// The most puts of a script.
 pub const PUT_LIMIT: u32 = 1000;
@@ -10,7 +10,7 @@ pub const PUT_LIMIT: u32 = 1000;
 pub const LEAST_JOURNAL: u64 = 64;
 
 /// The most bytes of a line, without its newline.
-pub const LINE_LIMIT: u64 = 16_384;
+pub const LINE_LIMIT: u64 = 134_225_920;
 
 /// The most bytes of a script.
-pub const SCRIPT_LIMIT: u64 = 16_777_216;
+pub const SCRIPT_LIMIT: u64 = 8_589_934_592;

@@ -184,6 +184,23 @@ fn source_of(bytes: &'static [u8], piece: usize, fails: u64) -> Pieces {
     }
 }
 
+// Hands out one byte again and again, without an end.
+#[derive(Drop)]
+struct Endless {
+    byte: u8,
+}
+
+impl Source for Endless {
+    ghost left = { λ _. None };
+
+    ghost faults = { λ _. 0 };
+
+    fn read(&mut self, out: &mut [u8]) -> Result<usize, Failed> {
+        out.fill(self.byte);
+        Ok(out.len())
+    }
+}
+
 #[test]
 fn lines_in_pieces(rt: HostRuntime) -> Result<(), Fail> {
     for piece in 1..8_usize {
@@ -215,9 +232,9 @@ fn lines_that_fail(rt: HostRuntime) -> Result<(), Fail> {
     assert!(rt; reader.next(&mut source) == Ok(true));
     assert!(rt; reader.next(&mut source) == Err(LineErr::Fault));
     let mut reader = LineReader::make(rt.alloc())?;
-    let mut source = source_of(&[b'x'; 20_000], 1000, 0);
+    let mut source = Endless { byte: b'x' };
     let past = Err(LineErr::At {
-        at: 16_384,
+        at: 134_225_920,
         found: Some(b'x'),
     });
     assert!(rt; reader.next(&mut source) == past);
