@@ -1,60 +1,65 @@
 -- Reading items one after the other, as a loop does.
-use Rattle.std.proofs.Common.{◌≡◌, ℕ, zero, suc, ◌-◌, ◌+◌, ◌≤◌, ◌<◌, Bool, false, take, get_or, length, List, [], ◌∷◌, ◌++◌, Result, Ok, Err, refl, sym, ap, ◌∙◌, append_assoc, arith, eqb}
-use Rattle.std.proofs.lemmas.List.{append-nil}
+use Rattle.std.proofs.Common.{◌≡◌, ℕ, zero, suc, ◌-◌, ◌+◌, ◌≤◌, ◌<◌, Bool, List, ◌∷◌, Result, Ok, Err, refl, sym, ap, ◌∙◌, arith, eqb}
 use Rattle.std.proofs.lemmas.Bool.{ne_eqb}
-use Rattle.grammar.specs.declared.stop.Stop.{Stop}
-use Rattle.grammar.specs.declared.stop.Stop.TheVariants as stops
-use Rattle.std.specs.Prelude.{◌==◌}
-use Rattle.std.proofs.lemmas.List.Sums.{sum_by_more_le}
+use Rattle.std.proofs.lemmas.List.Sums.{sum_by-cons}
+use Rattle.grammar.specs.Readers.{◌>>=◌}
 use Rattle.recipe.specs.declared.items.Item.{Item}
-use Rattle.grammar.specs.Readers.{◌>>=◌, Fails}
-use Rattle.recipe.specs.Spelling.{total}
 use Rattle.recipe.specs.Reading.{item_at, items_at}
-
--- what was read before, and what is still read
-abbrev pub with_front : List Item → Result (List Item × List ℕ) ℕ → Result (List Item × List ℕ) ℕ
-with_front front read = read >>= λ x. Ok (front ++ x.0, x.1)
-
-regroup : (front : List Item) (n : Item) (read : Result (List Item × List ℕ) ℕ) → with_front front (read >>= λ x. Ok (n ∷ x.0, x.1)) ≡ with_front (front ++ n ∷ []) read
-regroup front n (Ok x) = ap (λ (ns : List Item). Ok (ns, x.1)) (simp append_assoc)
-regroup front n (Err f) = refl
+use Rattle.recipe.specs.Totals.{len_at, with_sum}
 
 one_more : (m : ℕ) → eqb (suc m) 1 ≡ eqb m 0
 one_more zero = refl
 one_more (suc m) = ne_eqb (suc (suc m)) 1 (λ h. omega arith) ∙ sym (ne_eqb (suc m) 0 (λ h. omega arith))
 
-same_last : (count i m : ℕ) → count - i ≡ suc m → eqb (count - i) 1 ≡ eqb m 0
+pub same_last : (count i m : ℕ) → count - i ≡ suc m → eqb (count - i) 1 ≡ eqb m 0
 same_last count i m e = ap (λ (n : ℕ). eqb n 1) e ∙ one_more m
 
-pub goes_on : (front : List Item) (count i : ℕ) (bytes : List ℕ) (n : Item) (after : List ℕ) (total : Result (List Item × List ℕ) ℕ) → i < count → item_at (eqb (count - i) 1) bytes ≡ Ok (n, after)
-    → with_front front (items_at (count - i) bytes) ≡ total → with_front (front ++ n ∷ []) (items_at (count - (i + 1)) after) ≡ total
+-- an item's length and those of the others
+abbrev lens : Result (Item × List ℕ) ℕ → Result (ℕ × List ℕ) ℕ
+lens read = read >>= λ x. Ok (x.0.secret_len, x.1)
+
+abbrev summed : ℕ → ℕ → Result (ℕ × List ℕ) ℕ → Result (ℕ × List ℕ) ℕ
+summed sum m read = read >>= λ x. with_sum (sum + x.0) (items_at m x.1)
+
+abbrev before : Item → Result (List Item × List ℕ) ℕ → Result (List Item × List ℕ) ℕ
+before first read = read >>= λ x. Ok (first ∷ x.0, x.1)
+
+abbrev front : ℕ → Result (Item × List ℕ) ℕ → Result (List Item × List ℕ) ℕ
+front m read = read >>= λ x. before x.0 (items_at m x.1)
+
+with_others : (sum : ℕ) (first : Item) (read : Result (List Item × List ℕ) ℕ) → with_sum sum (before first read) ≡ with_sum (sum + first.secret_len) read
+with_others sum first (Ok x) = ap (λ (n : ℕ). Ok (n, x.1)) (omega (arith, sum_by-cons (λ (i : Item). i.secret_len) first x.0))
+with_others sum first (Err e) = refl
+
+with_first : (sum m : ℕ) (read : Result (Item × List ℕ) ℕ) → with_sum sum (front m read) ≡ summed sum m (lens read)
+with_first sum m (Ok x) = with_others sum x.0 (items_at m x.1)
+with_first sum m (Err e) = refl
+
+step : (sum m : ℕ) (bytes : List ℕ) → with_sum sum (items_at (suc m) bytes) ≡ summed sum m (len_at (eqb m 0) bytes)
 unfolding items_at
-goes_on front count i bytes n after total lt h so_far =
+step sum m bytes = with_first sum m (item_at (eqb m 0) bytes)
+
+pub goes_on : (sum count i : ℕ) (bytes : List ℕ) (len : ℕ) (after : List ℕ) (all : Result (ℕ × List ℕ) ℕ) → i < count → len_at (eqb (count - i) 1) bytes ≡ Ok (len, after)
+    → with_sum sum (items_at (count - i) bytes) ≡ all → with_sum (sum + len) (items_at (count - (i + 1)) after) ≡ all
+goes_on sum count i bytes len after all lt h so_far =
     let k : count - i ≡ suc (count - (i + 1)) = omega arith in
-    let h2 : item_at (eqb (count - (i + 1)) 0) bytes ≡ Ok (n, after) = ap (λ (b : Bool). item_at b bytes) (sym (same_last count i (count - (i + 1)) k)) ∙ h in
-    let one : with_front front (items_at (count - i) bytes) ≡ with_front (front ++ n ∷ []) (items_at (count - (i + 1)) after) = rw (k, h2) (regroup front n (items_at (count - (i + 1)) after)) in
+    let h2 : len_at (eqb (count - (i + 1)) 0) bytes ≡ Ok (len, after) = ap (λ (b : Bool). len_at b bytes) (sym (same_last count i (count - (i + 1)) k)) ∙ h in
+    let one : with_sum sum (items_at (count - i) bytes) ≡ with_sum (sum + len) (items_at (count - (i + 1)) after) =
+    ap (λ (m : ℕ). with_sum sum (items_at m bytes)) k ∙ step sum (count - (i + 1)) bytes ∙ ap (summed sum (count - (i + 1))) h2 in
     sym one ∙ so_far
 
-pub ends : (e : Stop) (front : List Item) (count i : ℕ) (bytes : List ℕ) (total : Result (List Item × List ℕ) ℕ) → i < count → Fails e (item_at (eqb (count - i) 1) bytes)
-    → with_front front (items_at (count - i) bytes) ≡ total → Fails e total
-unfolding items_at
-ends stops.Memory front count i bytes total lt h so_far = tt
-ends (stops.Left f) front count i bytes total lt h so_far =
+pub stops : (left sum count i : ℕ) (bytes : List ℕ) (all : Result (ℕ × List ℕ) ℕ) → i < count → len_at (eqb (count - i) 1) bytes ≡ Err left
+    → with_sum sum (items_at (count - i) bytes) ≡ all → all ≡ Err left
+stops left sum count i bytes all lt h so_far =
     let k : count - i ≡ suc (count - (i + 1)) = omega arith in
-    let h2 : item_at (eqb (count - (i + 1)) 0) bytes ≡ Err f = ap (λ (b : Bool). item_at b bytes) (sym (same_last count i (count - (i + 1)) k)) ∙ h in
-    let one : with_front front (items_at (count - i) bytes) ≡ Err f = rw (k, h2) refl in
+    let h2 : len_at (eqb (count - (i + 1)) 0) bytes ≡ Err left = ap (λ (b : Bool). len_at b bytes) (sym (same_last count i (count - (i + 1)) k)) ∙ h in
+    let one : with_sum sum (items_at (count - i) bytes) ≡ Err left =
+    ap (λ (m : ℕ). with_sum sum (items_at m bytes)) k ∙ step sum (count - (i + 1)) bytes ∙ ap (summed sum (count - (i + 1))) h2 in
     sym so_far ∙ one
 
-pub is_done : (front : List Item) (count i : ℕ) (bytes : List ℕ) (total : Result (List Item × List ℕ) ℕ) → count ≤ i → with_front front (items_at (count - i) bytes) ≡ total → total ≡ Ok (front, bytes)
+pub is_done : (sum count i : ℕ) (bytes : List ℕ) (all : Result (ℕ × List ℕ) ℕ) → count ≤ i → with_sum sum (items_at (count - i) bytes) ≡ all → all ≡ Ok (sum, bytes)
 unfolding items_at
-is_done front count i bytes total le so_far =
+is_done sum count i bytes all le so_far =
     let k : count - i ≡ 0 = omega arith in
-    let one : with_front front (items_at (count - i) bytes) ≡ Ok (front, bytes) = rw k (ap (λ (ns : List Item). Ok (ns, bytes)) (append-nil front)) in
+    let one : with_sum sum (items_at (count - i) bytes) ≡ Ok (sum, bytes) = rw k (ap (λ (n : ℕ). Ok (n, bytes)) (omega arith)) in
     sym so_far ∙ one
-
--- the lengths up to one item are no more than all
-pub total_front : (items : List Item) (i : ℕ) (d : Item) → i < length items → total (take i items) + (get_or items i d).secret_len ≤ total items
-total_front items i d lt = sum_by_more_le (λ (x : Item). x.secret_len) items i d lt
-
-pub too_much : (items : List Item) (i : ℕ) (d : Item) (left file : ℕ) → i < length items → left < (get_or items i d).secret_len → left + total (take i items) ≡ file → false ≡ (total items == file)
-too_much items i d left file lt less e = let t = total_front items i d lt in sym (ne_eqb _ _ (λ h. omega arith))

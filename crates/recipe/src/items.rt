@@ -1,6 +1,6 @@
 //! The items of a recipe.
 
-ghost use Rattle.std.specs.Prelude.{◌≡◌, List, [], ◌∷◌, ◌++◌, length, slice_get, OnOk, OnErr, IsTrue, ◌↔◌};
+ghost use Rattle.std.specs.Prelude.{◌≡◌, List, [], ◌∷◌, ◌++◌, length, slice_get, OnOk, OnErr, IfOk, IsTrue, ◌↔◌};
 ghost use Rattle.std.specs.Option.{option_copied};
 
 use cd_base::{Fp, NoMemory};
@@ -39,6 +39,15 @@ impl Items {
         Items {
             items: Vec::new(alloc),
         }
+    }
+
+    /// No items, and memory for so many of them, so that as many are appended with no growth.
+    pub fn with_capacity(alloc: Global, capacity: usize) -> Result<Items, NoMemory>
+        ensures { IfOk result (λ items. items ≡ []) }
+    {
+        Ok(Items {
+            items: Vec::with_capacity(alloc, capacity)?,
+        })
     }
 
     /// Appends an item. For want of memory nothing changes.

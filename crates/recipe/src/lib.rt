@@ -2,12 +2,16 @@
 #![tactic(auto)]
 
 mod items;
+pub mod laws;
 mod reading;
 mod recipe;
+mod rules;
+mod view;
 mod writing;
 
 pub use items::{Item, Items};
-pub use recipe::{Recipe, RecipeErr};
+pub use recipe::{Malformed, Recipe, RecipeErr};
+pub use view::RecipeView;
 
 #[cfg(test)]
 mod tests;

@@ -1,30 +1,37 @@
 use super::*;
-use cd_base::{Bytes, Fp, Shape};
+use cd_base::{Bytes, Fp, NoMemory, Shape};
 use std::alloc::Global;
 use std::test::Fail;
 
-fn fails_at(alloc: Global, bytes: &[u8], place: u32) -> bool {
-    if bytes.len() > 1000 {
-        return false;
+fn read_at(alloc: Global, shape: Shape, bytes: &[u8]) -> Result<Option<u32>, Fail> {
+    if bytes.len() > 2_000_000 {
+        return Err(Fail::new("too long"));
     }
-    match Shape::of(4, 3) {
-        Some(shape) => {
-            Recipe::read(alloc, shape, bytes).err() == Some(RecipeErr::Malformed { at: place })
-        }
-        None => false,
+    match Recipe::read(alloc, shape, bytes) {
+        Ok(_recipe) => Ok(None),
+        Err(RecipeErr::Malformed { at }) => Ok(Some(at)),
+        Err(RecipeErr::NoMemory) => Err(Fail::new("no memory")),
     }
 }
 
-fn reads(alloc: Global, bytes: &[u8], name_len: u16, items: usize) -> bool {
-    if bytes.len() > 1000 {
-        return false;
+fn checked_at(shape: Shape, bytes: &[u8]) -> Option<u32> {
+    if bytes.len() > 2_000_000 {
+        return None;
     }
-    match Shape::of(4, 3) {
-        Some(shape) => match Recipe::read(alloc, shape, bytes) {
-            Ok(recipe) => recipe.name_len == name_len && recipe.items.len() == items,
-            Err(_) => false,
-        },
-        None => false,
+    match RecipeView::check(shape, bytes) {
+        Ok(_view) => None,
+        Err(fault) => Some(fault.at),
+    }
+}
+
+// Where both readers say that the bytes are wrong, or None where both read a recipe.
+fn wrong_at(alloc: Global, bytes: &[u8]) -> Result<Option<u32>, Fail> {
+    let shape = Shape::of(4, 3).unwrap_or(Shape { n: 4, k: 3 });
+    let at = read_at(alloc, shape, bytes)?;
+    if at == checked_at(shape, bytes) {
+        Ok(at)
+    } else {
+        Err(Fail::new("two places"))
     }
 }
 
@@ -39,30 +46,26 @@ fn empty_recipe(alloc: Global) -> Result<Bytes, Fail> {
 
 #[test]
 fn an_empty_file(rt: HostRuntime) -> Result<(), Fail> {
-    let mut bytes = empty_recipe(rt.alloc())?;
-    assert!(rt; fails_at(rt.alloc(), &[], 0));
-    assert!(rt; fails_at(rt.alloc(), &[0, 0], 0));
-    assert!(rt; fails_at(rt.alloc(), &[4, 1], 0));
-    assert!(rt; fails_at(rt.alloc(), &[0, 1, 7], 3));
-    assert!(rt; reads(rt.alloc(), bytes.as_slice(), 1, 0));
+    let a = rt.alloc();
+    let mut bytes = empty_recipe(a)?;
+    assert_eq!(rt; bytes.len(), 25);
+    assert_eq!(rt; wrong_at(a, bytes.as_slice())?, None);
     bytes.push(5)?;
-    assert!(rt; fails_at(rt.alloc(), bytes.as_slice(), 25));
+    assert_eq!(rt; wrong_at(a, bytes.as_slice())?, Some(25));
     bytes.truncate(24);
     bytes.push(1)?;
-    assert!(rt; fails_at(rt.alloc(), bytes.as_slice(), 21));
+    assert_eq!(rt; wrong_at(a, bytes.as_slice())?, Some(21));
     Ok(())
 }
 
-fn recipe_of(alloc: Global, first: u32, last: u32, file_len: u64) -> Result<Recipe, Fail> {
+fn recipe_of(alloc: Global, lens: &[u32], file_len: u64) -> Result<Recipe, Fail> {
     let mut items = Items::new(alloc);
-    items.push(Item {
-        fp: Fp([9; 32]),
-        secret_len: first,
-    })?;
-    items.push(Item {
-        fp: Fp([8; 32]),
-        secret_len: last,
-    })?;
+    for len in lens {
+        items.push(Item {
+            fp: Fp([9; 32]),
+            secret_len: *len,
+        })?;
+    }
     let mut name_share = Bytes::new(alloc);
     name_share.extend(&[7; 11])?;
     Ok(Recipe {
@@ -73,40 +76,100 @@ fn recipe_of(alloc: Global, first: u32, last: u32, file_len: u64) -> Result<Reci
     })
 }
 
-fn written_fails(
-    alloc: Global,
-    first: u32,
-    last: u32,
-    file_len: u64,
-    place: u32,
-) -> Result<bool, Fail> {
-    let recipe = recipe_of(alloc, first, last, file_len)?;
+fn written(alloc: Global, recipe: &Recipe) -> Result<Bytes, Fail> {
     let mut bytes = Bytes::new(alloc);
     if recipe.items.len() <= 32_768 {
         recipe.write(&mut bytes)?;
     }
-    Ok(fails_at(alloc, bytes.as_slice(), place))
+    Ok(bytes)
 }
 
 #[test]
-fn two_items(rt: HostRuntime) -> Result<(), Fail> {
+fn each_field_wrong(rt: HostRuntime) -> Result<(), Fail> {
     let a = rt.alloc();
-    assert!(rt; written_fails(a, 2048, 1, 2050, 13)?);
-    assert!(rt; written_fails(a, 2047, 1, 2048, 57)?);
-    assert!(rt; written_fails(a, 16_385, 1, 16_386, 57)?);
-    assert!(rt; written_fails(a, 2048, 0, 2048, 93)?);
-    assert!(rt; written_fails(a, 2048, 1, 0, 21)?);
-    assert!(rt; written_fails(a, 2048, 1, 67_108_865, 13)?);
-    let recipe = recipe_of(a, 2048, 1, 2049)?;
-    let mut bytes = Bytes::new(a);
-    if recipe.items.len() <= 32_768 {
-        recipe.write(&mut bytes)?;
+    let right = written(a, &recipe_of(a, &[2048, 1], 2049)?)?;
+    assert_eq!(rt; right.len(), 97);
+    assert_eq!(rt; wrong_at(a, right.as_slice())?, None);
+    // the place of a byte, what it becomes, and where the recipe is wrong then; the name's share and a fingerprint may be
+    // any bytes
+    let cases: [(usize, u8, Option<u32>); 16] = [
+        (1, 0, Some(0)),
+        (0, 5, Some(0)),
+        (1, 4, Some(58)),
+        (2, 0, None),
+        (12, 255, None),
+        (17, 4, Some(13)),
+        (20, 2, Some(13)),
+        (24, 0, Some(21)),
+        (24, 1, Some(61)),
+        (24, 3, Some(93)),
+        (23, 129, Some(21)),
+        (25, 0, None),
+        (59, 7, Some(57)),
+        (59, 9, Some(13)),
+        (96, 0, Some(93)),
+        (95, 64, Some(93)),
+    ];
+    for (place, byte, wanted) in cases {
+        let mut bytes = Bytes::new(a);
+        bytes.extend(right.as_slice())?;
+        if place < bytes.len() {
+            bytes.as_mut_slice()[place] = byte;
+        }
+        assert_eq!(rt; wrong_at(a, bytes.as_slice())?, wanted);
     }
-    assert_eq!(rt; bytes.len(), 97);
-    assert!(rt; reads(a, bytes.as_slice(), 1, 2));
-    for len in 0..bytes.len().min(97) {
-        let (front, _) = bytes.as_slice().split_at(len);
-        assert!(rt; fails_at(a, front, len as u32));
+    Ok(())
+}
+
+#[test]
+fn each_cut(rt: HostRuntime) -> Result<(), Fail> {
+    let a = rt.alloc();
+    let right = written(a, &recipe_of(a, &[2048, 1], 2049)?)?;
+    for len in 0..right.len().min(97) {
+        let (front, _) = right.as_slice().split_at(len);
+        assert_eq!(rt; wrong_at(a, front)?, Some(len as u32));
+    }
+    Ok(())
+}
+
+#[test]
+fn the_most_items(rt: HostRuntime) -> Result<(), Fail> {
+    let a = rt.alloc();
+    let shape = Shape::of(4, 3).unwrap_or(Shape { n: 4, k: 3 });
+    let recipe = recipe_of(a, &[2048; 32_768], 67_108_864)?;
+    assert!(rt; recipe.fits(shape));
+    let bytes = written(a, &recipe)?;
+    assert_eq!(rt; bytes.len(), 25 + 36 * 32_768);
+    assert_eq!(rt; wrong_at(a, bytes.as_slice())?, None);
+    let longer = recipe_of(a, &[2048; 32_768], 67_108_863)?;
+    assert!(rt; !longer.fits(shape));
+    assert_eq!(rt; wrong_at(a, written(a, &longer)?.as_slice())?, Some(13));
+    Ok(())
+}
+
+// What a view shows of the recipe of two items.
+fn shows(view: &RecipeView) -> bool {
+    let second = view.item_at(1);
+    view.name_len() == 1
+        && view.name_share().len() == 11
+        && view.file_len() == 2049
+        && view.count() == 2
+        && view.bytes().len() == 97
+        && second.map(|item| item.secret_len) == Some(1)
+        && second.map(|item| item.fp) == Some(Fp([9; 32]))
+        && view.item_at(2).is_none()
+}
+
+#[test]
+fn a_view(rt: HostRuntime) -> Result<(), Fail> {
+    let a = rt.alloc();
+    let shape = Shape::of(4, 3).unwrap_or(Shape { n: 4, k: 3 });
+    let bytes = written(a, &recipe_of(a, &[2048, 1], 2049)?)?;
+    if bytes.len() == 97 {
+        let Ok(view) = RecipeView::check(shape, bytes.as_slice()) else {
+            return Err(Fail::new("another answer"));
+        };
+        assert!(rt; shows(&view));
     }
     Ok(())
 }
