@@ -1,0 +1,3 @@
+pub mod Secrets
+pub mod Recipes
+pub mod Shares

@@ -1,0 +1,145 @@
+-- Shares that are given to the clouds one secret after the other.
+use Rattle.std.proofs.Common.{◌≡◌, ℕ, zero, suc, ◌+◌, ◌-◌, ◌*◌, ◌<◌, ◌≤◌, List, [], ◌∷◌, ◌++◌, length, map, take, drop, get_or, set, slice_range, refl, sym, ap, ◌∙◌, subst, arith, append_assoc, drop-cons, add-one, inl, inr}
+use Rattle.std.specs.List.{flat_map, range_with_len}
+use Rattle.std.proofs.Math.Nat.{mul-le-mul_right}
+use Rattle.std.proofs.lemmas.Bool.{cases_lt}
+use Rattle.std.proofs.lemmas.List.{append-nil, drop_all, take_at, take-append-drop, get_or_default, map-append, flat_map_more, get_or-set_same, get_or-set_other}
+use Rattle.std.proofs.lemmas.List.FromFn.{fill_by_all, get_or-map-range_with_len, map-range_with_len_more, length-map-range_with_len}
+use Rattle.cd_base.specs.declared.shape.Shape.{Shape}
+use Rattle.caont_rs.specs.Package.{share}
+use Rattle.reed_solomon.specs.Dispersal.{row}
+use Rattle.rabin_chunker.specs.Cuts.{ends}
+use Rattle.rabin_chunker.specs.Rule.{IsFirstEnd, IsCutFrom}
+use Rattle.recipe.specs.declared.items.Item.{Item}
+use Rattle.file_recipe.specs.FileRecipe.{parts_from, secrets, item_of, shares_at}
+use Rattle.file_recipe.specs.Clouds.{cloud_file, dispersed}
+use Rattle.file_recipe.specs.Progress.{unshared, with_share, with_secrets, EachWithShare, EachWithSecrets}
+use Rattle.file_recipe.specs.declared.cloud_file.CloudFile.{CloudFile}
+
+-- ---- one secret's shares, cloud after cloud
+
+-- the clouds below c have theirs
+pub record GivenBelow (len width : ℕ) (shares : List ℕ) (c : ℕ) (before now : List CloudFile) : Type 0 where
+  pub given : (j : ℕ) (d : CloudFile) → j < c → get_or now j d ≡ with_share (get_or before j d) len (row width j shares)
+  pub left : (j : ℕ) (d : CloudFile) → c ≤ j → get_or now j d ≡ get_or before j d
+
+pub given_none : (len width : ℕ) (shares : List ℕ) (before : List CloudFile) → GivenBelow len width shares 0 before before
+given_none len width shares before = record { given = λ j d lt. absurd (omega arith); left = λ j d le. refl }
+
+pub given_more : (len width : ℕ) (shares bytes : List ℕ) (c : ℕ) (before now : List CloudFile) (x new : CloudFile) → GivenBelow len width shares c before now → c < length now → x ≡ get_or now c x → bytes ≡ row width c shares → new ≡ with_share x len bytes
+    → GivenBelow len width shares (c + 1) before (set now c new)
+given_more len width shares bytes c before now x new h lt at is e = record {
+  given = λ j d below. elim (cases_lt j c) [
+    | inl l ↦ get_or-set_other now c j new d (λ k. omega arith) ∙ h.given j d l
+    | inr le ↦
+        let same : j ≡ c = omega arith in
+        let one : get_or (set now c new) c d ≡ with_share (get_or before c d) len (row width c shares) =
+        get_or-set_same now c new d lt ∙ e ∙ ap (λ (b : List ℕ). with_share x len b) is
+        ∙ ap (λ (f : CloudFile). with_share f len (row width c shares)) (at ∙ get_or_default now c x d lt ∙ h.left c d (omega arith)) in
+        subst (λ (i : ℕ). get_or (set now c new) i d ≡ with_share (get_or before i d) len (row width i shares)) (sym same) one
+  ];
+  left = λ j d le. get_or-set_other now c j new d (λ k. omega arith) ∙ h.left j d (omega arith);
+}
+
+pub given_all : (len width : ℕ) (shares : List ℕ) (c : ℕ) (before now : List CloudFile) → length before ≤ c → GivenBelow len width shares c before now → EachWithShare len width shares before now
+given_all len width shares c before now le h j d lt = h.given j d (omega arith)
+
+pub row_within : (width c n total : ℕ) → c < n → total ≡ n * width → c * width + width ≤ total
+row_within width c n total lt e = let le : (c + 1) * width ≤ n * width = mul-le-mul_right width (omega arith) in let next : (c + 1) * width ≡ c * width + width = grind arith in omega arith
+
+pub row_is : (width c : ℕ) (shares : List ℕ) → take (c * width + width - c * width) (drop (c * width) shares) ≡ row width c shares
+row_is width c shares = ap (λ (m : ℕ). take m (drop (c * width) shares)) (omega arith)
+
+-- ---- secret after secret
+
+one_secret : (s : Shape) (j : ℕ) (f : CloudFile) (ts : List (List ℕ)) (secret : List ℕ) → with_share (with_secrets s j f ts) (length secret) (share s j secret) ≡ with_secrets s j f (ts ++ secret ∷ [])
+one_secret s j f ts secret =
+    let items : (f.recipe.items ++ map (item_of s j) ts) ++ item_of s j secret ∷ [] ≡ f.recipe.items ++ map (item_of s j) (ts ++ secret ∷ []) =
+    append_assoc f.recipe.items (map (item_of s j) ts) (item_of s j secret ∷ []) ∙ ap (λ (is : List Item). f.recipe.items ++ is) (sym (map-append (item_of s j) ts (secret ∷ []))) in
+    let shares : (f.shares ++ flat_map (share s j) ts) ++ share s j secret ≡ f.shares ++ flat_map (share s j) (ts ++ secret ∷ []) = flat_map_more (share s j) f.shares ts secret in
+    rw (items, shares) refl
+
+no_secrets : (s : Shape) (j : ℕ) (f : CloudFile) → with_secrets s j f [] ≡ f
+no_secrets s j f = rw (append-nil f.recipe.items, append-nil f.shares) refl
+
+-- where the reader is: the secrets before are given, and those from here on are the rest
+pub record Along (s : Shape) (file es : List ℕ) (i start : ℕ) (before now : List CloudFile) : Type 0 where
+  pub cut : IsCutFrom file start (drop i es)
+  pub rest : drop i (secrets file) ≡ parts_from file start (drop i es)
+  pub each : EachWithSecrets s (take i (secrets file)) before now
+
+pub along_none : (s : Shape) (file es : List ℕ) (before : List CloudFile) → IsCutFrom file 0 (ends file) → es ≡ ends file → Along s file es 0 0 before before
+unfolding secrets
+along_none s file es before cut e = record {
+  cut = subst (λ (xs : List ℕ). IsCutFrom file 0 xs) (sym e) cut;
+  rest = ap (parts_from file 0) (sym e);
+  each = λ j d lt. sym (no_secrets s j (get_or before j d));
+}
+
+pub here : (es : List ℕ) (i : ℕ) → i < length es → drop i es ≡ get_or es i 0 ∷ drop (i + 1) es
+here es i lt = rw (add-one, drop-cons es i 0 lt) refl
+
+pub next_end : (s : Shape) (file es : List ℕ) (i start : ℕ) (before now : List CloudFile) → Along s file es i start before now → i < length es → IsFirstEnd file start (get_or es i 0)
+next_end s file es i start before now h lt = let both = subst (λ (xs : List ℕ). IsCutFrom file start xs) (here es i lt) h.cut in both.0
+
+first_is : {A : Type 0} (x y : A) (xs ys : List A) → x ∷ xs ≡ y ∷ ys → x ≡ y
+first_is x y xs ys e = cc
+
+taken : (xs ys : List (List ℕ)) (i : ℕ) (y : List ℕ) → drop i xs ≡ y ∷ ys → (take (suc i) xs ≡ take i xs ++ y ∷ []) × (drop (suc i) xs ≡ ys)
+taken [] ys zero y e = absurd cc
+taken [] ys (suc i) y e = absurd cc
+taken (x ∷ xs) ys zero y e = (ap (λ (z : List ℕ). z ∷ []) (first_is x y xs ys e), cc)
+taken (x ∷ xs) ys (suc i) y e = let t = taken xs ys i y e in (ap (λ (zs : List (List ℕ)). x ∷ zs) t.0, t.1)
+
+one_taken : (xs ys : List (List ℕ)) (i : ℕ) (y : List ℕ) → drop i xs ≡ y ∷ ys → (take (i + 1) xs ≡ take i xs ++ y ∷ []) × (drop (i + 1) xs ≡ ys)
+one_taken xs ys i y e = let next : suc i ≡ i + 1 = omega arith in subst (λ (m : ℕ). (take m xs ≡ take i xs ++ y ∷ []) × (drop m xs ≡ ys)) next (taken xs ys i y e)
+
+pub along_more : (s : Shape) (file es : List ℕ) (i start len width : ℕ) (shares : List ℕ) (before mid now : List CloudFile) → Along s file es i start before mid → i < length es → length mid ≡ s.n
+    → len ≡ length (slice_range file start (get_or es i 0)) → ((j : ℕ) → j < s.n → row width j shares ≡ share s j (slice_range file start (get_or es i 0)))
+    → EachWithShare len width shares mid now → Along s file es (i + 1) (get_or es i 0) before now
+along_more s file es i start len width shares before mid now h lt clouds is rows step =
+    let secret : List ℕ = slice_range file start (get_or es i 0) in
+    let both = subst (λ (xs : List ℕ). IsCutFrom file start xs) (here es i lt) h.cut in
+    let t = one_taken (secrets file) (parts_from file (get_or es i 0) (drop (i + 1) es)) i secret (h.rest ∙ ap (parts_from file start) (here es i lt)) in
+    record {
+      cut = both.1;
+      rest = t.1;
+      each = λ j d below.
+          let f : CloudFile = get_or before j d in
+          step j d (omega arith)
+          ∙ ap (λ (g : CloudFile). with_share g len (row width j shares)) (h.each j d below)
+          ∙ ap (λ (n : ℕ). with_share (with_secrets s j f (take i (secrets file))) n (row width j shares)) is
+          ∙ ap (λ (b : List ℕ). with_share (with_secrets s j f (take i (secrets file))) (length secret) b) (rows j below)
+          ∙ one_secret s j f (take i (secrets file)) secret
+          ∙ ap (with_secrets s j f) (sym t.0);
+    }
+
+pub along_all : (s : Shape) (file es : List ℕ) (i start : ℕ) (before now : List CloudFile) → Along s file es i start before now → length es ≤ i → EachWithSecrets s (secrets file) before now
+along_all s file es i start before now h le =
+    let none : drop i (secrets file) ≡ [] = h.rest ∙ ap (parts_from file start) (drop_all i es le) in
+    let all : take i (secrets file) ≡ secrets file = sym (append-nil (take i (secrets file))) ∙ ap (λ (xs : List (List ℕ)). take i (secrets file) ++ xs) (sym none) ∙ take-append-drop i (secrets file) in
+    subst (λ (ts : List (List ℕ)). EachWithSecrets s ts before now) all h.each
+
+-- ---- all clouds
+
+pub all_dispersed : (s : Shape) (path file : List ℕ) (before now : List CloudFile) → before ≡ map (λ j. unshared s j path file) (range_with_len 0 s.n) → length now ≡ s.n → EachWithSecrets s (secrets file) before now → now ≡ dispersed s path file
+unfolding dispersed shares_at
+all_dispersed s path file before now e len each =
+    let d : CloudFile = unshared s 0 path file in
+    fill_by_all (λ (j : ℕ). cloud_file s j path file) now s.n d len (λ j lt.
+    each j d lt ∙ ap (λ (f : CloudFile). with_secrets s j f (secrets file)) (ap (λ (xs : List CloudFile). get_or xs j d) e ∙ get_or-map-range_with_len (λ (i : ℕ). unshared s i path file) 0 s.n j j d lt (omega arith)))
+
+-- ---- what stands there before the first secret
+
+pub one_unshared : (s : Shape) (path file : List ℕ) (c : ℕ) (before : List CloudFile) (new : CloudFile) → before ≡ map (λ j. unshared s j path file) (range_with_len 0 c) → new ≡ unshared s c path file
+    → before ++ new ∷ [] ≡ map (λ j. unshared s j path file) (range_with_len 0 (c + 1))
+one_unshared s path file c before new e made =
+    ap (λ (xs : List CloudFile). xs ++ new ∷ []) e ∙ ap (λ (x : CloudFile). map (λ j. unshared s j path file) (range_with_len 0 c) ++ x ∷ []) made
+    ∙ sym (map-range_with_len_more (λ (j : ℕ). unshared s j path file) 0 c c (omega arith))
+
+pub length-unshared : (s : Shape) (path file : List ℕ) → length (map (λ j. unshared s j path file) (range_with_len 0 s.n)) ≡ s.n
+length-unshared s path file = length-map-range_with_len (λ (j : ℕ). unshared s j path file) 0 s.n
+
+-- what a list holds that was lent whole
+pub written_back : (new old : List CloudFile) (len : ℕ) → length new ≡ len → take len (new ++ drop (length new) old) ≡ new
+written_back new old len e = take_at new (drop (length new) old) len e

@@ -1,0 +1,3 @@
+pub mod FileRecipe
+pub mod Clouds
+pub mod Progress

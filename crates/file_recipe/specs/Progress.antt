@@ -1,0 +1,38 @@
+-- What each cloud has of a file as its secrets are dispersed one after the other.
+use Rattle.std.specs.Prelude.{◌≡◌, ℕ, ◌<◌, List, [], ◌∷◌, ◌++◌, length, map, slice_index_or}
+use Rattle.std.specs.List.{flat_map}
+use Rattle.sha2.specs.Sha256.{sha256}
+use Rattle.cd_base.specs.declared.shape.Shape.{Shape}
+use Rattle.caont_rs.specs.Package.{share}
+use Rattle.reed_solomon.specs.Dispersal.{row}
+use Rattle.file_recipe.specs.FileRecipe.{item_of}
+use Rattle.file_recipe.specs.declared.cloud_file.CloudFile.{CloudFile}
+
+-- what cloud j has before the first secret
+abbrev pub unshared : Shape → ℕ → List ℕ → List ℕ → CloudFile
+unshared s j path file = record {
+  recipe = record { name_len = length path; name_share = share s j path; file_len = length file; items = [] };
+  shares = [];
+}
+
+-- and with one share more
+abbrev pub with_share : CloudFile → ℕ → List ℕ → CloudFile
+with_share f len bytes = record {
+  recipe = record { name_len = f.recipe.name_len; name_share = f.recipe.name_share; file_len = f.recipe.file_len; items = f.recipe.items ++ record { fp = record { 0 = sha256 bytes }; secret_len = len } ∷ [] };
+  shares = f.shares ++ bytes;
+}
+
+-- and with those of several secrets
+abbrev pub with_secrets : Shape → ℕ → CloudFile → List (List ℕ) → CloudFile
+with_secrets s j f secrets = record {
+  recipe = record { name_len = f.recipe.name_len; name_share = f.recipe.name_share; file_len = f.recipe.file_len; items = f.recipe.items ++ map (item_of s j) secrets };
+  shares = f.shares ++ flat_map (share s j) secrets;
+}
+
+-- each cloud has one share more, of those that lie one after another
+abbrev pub EachWithShare : ℕ → ℕ → List ℕ → List CloudFile → List CloudFile → Type 0
+EachWithShare len width shares before now = (j : ℕ) (d : CloudFile) → j < length before → slice_index_or now j d ≡ with_share (slice_index_or before j d) len (row width j shares)
+
+-- each cloud has the shares of these secrets more
+abbrev pub EachWithSecrets : Shape → List (List ℕ) → List CloudFile → List CloudFile → Type 0
+EachWithSecrets s secrets before now = (j : ℕ) (d : CloudFile) → j < s.n → slice_index_or now j d ≡ with_secrets s j (slice_index_or before j d) secrets

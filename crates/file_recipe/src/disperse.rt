@@ -1,0 +1,184 @@
+//! Dispersing a file.
+
+ghost use Rattle.std.specs.Prelude.{◌≡◌, ◌+◌, ◌*◌, ◌/◌, ◌≤◌, ◌<◌, ℕ, [], length, map, min, OnOk, IfOk};
+ghost use Rattle.std.specs.List.{range_with_len};
+ghost use Rattle.cd_base.specs.Limits.{IsPath};
+ghost use Rattle.reed_solomon.specs.Dispersal.{row};
+ghost use Rattle.rabin_chunker.specs.Cuts.{ends as ends_of_file};
+ghost use Rattle.caont_rs.specs.Package.{share};
+ghost use Rattle.recipe.specs.Spelling.{file_limit, item_limit};
+ghost use Rattle.file_recipe.specs.FileRecipe.{secrets};
+ghost use Rattle.file_recipe.specs.Clouds.{dispersed};
+ghost use Rattle.file_recipe.specs.Progress.{unshared, EachWithShare, EachWithSecrets};
+
+use crate::{CloudFile, CloudFiles};
+use caont_rs::disperse;
+use cd_base::{Bytes, Ends, NoMemory, Shape, share_len};
+use rabin_chunker::Chunker;
+use recipe::{Items, Recipe};
+use std::alloc::Global;
+
+// The ends of a file's secrets.
+fn ends_of(alloc: Global, file: &[u8]) -> Result<Ends, NoMemory>
+    requires { length file.now ≤ file_limit }
+    ensures { IfOk result (λ cuts. cuts ≡ ends_of_file file.now) }
+{
+    let mut cuts = Ends::new(alloc);
+    let mut chunker = Chunker::new();
+    chunker.feed(file, &mut cuts)?;
+    chunker.finish(&mut cuts)?;
+    Ok(cuts)
+}
+
+// An empty list that has room for so many bytes.
+fn with_room(alloc: Global, room: usize) -> Result<Bytes, NoMemory>
+    ensures { IfOk result (λ bytes. bytes ≡ []) }
+{
+    let mut bytes = Bytes::new(alloc);
+    bytes.resize(room, 0)?;
+    bytes.clear();
+    Ok(bytes)
+}
+
+// How many bytes the shares of a file's secrets have at one cloud, or a few more: the k-th part of the file's bytes and of
+// 31 + k more for each of its secrets.
+fn room_of(shape: Shape, file_len: usize, count: usize) -> usize
+    requires { file_len ≤ file_limit }
+    ensures { result ≡ (file_len + min count item_limit * (31 + shape.k)) / shape.k }
+{
+    let k = shape.k as usize;
+    (file_len + count.min(32_768) * (31 + k)) / k
+}
+
+// What a cloud has before the first secret, with room for as many.
+fn unshared_file(
+    alloc: Global,
+    shape: Shape,
+    path: &[u8],
+    file: &[u8],
+    name: &[u8],
+    count: usize,
+) -> Result<CloudFile, NoMemory>
+    requires path { IsPath path.now }
+    requires few { length file.now ≤ file_limit }
+    ensures { IfOk result (λ f. (j : ℕ) → name.now ≡ share shape j path.now → f ≡ unshared shape j path.now file.now) }
+{
+    let mut name_share = Bytes::new(alloc);
+    name_share.extend(name)?;
+    let items = Items::with_capacity(alloc, count)?;
+    let shares = with_room(alloc, room_of(shape, file.len(), count))?;
+    Ok(CloudFile {
+        recipe: Recipe {
+            name_len: path.len() as u16,
+            name_share,
+            file_len: file.len() as u64,
+            items,
+        },
+        shares,
+    })
+}
+
+// What each cloud has before the first secret, where the shares of the path lie one after another.
+fn each_unshared(
+    alloc: Global,
+    shape: Shape,
+    path: &[u8],
+    file: &[u8],
+    width: usize,
+    names: &[u8],
+    count: usize,
+) -> Result<Vec<CloudFile>, NoMemory>
+    requires path { IsPath path.now }
+    requires few { length file.now ≤ file_limit }
+    requires room { length names.now ≡ shape.n * width }
+    requires names { (j : ℕ) → j < shape.n → row width j names.now ≡ share shape j path.now }
+    ensures { IfOk result (λ files. files.items ≡ map (λ j. unshared shape j path.now file.now) (range_with_len 0 shape.n)) }
+{
+    let mut files = Vec::with_capacity(alloc, shape.n as usize)?;
+    for cloud in 0..shape.n as usize {
+        let name = &names[cloud * width..cloud * width + width];
+        let unshared = unshared_file(alloc, shape, path, file, name, count)?;
+        files.push(unshared)?;
+    }
+    Ok(files)
+}
+
+// What each cloud has before the first secret.
+fn unshared_files(
+    alloc: Global,
+    shape: Shape,
+    path: &[u8],
+    file: &[u8],
+    count: usize,
+) -> Result<Vec<CloudFile>, NoMemory>
+    requires path { IsPath path.now }
+    requires few { length file.now ≤ file_limit }
+    ensures { IfOk result (λ files. files.items ≡ map (λ j. unshared shape j path.now file.now) (range_with_len 0 shape.n)) }
+{
+    let mut names = Bytes::new(alloc);
+    disperse(shape, path, &mut names)?;
+    let width = share_len(shape, path.len() as u32) as usize;
+    each_unshared(alloc, shape, path, file, width, names.as_slice(), count)
+}
+
+// Gives each cloud its share of a secret, of those that lie one after another.
+fn add_shares(
+    files: &mut [CloudFile],
+    secret_len: u32,
+    width: usize,
+    shares: &[u8],
+) -> Result<(), NoMemory>
+    requires { length shares.now ≡ length files.old * width }
+    ensures { OnOk result (EachWithShare secret_len width shares.now files.old files.new) }
+{
+    for cloud in 0..files.len() {
+        let file = &mut files[cloud];
+        file.add(secret_len, &shares[cloud * width..cloud * width + width])?;
+    }
+    Ok(())
+}
+
+// Disperses each secret of a file, and gives each cloud its share.
+fn add_secrets(
+    alloc: Global,
+    shape: Shape,
+    file: &[u8],
+    ends: &[u64],
+    files: &mut [CloudFile],
+) -> Result<(), NoMemory>
+    requires few { length file.now ≤ file_limit }
+    requires ends { ends.now ≡ ends_of_file file.now }
+    requires clouds { length files.old ≡ shape.n }
+    ensures { OnOk result (EachWithSecrets shape (secrets file.now) files.old files.new) }
+{
+    let mut shares = Bytes::new(alloc);
+    let mut start = 0;
+    for end in ends {
+        let secret = &file[start..*end as usize];
+        disperse(shape, secret, &mut shares)?;
+        let width = share_len(shape, secret.len() as u32) as usize;
+        add_shares(files, secret.len() as u32, width, shares.as_slice())?;
+        start = *end as usize;
+    }
+    Ok(())
+}
+
+/// Disperses a file of at most 67,108,864 bytes under its path: it is cut into secrets once, each secret is dispersed
+/// once, and each cloud gets its shares and its recipe. They are a function of the shape, the path and the bytes alone.
+///
+/// The shares of a cloud are taken in one growth, of the k-th part of the file and a few bytes a secret.
+pub fn disperse_file(
+    alloc: Global,
+    shape: Shape,
+    path: &[u8],
+    file: &[u8],
+) -> Result<CloudFiles, NoMemory>
+    requires path { IsPath path.now }
+    requires few { length file.now ≤ file_limit }
+    ensures { IfOk result (λ files. files ≡ dispersed shape path.now file.now) }
+{
+    let ends = ends_of(alloc, file)?;
+    let mut files = unshared_files(alloc, shape, path, file, ends.len())?;
+    add_secrets(alloc, shape, file, ends.as_slice(), files.as_mut_slice())?;
+    Ok(CloudFiles::of(files))
+}
