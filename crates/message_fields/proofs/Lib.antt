@@ -1,0 +1,5 @@
+pub mod PartLaws
+pub mod Loops
+pub mod FpLaws
+pub mod ShareLaws
+pub mod KeyLaws
