@@ -1,0 +1,4 @@
+pub mod ByKind
+pub mod RequestLaws
+pub mod ReplyLaws
+pub mod Copying

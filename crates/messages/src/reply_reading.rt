@@ -1,0 +1,261 @@
+//! Reading a reply.
+
+ghost use Rattle.std.specs.Prelude.{◌≡◌, ◌<◌, ◌^◌, length, Ok, ◌↔◌};
+ghost use Rattle.std.specs.Int.{w16};
+ghost use Rattle.grammar.specs.Readers.{Gives, done_at};
+ghost use Rattle.grammar.specs.Fields.{number_at, checked};
+ghost use Rattle.message_fields.specs.Parts.{byte_as};
+ghost use Rattle.message_fields.specs.Readings.{IsReading};
+ghost use Rattle.messages.specs.declared.reply.Reply.{Reply};
+ghost use Rattle.messages.specs.Replies.{IsReply};
+ghost use Rattle.messages.specs.ReplyReading.{format_of, room_of, is_new_count, hello_left, known_left, stored_left, lacking_left, recipe_left, shares_left, not_yours_left, entries_left, full_left, damaged_left, rotten_left, malformed_left, plain_left, reply_left, reply_at};
+ghost use Rattle.messages.specs.Outcome.{IsRead};
+
+use crate::copies::{bytes_copy, shares_copy};
+use crate::{MsgErr, Reply};
+use cd_base::Room;
+use grammar::Stop;
+use message_fields::{
+    Left, byte_of, ended, entries_of, flags_of, fp_of, shares_of, u16_of, u32_of, u64_of,
+};
+use std::alloc::Global;
+
+// The format, which is 1.
+fn format_byte_of(bytes: &[u8]) -> Result<(u8, &[u8]), Left>
+    ensures { IsReading (λ x. (x.0, x.1.now)) result (byte_as format_of bytes.now) }
+{
+    match bytes {
+        [] => Err(Left(0)),
+        [1, rest @ ..] => Ok((1, rest)),
+        _ => Err(Left(bytes.len())),
+    }
+}
+
+// A room's number, from 1 to 6.
+fn room_byte_of(bytes: &[u8]) -> Result<(Room, &[u8]), Left>
+    ensures { IsReading (λ x. (x.0, x.1.now)) result (byte_as room_of bytes.now) }
+{
+    match bytes {
+        [] => Err(Left(0)),
+        [1, rest @ ..] => Ok((Room::Shares, rest)),
+        [2, rest @ ..] => Ok((Room::Recipes, rest)),
+        [3, rest @ ..] => Ok((Room::Journal, rest)),
+        [4, rest @ ..] => Ok((Room::Fps, rest)),
+        [5, rest @ ..] => Ok((Room::Owners, rest)),
+        [6, rest @ ..] => Ok((Room::Files, rest)),
+        _ => Err(Left(bytes.len())),
+    }
+}
+
+// A number from 0 to 256.
+fn new_count_of(bytes: &[u8]) -> Result<(u16, &[u8]), Left>
+    ensures { IsReading (λ x. (x.0, x.1.now)) result (checked is_new_count (number_at w16) bytes.now) }
+{
+    let (new, rest) = u16_of(bytes)?;
+    if new <= 256 {
+        Ok((new, rest))
+    } else {
+        Err(Left(bytes.len()))
+    }
+}
+
+#[tactic(auto, unfolding(crate::specs::ReplyReading::hello_left))]
+fn hello_of(fields: &[u8]) -> Result<Reply, Left>
+    ensures { IsReading (λ r. r) result (hello_left fields.now) }
+{
+    let (n, rest) = byte_of(fields)?;
+    let (k, rest) = byte_of(rest)?;
+    let (cloud, rest) = byte_of(rest)?;
+    let (format, rest) = format_byte_of(rest)?;
+    ended(rest)?;
+    Ok(Reply::Hello {
+        n,
+        k,
+        cloud,
+        format,
+    })
+}
+
+#[tactic(auto, unfolding(crate::specs::ReplyReading::known_left))]
+fn known_of(alloc: Global, fields: &[u8]) -> Result<Reply, Stop>
+    ensures { Gives (λ r. r) result (known_left fields.now) }
+{
+    let (flags, rest) = flags_of(fields)?;
+    ended(rest)?;
+    let flags = bytes_copy(alloc, flags)?;
+    Ok(Reply::Known { flags })
+}
+
+#[tactic(auto, unfolding(crate::specs::ReplyReading::stored_left))]
+fn stored_of(fields: &[u8]) -> Result<Reply, Left>
+    ensures { IsReading (λ r. r) result (stored_left fields.now) }
+{
+    let (new, rest) = new_count_of(fields)?;
+    ended(rest)?;
+    Ok(Reply::Stored { new })
+}
+
+#[tactic(auto, unfolding(crate::specs::ReplyReading::lacking_left))]
+fn lacking_of(fields: &[u8]) -> Result<Reply, Left>
+    ensures { IsReading (λ r. r) result (lacking_left fields.now) }
+{
+    let (place, rest) = u32_of(fields)?;
+    ended(rest)?;
+    Ok(Reply::Lacking { place })
+}
+
+#[tactic(auto, unfolding(crate::specs::ReplyReading::recipe_left))]
+fn recipe_of(alloc: Global, fields: &[u8]) -> Result<Reply, Stop>
+    ensures { Gives (λ r. r) result (recipe_left fields.now) }
+{
+    match fields {
+        [] => Err(Stop::Left(0)),
+        _ => {
+            let bytes = bytes_copy(alloc, fields)?;
+            Ok(Reply::Recipe { bytes })
+        }
+    }
+}
+
+#[tactic(auto, unfolding(crate::specs::ReplyReading::shares_left))]
+fn reply_shares_of(alloc: Global, fields: &[u8]) -> Result<Reply, Stop>
+    ensures { Gives (λ r. r) result (shares_left fields.now) }
+{
+    let (shares, rest) = shares_of(fields)?;
+    ended(rest)?;
+    let shares = shares_copy(alloc, &shares)?;
+    Ok(Reply::Shares { shares })
+}
+
+#[tactic(auto, unfolding(crate::specs::ReplyReading::not_yours_left))]
+fn not_yours_of(fields: &[u8]) -> Result<Reply, Left>
+    ensures { IsReading (λ r. r) result (not_yours_left fields.now) }
+{
+    let (place, rest) = u16_of(fields)?;
+    ended(rest)?;
+    Ok(Reply::NotYours { place })
+}
+
+#[tactic(auto, unfolding(crate::specs::ReplyReading::entries_left))]
+fn reply_entries_of(alloc: Global, fields: &[u8]) -> Result<Reply, Stop>
+    ensures { Gives (λ r. r) result (entries_left fields.now) }
+{
+    let (entries, rest) = entries_of(alloc, fields)?;
+    ended(rest)?;
+    Ok(Reply::Entries { entries })
+}
+
+#[tactic(auto, unfolding(crate::specs::ReplyReading::full_left))]
+fn full_of(fields: &[u8]) -> Result<Reply, Left>
+    ensures { IsReading (λ r. r) result (full_left fields.now) }
+{
+    let (room, rest) = room_byte_of(fields)?;
+    let (used, rest) = u64_of(rest)?;
+    let (need, rest) = u64_of(rest)?;
+    let (limit, rest) = u64_of(rest)?;
+    ended(rest)?;
+    Ok(Reply::Full {
+        room,
+        used,
+        need,
+        limit,
+    })
+}
+
+#[tactic(auto, unfolding(crate::specs::ReplyReading::damaged_left))]
+fn damaged_of(fields: &[u8]) -> Result<Reply, Left>
+    ensures { IsReading (λ r. r) result (damaged_left fields.now) }
+{
+    let (at, rest) = u64_of(fields)?;
+    let (byte, rest) = byte_of(rest)?;
+    ended(rest)?;
+    Ok(Reply::Damaged { at, byte })
+}
+
+#[tactic(auto, unfolding(crate::specs::ReplyReading::rotten_left))]
+fn rotten_of(fields: &[u8]) -> Result<Reply, Left>
+    ensures { IsReading (λ r. r) result (rotten_left fields.now) }
+{
+    let (named, rest) = fp_of(fields)?;
+    let (found, rest) = fp_of(rest)?;
+    ended(rest)?;
+    Ok(Reply::Rotten { named, found })
+}
+
+#[tactic(auto, unfolding(crate::specs::ReplyReading::malformed_left))]
+fn malformed_of(fields: &[u8]) -> Result<Reply, Left>
+    ensures { IsReading (λ r. r) result (malformed_left fields.now) }
+{
+    let (at, rest) = u32_of(fields)?;
+    ended(rest)?;
+    Ok(Reply::Malformed { at })
+}
+
+// A reply without fields.
+fn bare_of(fields: &[u8], reply: Reply) -> Result<Reply, Left>
+    ensures { IsReading (λ r. r) result (done_at reply fields.now) }
+{
+    ended(fields)?;
+    Ok(reply)
+}
+
+// A reply of a kind that takes no memory, or that is unknown; the content is the kind and the fields.
+#[tactic(auto, unfolding(crate::specs::ReplyReading::plain_left))]
+fn plain_of(kind: u8, fields: &[u8]) -> Result<Reply, Left>
+    requires { length fields.now < 2 ^ 32 }
+    ensures { IsReading (λ r. r) result (plain_left kind fields.now) }
+{
+    match kind {
+        0x81 => hello_of(fields),
+        0x83 => stored_of(fields),
+        0x84 => bare_of(fields, Reply::Committed),
+        0x85 => bare_of(fields, Reply::Exists),
+        0x86 => lacking_of(fields),
+        0x88 => bare_of(fields, Reply::Missing),
+        0x8A => not_yours_of(fields),
+        0x8C => full_of(fields),
+        0x8D => bare_of(fields, Reply::Fault),
+        0x8E => damaged_of(fields),
+        0x8F => rotten_of(fields),
+        0x90 => malformed_of(fields),
+        0x91 => bare_of(fields, Reply::NoMemory),
+        _ => Err(Left(fields.len() + 1)),
+    }
+}
+
+#[tactic(auto, unfolding(crate::specs::ReplyReading::reply_fields_left, crate::specs::ReplyReading::reply_left))]
+fn reply_of(alloc: Global, content: &[u8]) -> Result<Reply, Stop>
+    requires { length content.now < 2 ^ 32 }
+    ensures { Gives (λ r. r) result (reply_left content.now) }
+{
+    match content {
+        [] => Err(Stop::Left(0)),
+        [0x82, fields @ ..] => known_of(alloc, fields),
+        [0x87, fields @ ..] => recipe_of(alloc, fields),
+        [0x89, fields @ ..] => reply_shares_of(alloc, fields),
+        [0x8B, fields @ ..] => reply_entries_of(alloc, fields),
+        [kind, fields @ ..] => Ok(plain_of(*kind, fields)?),
+    }
+}
+
+impl Reply {
+    /// The reply that the content is, all of it. Malformed comes exactly where it is none: fields are read in order; an unknown
+    /// kind gives 0; a field that lacks bytes gives the length of the content, one out of its range its first place; bytes behind
+    /// the last field give the place of the first of them. Of entries that do not rise, the tag is wrong where it is less than
+    /// the one before, and else the version.
+    #[tactic(auto, unfolding(crate::specs::ReplyReading::reply_at))]
+    pub fn read(alloc: Global, content: &[u8]) -> Result<Reply, MsgErr>
+        requires { length content.now < 2 ^ 32 }
+        ensures reads { IsRead result (reply_at content.now) }
+        // Content is read as the reply that it is the spelling of, and no other content is read.
+        ensures grammar { (r : Reply) → (reply_at content.now ≡ Ok r) ↔ IsReply content.now r }
+    {
+        match reply_of(alloc, content) {
+            Ok(reply) => Ok(reply),
+            Err(Stop::Memory) => Err(MsgErr::NoMemory),
+            Err(Stop::Left(left)) => Err(MsgErr::Malformed {
+                at: content.len().saturating_sub(left) as u32,
+            }),
+        }
+    }
+}
