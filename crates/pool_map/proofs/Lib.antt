@@ -4,6 +4,7 @@ pub mod Order
 pub mod Counts
 pub mod Above
 pub mod Steps
+pub mod Ring
 pub mod Chains
 pub mod Unlink
 pub mod Unhash

@@ -178,7 +178,7 @@ impl<K: Key, W: Drop> Table<K, W> for HashTable<K, W> {
 }
 
 // Empties each slot.
-fn empty<T: Drop>(pool: &mut Pool<T>)
+pub(super) fn empty<T: Drop>(pool: &mut Pool<T>)
     ensures slots { pool.new.slots ≡ replicate (length pool.old.slots) Empty }
     ensures limits { pool.new.limits ≡ pool.old.limits }
 {

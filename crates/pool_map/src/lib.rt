@@ -100,6 +100,7 @@ pub trait Table<K: Key, W> {
 mod hashed;
 mod number;
 mod sorted;
+mod tree;
 
 pub use hashed::HashTable;
 pub use number::Number;

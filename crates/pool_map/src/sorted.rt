@@ -1,55 +1,102 @@
-// A table whose slot numbers stand in the order of their keys.
+// A table whose slots are linked in the order of their keys.
+use super::hashed::empty;
+use super::tree::Tree;
 use super::{Entry, Key, Table, TableFull};
-use slot_pool::{Content, Pool, PoolFull, Slot};
+use slot_pool::{Content, Pool, Slot};
 use std::alloc::{AllocError, Global};
 use std::cmp::Ordering;
 use std::marker::Model;
 
-/// A table that is found in by halving, and goes through its keys in order.
+/// A table that goes through its keys in order.
 #[derive(Drop)]
 pub struct SortedTable<K: Key, W> {
     pool: Pool<Entry<K, W>>,
-    // the slots that hold a pair, in the order of their keys
-    order: Vec<u32>,
+    // a ring of the slots that hold a pair, in the order of their keys: the slot after each, and at the number of slots the
+    // first. After the last slot comes the number of slots
+    next: Vec<u32>,
+    // where in the ring to look for a key
+    tree: Tree,
+    // how many slots hold a pair
+    len: u32,
 }
 
 impl<K: Key, W> Model for SortedTable<K, W> {
-    ghost use Rattle.std.specs.Prelude.{◌≤◌, length, vec_capacity};
+    ghost use Rattle.std.specs.Prelude.{◌≡◌, count_by};
     ghost use Rattle.slot_pool.specs.Pool.{Pool as Slots};
     ghost use Rattle.pool_map.specs.declared.Entry.{Entry};
 
     ghost Value = { Slots (Entry K W) };
 
-    ghost use Rattle.pool_map.specs.Index.{IsIndex};
+    ghost use Rattle.pool_map.specs.Table.{is_held};
+    ghost use Rattle.pool_map.specs.Index.{IsOrdered};
 
     ghost view = { λ t. t.pool };
 
-    ghost invariant = { λ t. IsIndex K.cmp t.pool.slots t.order.items × (length t.pool.slots ≤ vec_capacity t.order) };
+    ghost invariant = { λ t. IsOrdered K.cmp t.pool.slots t.next.items × (t.len ≡ count_by is_held t.pool.slots) };
 }
 
-ghost use Rattle.std.specs.Prelude.{IfOk, IfErr};
-ghost use Rattle.pool_map.specs.Index.{IsIndex, IsPlace, IsGap};
+ghost use Rattle.std.specs.Prelude.{◌≡◌, ◌+◌, ◌<◌, IfOk, IfErr, length, replicate, slice_index, slice_set};
+ghost use Rattle.pool_map.specs.Index.{IsOrdered, IsStart, IsBeforeKey, IsBeforeGap};
 
-// Where a key stands in the order, or where it would go.
-fn place<K: Key, W>(pool: &Pool<Entry<K, W>>, order: &[u32], key: &K) -> Result<usize, usize>
-    requires { IsIndex K.cmp pool.now.slots order.now }
-    ensures found { IfOk result (IsPlace K.cmp pool.now.slots order.now key.now) }
-    ensures absent { IfErr result (IsGap K.cmp pool.now.slots order.now key.now) }
+// The slot after which a key stands in the ring, or after which it would go. The search begins at the slot of a smaller key, or
+// at the number of slots.
+fn place<K: Key, W>(pool: &Pool<Entry<K, W>>, next: &[u32], start: u32, key: &K) -> Result<u32, u32>
+    requires ordered { IsOrdered K.cmp pool.now.slots next.now }
+    requires start { IsStart K.cmp pool.now.slots key.now start }
+    ensures found { IfOk result (IsBeforeKey K.cmp pool.now.slots next.now key.now) }
+    ensures absent { IfErr result (IsBeforeGap K.cmp pool.now.slots next.now key.now) }
 {
-    let mut low = 0;
-    let mut high = order.len();
-    while low < high {
-        let middle = low + (high - low) / 2;
-        let entry = pool.get(Slot {
-            number: order[middle],
-        });
+    let end = pool.slots();
+    let mut at = start;
+    for _step in 0..end {
+        let after = next[at as usize];
+        if after == end {
+            return Err(at);
+        }
+        let entry = pool.get(Slot { number: after });
         match entry.key.cmp(key) {
-            Ordering::Less => low = middle + 1,
-            Ordering::Equal => return Ok(middle),
-            Ordering::Greater => high = middle,
+            Ordering::Less => at = after,
+            Ordering::Equal => return Ok(at),
+            Ordering::Greater => return Err(at),
         }
     }
-    Err(low)
+    Err(at)
+}
+
+// Links a slot into the ring, after another. Answers what comes after it.
+fn link(next: &mut [u32], before: u32, slot: u32) -> u32
+    requires before { before < length next.old }
+    requires slot { slot < length next.old }
+    ensures after { result ≡ slice_index next.old before }
+    ensures linked { next.new ≡ slice_set (slice_set next.old slot (slice_index next.old before)) before slot }
+{
+    let after = next[before as usize];
+    next[slot as usize] = after;
+    next[before as usize] = slot;
+    after
+}
+
+// Takes the slot after another out of the ring, and answers it.
+fn unlink(next: &mut [u32], before: u32) -> u32
+    requires before { before < length next.old }
+    requires slot { slice_index next.old before < length next.old }
+    ensures slot { result ≡ slice_index next.old before }
+    ensures unlinked { next.new ≡ slice_set next.old before (slice_index next.old (slice_index next.old before)) }
+{
+    let slot = next[before as usize];
+    next[before as usize] = next[slot as usize];
+    slot
+}
+
+// The ring of no slot.
+fn ring(alloc: Global, slots: u32) -> Result<Vec<u32>, AllocError>
+    ensures { IfOk result (λ v. v.items ≡ replicate (slots + 1) slots) }
+{
+    let mut next = Vec::with_capacity(alloc, slots as usize + 1)?;
+    for _step in 0..slots as usize + 1 {
+        next.push_reserved(slots);
+    }
+    Ok(next)
 }
 
 impl<K: Key, W: Drop> SortedTable<K, W> {
@@ -63,9 +110,14 @@ impl<K: Key, W: Drop> SortedTable<K, W> {
         ensures slots { IfOk result (λ t. t.slots ≡ replicate slots Empty) }
         ensures limits { IfOk result (λ t. t.limits ≡ limits.now) }
     {
+        let pool = Pool::with_capacity(alloc, slots, limits)?;
+        let next = ring(alloc, slots)?;
+        let tree = Tree::make(alloc, slots)?;
         Ok(SortedTable {
-            pool: Pool::with_capacity(alloc, slots, limits)?,
-            order: Vec::with_capacity(alloc, slots as usize)?,
+            pool,
+            next,
+            tree,
+            len: 0,
         })
     }
 }
@@ -79,14 +131,13 @@ impl<K: Key, W> SortedTable<K, W> {
         ensures { MatchOption result (HasNoneAbove (contents K.cmp self.now) key.now)
             (λ answer. IsLeastAbove (contents K.cmp self.now) key.now answer.now) }
     {
-        let at = match place(&self.pool, &self.order, key) {
-            Ok(at) => at + 1,
-            Err(at) => at,
+        let start = self.tree.closest(&self.pool, key);
+        let at = match place(&self.pool, &self.next, start, key) {
+            Ok(before) => self.next[self.next[before as usize] as usize],
+            Err(before) => self.next[before as usize],
         };
-        if at < self.order.len() {
-            let entry = self.pool.get(Slot {
-                number: self.order[at],
-            });
+        if at < self.pool.slots() {
+            let entry = self.pool.get(Slot { number: at });
             Some(&entry.key)
         } else {
             None
@@ -98,10 +149,11 @@ impl<K: Key, W: Drop> Table<K, W> for SortedTable<K, W> {
     ghost pool = { λ t. t };
 
     fn get(&self, key: &K) -> Option<&W> {
-        match place(&self.pool, &self.order, key) {
-            Ok(at) => {
+        let start = self.tree.closest(&self.pool, key);
+        match place(&self.pool, &self.next, start, key) {
+            Ok(before) => {
                 let entry = self.pool.get(Slot {
-                    number: self.order[at],
+                    number: self.next[before as usize],
                 });
                 Some(&entry.value)
             }
@@ -110,13 +162,16 @@ impl<K: Key, W: Drop> Table<K, W> for SortedTable<K, W> {
     }
 
     fn insert(&mut self, account: u32, key: K, value: W) -> Result<(), TableFull> {
-        match place(&self.pool, &self.order, &key) {
+        let start = self.tree.closest(&self.pool, &key);
+        match place(&self.pool, &self.next, start, &key) {
             Ok(_) => unreachable!(),
-            Err(at) => match self.pool.take(account, Entry { key, value }) {
-                Ok(slot) => match self.order.insert(at, slot.number) {
-                    Ok(()) => Ok(()),
-                    Err(_) => unreachable!(),
-                },
+            Err(before) => match self.pool.take(account, Entry { key, value }) {
+                Ok(slot) => {
+                    let after = link(&mut self.next, before, slot.number);
+                    self.tree.insert(before, after, slot.number);
+                    self.len += 1;
+                    Ok(())
+                }
                 Err(full) => Err(TableFull {
                     used: full.used,
                     limit: full.limit,
@@ -126,7 +181,7 @@ impl<K: Key, W: Drop> Table<K, W> for SortedTable<K, W> {
     }
 
     fn len(&self) -> u32 {
-        self.order.len() as u32
+        self.len
     }
 
     fn spare(&self, account: u32) -> u32 {
@@ -149,9 +204,12 @@ impl<K: Key, W: Drop> Table<K, W> for SortedTable<K, W> {
     }
 
     fn remove(&mut self, key: &K) -> Option<W> {
-        match place(&self.pool, &self.order, key) {
-            Ok(at) => {
-                let number = self.order.remove(at);
+        let start = self.tree.closest(&self.pool, key);
+        match place(&self.pool, &self.next, start, key) {
+            Ok(before) => {
+                let number = unlink(&mut self.next, before);
+                self.tree.remove(before, number);
+                self.len -= 1;
                 let entry = self.pool.give(Slot { number });
                 Some(entry.value)
             }
@@ -160,8 +218,10 @@ impl<K: Key, W: Drop> Table<K, W> for SortedTable<K, W> {
     }
 
     fn clear(&mut self) {
-        while let Some(number) = self.order.pop() {
-            let _entry = self.pool.give(Slot { number });
-        }
+        let end = self.pool.slots();
+        empty(&mut self.pool);
+        self.next[end as usize] = end;
+        self.tree.clear();
+        self.len = 0;
     }
 }

@@ -1,51 +1,60 @@
-use Rattle.std.proofs.Common.{◌≡◌, subst, ap, ◌∙◌, arith, length-set, sym}
-use Rattle.slot_pool.specs.declared.Content.TheVariants.{Held}
+use Rattle.std.proofs.Common.{◌≡◌, ◌+◌, length, get_or, set, subst, ap, ◌∙◌, arith, length-set, sym}
+use Rattle.std.proofs.lemmas.List.{take_at}
 use Rattle.slot_pool.specs.Pool.{Pool}
 use Rattle.pool_map.specs.declared.Entry.{Entry}
-use Rattle.pool_map.specs.Index.{IsPlace, IsGap}
+use Rattle.pool_map.specs.Index.{IsBeforeGap}
 use Rattle.pool_map.specs.Table.{contents}
-use Rattle.pool_map.proofs.Order.{index-insert, insert-room, once}
+use Rattle.pool_map.proofs.Chains.{fill-count}
+use Rattle.pool_map.proofs.Order.{once}
+use Rattle.pool_map.proofs.Ring.{gap-below, ordered-insert}
 use Rattle.pool_map.proofs.Steps.{insert-step, not-absent}
 use Rattle.pool_map.proofs.Counts.{charged-uses, by-map}
 use Rattle.pool_map.proofs.sorted.SortedTableTable.insert.Goals as goal
 
 pub unreachable-requires : goal.unreachable-requires
 unreachable-requires g c =
-    let place = subst (λ o. IsPlace g.K.Ord.cmp c.self.inside.pool.slots o c.args.key c.in-Ok.field-0) c.deref.ensures.value c.in-Ok.ensures.found in
-    not-absent g.K.Ord.cmp g.met.K.Ord.total c.self.inside.pool.slots c.self.inside.order.items c.self.invariant.0 c.args.key c.in-Ok.field-0 place (rw (← c.self.view_is) at c.requires.absent)
+    let h = c.in-Ok.ensures.found in
+    not-absent g.K.Ord.cmp g.met.K.Ord.total c.self.inside.pool.slots h.ordered.order h.ordered.index c.args.key h.place h.found (rw (← c.self.view_is) at c.requires.absent)
 
-pub unreachable-requires-in-Err-insert : goal.unreachable-requires-in-Err-insert
-unreachable-requires-in-Err-insert g c =
-    let gap = subst (λ o. IsGap g.K.Ord.cmp c.self.inside.pool.slots o c.args.key c.in-Err.at) c.deref.ensures.value c.in-Err.ensures.absent in
+pub link-after-requires-clause-before : goal.link-after-requires-clause-before
+link-after-requires-clause-before g c = omega (arith, c.deref.ensures.len, c.deref_mut.ensures.len, gap-below g.K.Ord.cmp g.met.K.Ord.total c.self.inside.pool.slots c.deref.result.now c.args.key c.in-Err.before c.in-Err.ensures.absent)
+
+pub overflow_add-self : goal.overflow_add-self
+overflow_add-self g c =
     let e : Entry g.row.K.Denot g.row.W.Denot = record { key = c.args.key; value = c.args.value } in
-    let room = insert-room g.K.Ord.cmp g.met.K.Ord.total c.self.inside.pool.slots c.self.inside.order.items c.self.invariant.0 c.in-Err.at c.in-Ok-take.slot.number c.args.account e gap c.in-Ok-take.ensures.in_range c.in-Ok-take.ensures.was_empty in
-    let full = c.in-Err-insert.ensures.full in
-    let fits = c.self.invariant.1 in
+    let counts = fill-count c.self.inside.pool.slots c.in-Ok-take.slot.number c.args.account e c.in-Ok-take.ensures.in_range c.in-Ok-take.ensures.was_empty in
+    let small = c.self.invariant.0.index.small in
+    let len = c.self.invariant.1 in
     omega arith
 
 pub invariant_of-self : goal.invariant_of-self
 invariant_of-self g c =
-    let gap = subst (λ o. IsGap g.K.Ord.cmp c.self.inside.pool.slots o c.args.key c.in-Err.at) c.deref.ensures.value c.in-Err.ensures.absent in
+    let s = c.in-Ok-take.slot.number in
+    let b = c.in-Err.before in
     let e : Entry g.row.K.Denot g.row.W.Denot = record { key = c.args.key; value = c.args.value } in
+    let gap = subst (λ o. IsBeforeGap g.K.Ord.cmp c.self.inside.pool.slots o c.args.key b) c.deref.ensures.value c.in-Err.ensures.absent in
     let slots : c.take.new.self.slots ≡ _ = ap (λ (p : Pool (Entry g.row.K.Denot g.row.W.Denot)). p.slots) c.in-Ok-take.ensures.ok in
-    let n = length-set c.self.inside.pool.slots c.in-Ok-take.slot.number (Held c.args.account e) in
-    let room = c.insert.ensures.capacity in
-    let fits = c.self.invariant.1 in
-    rw (slots, c.in-Ok-insert.ensures.items)
-    (index-insert g.K.Ord.cmp g.met.K.Ord.total c.self.inside.pool.slots c.self.inside.order.items c.self.invariant.0 c.in-Err.at c.in-Ok-take.slot.number c.args.account e gap c.in-Ok-take.ensures.in_range c.in-Ok-take.ensures.was_empty, omega arith)
+    let links : c.link-after.new.next ≡ set (set c.self.inside.next.items s (get_or c.self.inside.next.items b 0)) b s = c.link-after.ensures.linked ∙ ap (λ d. set (set d s (get_or d b 0)) b s) c.deref_mut.ensures.value in
+    let n : length c.link-after.new.next ≡ length c.self.inside.next.items = ap length links ∙ length-set (set c.self.inside.next.items s (get_or c.self.inside.next.items b 0)) b s ∙ length-set c.self.inside.next.items s (get_or c.self.inside.next.items b 0) in
+    let m : length c.link-after.new.next ≡ c.self.inside.next.len = omega arith in
+    let counts = fill-count c.self.inside.pool.slots s c.args.account e c.in-Ok-take.ensures.in_range c.in-Ok-take.ensures.was_empty in
+    rw (slots, take_at c.link-after.new.next _ _ m, links) (
+      ordered-insert g.K.Ord.cmp g.met.K.Ord.total c.self.inside.pool.slots c.self.inside.next.items b s c.args.account e gap c.in-Ok-take.ensures.in_range c.in-Ok-take.ensures.was_empty,
+      ap (λ k. k + 1) c.self.invariant.1 ∙ counts.0,
+    )
 
-pub returns-in-Ok-insert-clause-ok : goal.returns-in-Ok-insert-clause-ok
-returns-in-Ok-insert-clause-ok g c =
-    let gap = subst (λ o. IsGap g.K.Ord.cmp c.self.inside.pool.slots o c.args.key c.in-Err.at) c.deref.ensures.value c.in-Err.ensures.absent in
+pub returns-in-Ok-take-clause-ok : goal.returns-in-Ok-take-clause-ok
+returns-in-Ok-take-clause-ok g c =
+    let h = c.in-Err.ensures.absent in
     let e : Entry g.row.K.Denot g.row.W.Denot = record { key = c.args.key; value = c.args.value } in
     ap (contents g.K.Ord.cmp) c.in-Ok-take.ensures.ok
-    ∙ (rw (← c.self.view_is) (insert-step g.K.Ord.cmp g.met.K.Ord.total g.met.K.Key.exact c.self.inside.pool.slots c.self.inside.order.items c.self.invariant.0 c.in-Err.at c.in-Ok-take.slot.number c.args.account e gap c.in-Ok-take.ensures.in_range c.in-Ok-take.ensures.was_empty))
+    ∙ (rw (← c.self.view_is) (insert-step g.K.Ord.cmp g.met.K.Ord.total g.met.K.Key.exact c.self.inside.pool.slots h.ordered.order h.ordered.index h.place c.in-Ok-take.slot.number c.args.account e h.gap c.in-Ok-take.ensures.in_range c.in-Ok-take.ensures.was_empty))
 
-pub returns-in-Ok-insert-clause-refuses : goal.returns-in-Ok-insert-clause-refuses
-returns-in-Ok-insert-clause-refuses g c = rw (← c.self.view_is) (by-map g.K.Ord.cmp g.met.K.Ord.total c.self.inside.pool (once g.K.Ord.cmp g.met.K.Ord.total c.self.inside.pool.slots c.self.inside.order.items c.self.invariant.0) c.args.account _ c.in-Ok-take.ensures.refuses)
+pub returns-in-Ok-take-clause-refuses : goal.returns-in-Ok-take-clause-refuses
+returns-in-Ok-take-clause-refuses g c = rw (← c.self.view_is) (by-map g.K.Ord.cmp g.met.K.Ord.total c.self.inside.pool (once g.K.Ord.cmp g.met.K.Ord.total c.self.inside.pool.slots _ c.self.invariant.0.index) c.args.account _ c.in-Ok-take.ensures.refuses)
 
 pub returns-in-Err-take-clause-refuses : goal.returns-in-Err-take-clause-refuses
-returns-in-Err-take-clause-refuses g c = rw (← c.self.view_is) (by-map g.K.Ord.cmp g.met.K.Ord.total c.self.inside.pool (once g.K.Ord.cmp g.met.K.Ord.total c.self.inside.pool.slots c.self.inside.order.items c.self.invariant.0) c.args.account _ c.in-Err-take.ensures.refuses)
+returns-in-Err-take-clause-refuses g c = rw (← c.self.view_is) (by-map g.K.Ord.cmp g.met.K.Ord.total c.self.inside.pool (once g.K.Ord.cmp g.met.K.Ord.total c.self.inside.pool.slots _ c.self.invariant.0.index) c.args.account _ c.in-Err-take.ensures.refuses)
 
 pub returns-in-Err-take-clause-used : goal.returns-in-Err-take-clause-used
-returns-in-Err-take-clause-used g c = rw (← c.self.view_is) (c.in-Err-take.ensures.used ∙ sym (charged-uses g.K.Ord.cmp g.met.K.Ord.total c.self.inside.pool (once g.K.Ord.cmp g.met.K.Ord.total c.self.inside.pool.slots c.self.inside.order.items c.self.invariant.0) c.args.account))
+returns-in-Err-take-clause-used g c = rw (← c.self.view_is) (c.in-Err-take.ensures.used ∙ sym (charged-uses g.K.Ord.cmp g.met.K.Ord.total c.self.inside.pool (once g.K.Ord.cmp g.met.K.Ord.total c.self.inside.pool.slots _ c.self.invariant.0.index) c.args.account))

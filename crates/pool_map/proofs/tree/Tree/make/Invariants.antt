@@ -1,0 +1,8 @@
+use Rattle.std.proofs.Common.{◌≡◌, vec_len, vec_capacity}
+use Rattle.pool_map.proofs.tree.Tree.make.Given as goal
+
+abbrev pub invariant-loop-slot : goal.invariant-loop-slot
+invariant-loop-slot l = record {
+  len : vec_len l.nodes ≡ l._slot;
+  room : vec_capacity l.nodes ≡ l.slots;
+}

@@ -1,0 +1,332 @@
+// A guide to the slots of a sorted table: a balanced binary tree of them, in the order of their keys.
+//
+// The heights of a slot's two subtrees differ by one at most (Adelson-Velsky and Landis, 1962). The table tests what the tree
+// says, so that the speed of its answers rests on the tree's shape, and the answers don't.
+use super::{Entry, Key};
+use slot_pool::{Content, Pool};
+use std::alloc::{AllocError, Global};
+use std::cmp::Ordering;
+
+// The number of no slot.
+const NONE: u32 = u32::MAX;
+
+// More levels than a balanced tree of all numbers of 32 bits has: that has 46.
+const LEVELS: u32 = 64;
+
+// Where a slot stands in the tree. A parent or child that it lacks is `NONE`.
+#[derive(Clone, Copy)]
+struct Node {
+    parent: u32,
+    left: u32,
+    right: u32,
+    // the levels of the tree from here on
+    height: u32,
+}
+
+impl Node {
+    // A slot without children.
+    fn leaf(parent: u32) -> Node {
+        Node {
+            parent,
+            left: NONE,
+            right: NONE,
+            height: 1,
+        }
+    }
+}
+
+// Which of a slot's children.
+#[derive(Clone, Copy)]
+enum Side {
+    Left,
+    Right,
+}
+
+/// A balanced tree of slots.
+#[derive(Drop)]
+pub(super) struct Tree {
+    // the place of each slot, of which those that the root reaches are in the tree
+    nodes: Vec<Node>,
+    root: u32,
+}
+
+impl Tree {
+    ghost use Rattle.pool_map.specs.Index.{IsStart};
+
+    /// A tree of no slot, which so many may come into.
+    pub(super) fn make(alloc: Global, slots: u32) -> Result<Tree, AllocError> {
+        let mut nodes = Vec::with_capacity(alloc, slots as usize)?;
+        for _slot in 0..slots {
+            nodes.push_reserved(Node::leaf(NONE));
+        }
+        Ok(Tree { nodes, root: NONE })
+    }
+
+    /// The slot with the greatest key that is smaller than this, or the number of slots.
+    pub(super) fn closest<K: Key, W>(&self, pool: &Pool<Entry<K, W>>, key: &K) -> u32
+        ensures { IsStart K.cmp pool.now.slots key.now result }
+    {
+        let mut closest = pool.slots();
+        let mut at = self.root;
+        for _level in 0..LEVELS {
+            if at >= pool.slots() {
+                return closest;
+            }
+            let node = self.node(at);
+            match pool.look(at) {
+                Content::Held(_, entry) => match entry.key.cmp(key) {
+                    Ordering::Less => {
+                        closest = at;
+                        at = node.right;
+                    }
+                    _ => at = node.left,
+                },
+                Content::Empty => return closest,
+            }
+        }
+        closest
+    }
+
+    /// Puts a slot between the two that follow each other in the order. One that isn't there is the number of slots.
+    pub(super) fn insert(&mut self, before: u32, after: u32, slot: u32) {
+        let ends = self.holds(before) && self.node(before).right == NONE;
+        let (parent, side) = if ends {
+            (before, Side::Right)
+        } else {
+            (after, Side::Left)
+        };
+        if self.holds(parent) {
+            self.put(slot, Node::leaf(parent));
+            self.set_child(parent, side, slot);
+            self.balance_from(parent);
+        } else {
+            self.put(slot, Node::leaf(NONE));
+            self.root = slot;
+        }
+    }
+
+    /// Takes a slot out that follows another in the order, or is the first and follows the number of slots.
+    pub(super) fn remove(&mut self, before: u32, slot: u32) {
+        let node = self.node(slot);
+        if node.left == NONE || node.right == NONE {
+            let child = if node.left == NONE {
+                node.right
+            } else {
+                node.left
+            };
+            self.replace(slot, child);
+            self.balance_from(node.parent);
+        } else {
+            // The slot before is the last of the left subtree, and takes the slot's place.
+            let last = self.node(before);
+            let lowest = if last.parent == slot {
+                before
+            } else {
+                last.parent
+            };
+            self.replace(before, last.left);
+            let node = self.node(slot);
+            self.replace(slot, before);
+            self.put(before, node);
+            self.set_parent(node.left, before);
+            self.set_parent(node.right, before);
+            self.balance_from(lowest);
+        }
+    }
+
+    /// Takes each slot out.
+    pub(super) fn clear(&mut self) {
+        self.root = NONE;
+    }
+
+    // Whether the tree has such a slot.
+    fn holds(&self, slot: u32) -> bool {
+        (slot as usize) < self.nodes.len()
+    }
+
+    // Where a slot stands. A slot that isn't there has no level.
+    fn node(&self, slot: u32) -> Node {
+        match self.nodes.get(slot as usize) {
+            Some(node) => *node,
+            None => Node {
+                parent: NONE,
+                left: NONE,
+                right: NONE,
+                height: 0,
+            },
+        }
+    }
+
+    // Sets where a slot stands, if there is such a slot.
+    fn put(&mut self, slot: u32, node: Node) {
+        if let Some(old) = self.nodes.get_mut(slot as usize) {
+            *old = node;
+        }
+    }
+
+    // Hangs a slot, if there is one, below another.
+    fn set_parent(&mut self, slot: u32, parent: u32) {
+        if let Some(node) = self.nodes.get_mut(slot as usize) {
+            node.parent = parent;
+        }
+    }
+
+    // Makes a slot the child of another.
+    fn set_child(&mut self, slot: u32, side: Side, child: u32) {
+        if let Some(node) = self.nodes.get_mut(slot as usize) {
+            match side {
+                Side::Left => node.left = child,
+                Side::Right => node.right = child,
+            }
+        }
+        self.set_parent(child, slot);
+    }
+
+    // Puts another slot where a slot hangs.
+    fn replace(&mut self, slot: u32, other: u32) {
+        let parent = self.node(slot).parent;
+        if !self.holds(parent) {
+            self.root = other;
+            self.set_parent(other, NONE);
+        } else if self.node(parent).left == slot {
+            self.set_child(parent, Side::Left, other);
+        } else {
+            self.set_child(parent, Side::Right, other);
+        }
+    }
+
+    // Counts the levels from a slot on, by those of its children.
+    fn measure(&mut self, slot: u32) {
+        let node = self.node(slot);
+        let below = self
+            .node(node.left)
+            .height
+            .max(self.node(node.right).height);
+        if let Some(node) = self.nodes.get_mut(slot as usize) {
+            node.height = below.saturating_add(1);
+        }
+    }
+
+    // Puts a slot's right child in its place, and the slot below it on the left. Answers the child.
+    fn rotate_left(&mut self, slot: u32) -> u32 {
+        let up = self.node(slot).right;
+        let middle = self.node(up).left;
+        self.replace(slot, up);
+        self.set_child(slot, Side::Right, middle);
+        self.set_child(up, Side::Left, slot);
+        self.measure(slot);
+        self.measure(up);
+        up
+    }
+
+    // Puts a slot's left child in its place, and the slot below it on the right. Answers the child.
+    fn rotate_right(&mut self, slot: u32) -> u32 {
+        let up = self.node(slot).left;
+        let middle = self.node(up).right;
+        self.replace(slot, up);
+        self.set_child(slot, Side::Left, middle);
+        self.set_child(up, Side::Right, slot);
+        self.measure(slot);
+        self.measure(up);
+        up
+    }
+
+    // Balances a slot whose subtrees are balanced, and differ by two levels at most. Answers what stands in its place then.
+    fn balance(&mut self, slot: u32) -> u32 {
+        let node = self.node(slot);
+        let left = self.node(node.left);
+        let right = self.node(node.right);
+        if left.height > right.height.saturating_add(1) {
+            if self.node(left.left).height < self.node(left.right).height {
+                self.rotate_left(node.left);
+            }
+            self.rotate_right(slot)
+        } else if right.height > left.height.saturating_add(1) {
+            if self.node(right.right).height < self.node(right.left).height {
+                self.rotate_right(node.right);
+            }
+            self.rotate_left(slot)
+        } else {
+            self.measure(slot);
+            slot
+        }
+    }
+
+    // Balances a slot below which one came or went, and those above it as far as the levels change.
+    fn balance_from(&mut self, slot: u32) {
+        let mut at = slot;
+        for _level in 0..LEVELS {
+            if !self.holds(at) {
+                return;
+            }
+            let height = self.node(at).height;
+            let top = self.balance(at);
+            let node = self.node(top);
+            if top == at && node.height == height {
+                return;
+            }
+            at = node.parent;
+        }
+    }
+}
+
+#[cfg(test)]
+mod tests {
+    use super::*;
+    use std::process::Abort;
+    use std::test::Fail;
+
+    // Whether a slot's levels are counted right, and those of its subtrees differ by one at most.
+    fn is_balanced(tree: &Tree, slot: u32) -> bool {
+        let node = tree.node(slot);
+        let left = tree.node(node.left).height;
+        let right = tree.node(node.right).height;
+        node.height == left.max(right).saturating_add(1)
+            && left <= right.saturating_add(1)
+            && right <= left.saturating_add(1)
+    }
+
+    // The last slot before another among those that are present, or 1,000.
+    fn last_before(present: &[bool], slot: u32) -> u32 {
+        let mut last = 1000;
+        for at in 0..slot {
+            if present.get(at as usize) == Some(&true) {
+                last = at;
+            }
+        }
+        last
+    }
+
+    // Whether each slot that is present is balanced.
+    fn all_balanced(tree: &Tree, present: &[bool]) -> bool {
+        let mut balanced = true;
+        for slot in 0u32..1000 {
+            if present.get(slot as usize) == Some(&true) {
+                balanced = balanced && is_balanced(tree, slot);
+            }
+        }
+        balanced
+    }
+
+    #[test]
+    fn stays_balanced(rt: HostRuntime) -> Result<(), Fail> {
+        let mut tree = Tree::make(rt.alloc(), 1000)?;
+        let mut present = vec![in rt.alloc(); true; 1000]?;
+        for slot in 0u32..1000 {
+            tree.insert(slot.checked_sub(1).unwrap_or(1000), 1000, slot);
+        }
+        assert_eq!(rt; tree.node(tree.root).height, 10);
+        for step in 0u32..900 {
+            let slot = step.wrapping_mul(377) % 1000;
+            tree.remove(last_before(&present, slot), slot);
+            if let Some(here) = present.get_mut(slot as usize) {
+                *here = false;
+            }
+            assert!(rt; all_balanced(&tree, &present));
+        }
+        assert!(rt; tree.node(tree.root).height <= 8);
+        tree.clear();
+        assert_eq!(rt; tree.node(tree.root).height, 0);
+        Ok(())
+    }
+}
