@@ -7,7 +7,7 @@ use Rattle.std.proofs.lemmas.List.Sums.{sum_by-cons}
 use Rattle.std.specs.FinMap.{FinMap, get, insert, remove, empty, entries, len, len-entries, len-empty, get-empty}
 use Rattle.slot_pool.specs.Pool.{Pool, limit_of}
 use Rattle.pool_map.specs.declared.Entry.{Entry as Pair}
-use Rattle.pool_map.specs.declared.number.Number.{Number}
+use Rattle.share_index.specs.declared.key.UserNumber.{UserNumber}
 use Rattle.pool_map.specs.Table.{contents, charged, with_value_at, rewritten}
 use Rattle.pool_map.specs.MapSums.{sum_by-insert_new, sum_by-insert_over, sum_by-remove, sum_by-alike, sum_by-parts}
 use Rattle.pool_map.specs.Shown.{shown, get-shown, shown-insert, shown-remove, shown-empty}
@@ -19,7 +19,7 @@ pub use Rattle.share_index.proofs.SumBelow.{number_total, number_exact}
 use Rattle.share_index.specs.Counting.{room_of, IsCounting}
 
 -- a sum after one count was written
-put-sum : (f : Number × ℕ → ℕ) (m : FinMap number_cmp ℕ) (user v : ℕ) → f (number_of user, 0) ≡ 0 → f (number_of user, count_at m user) + sum_by f (entries (insert m (number_of user) v)) ≡ f (number_of user, v) + sum_by f (entries m)
+put-sum : (f : UserNumber × ℕ → ℕ) (m : FinMap number_cmp ℕ) (user v : ℕ) → f (number_of user, 0) ≡ 0 → f (number_of user, count_at m user) + sum_by f (entries (insert m (number_of user) v)) ≡ f (number_of user, v) + sum_by f (entries m)
 put-sum f m user v nothing = go (get m (number_of user)) refl
   where
     go : (o : Option ℕ) → get m (number_of user) ≡ o → f (number_of user, unwrap_or (get m (number_of user)) 0) + sum_by f (entries (insert m (number_of user) v)) ≡ f (number_of user, v) + sum_by f (entries m)
@@ -27,7 +27,7 @@ put-sum f m user v nothing = go (get m (number_of user)) refl
     go (Some old) is = let here : f (number_of user, unwrap_or (get m (number_of user)) 0) ≡ f (number_of user, old) = ap (λ o. f (number_of user, unwrap_or o 0)) is in omega (arith, sum_by-insert_over number_total number_exact f m (number_of user) old v is)
 
 -- a part of a sum
-part-le : (f : Number × ℕ → ℕ) (m : FinMap number_cmp ℕ) (user : ℕ) → f (number_of user, 0) ≡ 0 → f (number_of user, count_at m user) ≤ sum_by f (entries m)
+part-le : (f : UserNumber × ℕ → ℕ) (m : FinMap number_cmp ℕ) (user : ℕ) → f (number_of user, 0) ≡ 0 → f (number_of user, count_at m user) ≤ sum_by f (entries m)
 part-le f m user nothing = go (get m (number_of user)) refl
   where
     go : (o : Option ℕ) → get m (number_of user) ≡ o → f (number_of user, unwrap_or (get m (number_of user)) 0) ≤ sum_by f (entries m)
@@ -47,7 +47,7 @@ pub begun-le-batches : (m : FinMap number_cmp ℕ) (user : ℕ) → begun (count
 begun-le-batches m user = part-le (λ e. begun e.1) m user refl
 
 pub batches-le-total : (m : FinMap number_cmp ℕ) → batches_in m ≤ total m
-batches-le-total m = omega (arith, sum_by-parts (λ (e : Number × ℕ). begun e.1) (λ e. e.1 - begun e.1) (λ e. e.1) (entries m) (λ e. let le = begun-le e.1 in omega arith))
+batches-le-total m = omega (arith, sum_by-parts (λ (e : UserNumber × ℕ). begun e.1) (λ e. e.1 - begun e.1) (λ e. e.1) (entries m) (λ e. let le = begun-le e.1 in omega arith))
 
 pub total-put : (m : FinMap number_cmp ℕ) (user v : ℕ) → count_at m user + total (insert m (number_of user) v) ≡ v + total m
 total-put m user v = put-sum (λ e. e.1) m user v refl
@@ -63,13 +63,13 @@ abbrev pub plain : ℕ × ℕ → ℕ
 plain x = x.1
 
 -- each user that is counted has some
-pub len-le-total : (m : FinMap number_cmp ℕ) → ((k : Number) (v : ℕ) → get m k ≡ Some v → 0 < v) → len m ≤ total m
+pub len-le-total : (m : FinMap number_cmp ℕ) → ((k : UserNumber) (v : ℕ) → get m k ≡ Some v → 0 < v) → len m ≤ total m
 len-le-total m positive =
-    let same = sum_by-alike number_total number_exact (λ (e : Number × ℕ). e.1) (λ e. 1 + (e.1 - 1)) m (λ k v got. let p = positive k v got in omega arith) in
-    let parts = sum_by-parts (λ (e : Number × ℕ). 1) (λ e. e.1 - 1) (λ e. 1 + (e.1 - 1)) (entries m) (λ e. refl) in
+    let same = sum_by-alike number_total number_exact (λ (e : UserNumber × ℕ). e.1) (λ e. 1 + (e.1 - 1)) m (λ k v got. let p = positive k v got in omega arith) in
+    let parts = sum_by-parts (λ (e : UserNumber × ℕ). 1) (λ e. e.1 - 1) (λ e. 1 + (e.1 - 1)) (entries m) (λ e. refl) in
     omega (arith, length-ones (entries m), len-entries m)
 
-module _ (p : Pool (Pair Number ℕ)) (batches : ℕ) (is : IsCounting p batches) where
+module _ (p : Pool (Pair UserNumber ℕ)) (batches : ℕ) (is : IsCounting p batches) where
   abbrev table : FinMap number_cmp (ℕ × ℕ)
   table = contents number_cmp p
 
@@ -97,18 +97,18 @@ module _ (p : Pool (Pair Number ℕ)) (batches : ℕ) (is : IsCounting p batches
   pub rewritten-is : (user v : ℕ) (x : ℕ × ℕ) → get table (number_of user) ≡ Some x → x.0 ≡ 0 → with_value_at table (number_of user) v ≡ insert table (number_of user) (0, v)
   rewritten-is user v x at zero_account = ap (rewritten table (number_of user) v) at ∙ ap (λ (a : ℕ). insert table (number_of user) (a, v)) zero_account
 
-  pub counting-put : (q : Pool (Pair Number ℕ)) (user v batches' : ℕ) → q.limits ≡ p.limits → contents number_cmp q ≡ insert table (number_of user) (0, v) → 0 < v → user < 2 ^ 32 → batches' + begun (count_at counts user) ≡ batches + begun v → IsCounting q batches'
+  pub counting-put : (q : Pool (Pair UserNumber ℕ)) (user v batches' : ℕ) → q.limits ≡ p.limits → contents number_cmp q ≡ insert table (number_of user) (0, v) → 0 < v → user < 2 ^ 32 → batches' + begun (count_at counts user) ≡ batches + begun v → IsCounting q batches'
   counting-put q user v batches' limits to some fits sum =
       record {
         limits = limits ∙ is.limits ∙ ap (λ l. room_of l ∷ []) (sym limits);
         small = subst (λ l. room_of l < 2 ^ 32) (sym limits) is.small;
-        charged = subst (λ l. IsCharged (Shared (room_of l)) (λ (k : Number). 0) (contents number_cmp q)) (sym limits) (subst (IsCharged (Shared (room_of p.limits)) (λ (k : Number). 0)) (sym to) (charged-insert number_total number_exact (λ (k : Number). 0) (Shared (room_of p.limits)) table is.charged (number_of user) 0 v refl tt));
+        charged = subst (λ l. IsCharged (Shared (room_of l)) (λ (k : UserNumber). 0) (contents number_cmp q)) (sym limits) (subst (IsCharged (Shared (room_of p.limits)) (λ (k : UserNumber). 0)) (sym to) (charged-insert number_total number_exact (λ (k : UserNumber). 0) (Shared (room_of p.limits)) table is.charged (number_of user) 0 v refl tt));
         positive = λ k x got. elim (got-insert number_total number_exact table (number_of user) k (0, v) x (ap (λ (m : FinMap number_cmp (ℕ × ℕ)). get m k) (sym to) ∙ got)) [
           | inl e ↦ subst (λ (y : ℕ × ℕ). 0 < y.1) (sym e.1) some
           | inr old ↦ is.positive k x old
         ];
         keys = λ k x got. elim (got-insert number_total number_exact table (number_of user) k (0, v) x (ap (λ (m : FinMap number_cmp (ℕ × ℕ)). get m k) (sym to) ∙ got)) [
-          | inl e ↦ subst (λ (y : Number). y.value < 2 ^ 32) (sym e.0) fits
+          | inl e ↦ subst (λ (y : UserNumber). y.value < 2 ^ 32) (sym e.0) fits
           | inr old ↦ is.keys k x old
         ];
         counted =
@@ -118,12 +118,12 @@ module _ (p : Pool (Pair Number ℕ)) (batches : ℕ) (is : IsCounting p batches
             omega (arith, batches-put counts user v);
       }
 
-  pub counting-take : (q : Pool (Pair Number ℕ)) (user batches' : ℕ) (x : ℕ × ℕ) → q.limits ≡ p.limits → contents number_cmp q ≡ remove table (number_of user) → get table (number_of user) ≡ Some x → batches' + begun x.1 ≡ batches → IsCounting q batches'
+  pub counting-take : (q : Pool (Pair UserNumber ℕ)) (user batches' : ℕ) (x : ℕ × ℕ) → q.limits ≡ p.limits → contents number_cmp q ≡ remove table (number_of user) → get table (number_of user) ≡ Some x → batches' + begun x.1 ≡ batches → IsCounting q batches'
   counting-take q user batches' x limits to at sum =
       record {
         limits = limits ∙ is.limits ∙ ap (λ l. room_of l ∷ []) (sym limits);
         small = subst (λ l. room_of l < 2 ^ 32) (sym limits) is.small;
-        charged = subst (λ l. IsCharged (Shared (room_of l)) (λ (k : Number). 0) (contents number_cmp q)) (sym limits) (subst (IsCharged (Shared (room_of p.limits)) (λ (k : Number). 0)) (sym to) (charged-remove number_total number_exact (λ (k : Number). 0) (Shared (room_of p.limits)) table is.charged (number_of user)));
+        charged = subst (λ l. IsCharged (Shared (room_of l)) (λ (k : UserNumber). 0) (contents number_cmp q)) (sym limits) (subst (IsCharged (Shared (room_of p.limits)) (λ (k : UserNumber). 0)) (sym to) (charged-remove number_total number_exact (λ (k : UserNumber). 0) (Shared (room_of p.limits)) table is.charged (number_of user)));
         positive = λ k y got. is.positive k y (got-remove number_total number_exact table (number_of user) k y (ap (λ (m : FinMap number_cmp (ℕ × ℕ)). get m k) (sym to) ∙ got));
         keys = λ k y got. is.keys k y (got-remove number_total number_exact table (number_of user) k y (ap (λ (m : FinMap number_cmp (ℕ × ℕ)). get m k) (sym to) ∙ got));
         counted =
@@ -131,17 +131,17 @@ module _ (p : Pool (Pair Number ℕ)) (batches : ℕ) (is : IsCounting p batches
             let here = ap (λ (m : FinMap number_cmp ℕ). batches_in m) after in
             let was = is.counted in
             let got : get counts (number_of user) ≡ Some x.1 = get-shown plain table (number_of user) ∙ ap (option_map plain) at in
-            omega (arith, sum_by-remove number_total number_exact (λ (e : Number × ℕ). begun e.1) counts (number_of user) x.1 got);
+            omega (arith, sum_by-remove number_total number_exact (λ (e : UserNumber × ℕ). begun e.1) counts (number_of user) x.1 got);
       }
 
   -- the table takes another user while the counts are below its room
   pub has-room : total counts < room_of p.limits → charged table 0 ≢ limit_of p 0
   has-room below full =
-      let many = charged-use number_total number_exact (λ (k : Number). 0) plain (Shared (room_of p.limits)) table is.charged 0 in
+      let many = charged-use number_total number_exact (λ (k : UserNumber). 0) plain (Shared (room_of p.limits)) table is.charged 0 in
       let few = len-le-total counts (λ k v got. positive-shown k v got) in
       omega arith
     where
-      positive-shown : (k : Number) (v : ℕ) → get counts k ≡ Some v → 0 < v
+      positive-shown : (k : UserNumber) (v : ℕ) → get counts k ≡ Some v → 0 < v
       positive-shown k v got = go (get table k) refl (sym (get-shown plain table k) ∙ got)
         where
           go : (o : Option (ℕ × ℕ)) → get table k ≡ o → option_map plain o ≡ Some v → 0 < v
@@ -186,13 +186,13 @@ module _ (p : Pool (Pair Number ℕ)) (batches : ℕ) (is : IsCounting p batches
       omega arith
 
 -- the begun batches, summed over all users' numbers
-pub batches-sum : (p : Pool (Pair Number ℕ)) (batches : ℕ) → IsCounting p batches → batches ≡ sum_below (2 ^ 32) (λ user. begun (count_at (shown plain (contents number_cmp p)) user))
+pub batches-sum : (p : Pool (Pair UserNumber ℕ)) (batches : ℕ) → IsCounting p batches → batches ≡ sum_below (2 ^ 32) (λ user. begun (count_at (shown plain (contents number_cmp p)) user))
 batches-sum p batches is =
     is.counted ∙ sym (sum_below-counts (2 ^ 32) (shown plain (contents number_cmp p)) (λ k v got.
     let x = shown-had p k v got in
     is.keys k x.0 x.1))
   where
-    shown-had : (p : Pool (Pair Number ℕ)) (k : Number) (v : ℕ) → get (shown plain (contents number_cmp p)) k ≡ Some v → (x : ℕ × ℕ) × (get (contents number_cmp p) k ≡ Some x)
+    shown-had : (p : Pool (Pair UserNumber ℕ)) (k : UserNumber) (v : ℕ) → get (shown plain (contents number_cmp p)) k ≡ Some v → (x : ℕ × ℕ) × (get (contents number_cmp p) k ≡ Some x)
     shown-had p k v got = go (get (contents number_cmp p) k) refl (sym (get-shown plain (contents number_cmp p) k) ∙ got)
       where
         go : (o : Option (ℕ × ℕ)) → get (contents number_cmp p) k ≡ o → option_map plain o ≡ Some v → (x : ℕ × ℕ) × (get (contents number_cmp p) k ≡ Some x)
@@ -210,11 +210,11 @@ pub none-copied : (r : Option (Bor ℕ)) (A : Type 0) → option_copied r ≡ No
 none-copied None A e h = h
 none-copied (Some a) A e h = absurd (let gone : Some a.now ≡ None = e in cc)
 
-pub counting-empty : (q : Pool (Pair Number ℕ)) → q.limits ≡ room_of q.limits ∷ [] → room_of q.limits < 2 ^ 32 → contents number_cmp q ≡ empty → IsCounting q 0
+pub counting-empty : (q : Pool (Pair UserNumber ℕ)) → q.limits ≡ room_of q.limits ∷ [] → room_of q.limits < 2 ^ 32 → contents number_cmp q ≡ empty → IsCounting q 0
 counting-empty q limits small none = record {
   limits = limits;
   small = small;
-  charged = subst (IsCharged (Shared (room_of q.limits)) (λ (k : Number). 0)) (sym none) (charged-empty number_total number_exact (λ (k : Number). 0) (Shared (room_of q.limits)));
+  charged = subst (IsCharged (Shared (room_of q.limits)) (λ (k : UserNumber). 0)) (sym none) (charged-empty number_total number_exact (λ (k : UserNumber). 0) (Shared (room_of q.limits)));
   positive = λ k x got. absurd (let no : None ≡ Some x = sym (ap (λ (m : FinMap number_cmp (ℕ × ℕ)). get m k) none ∙ get-empty number_cmp k) ∙ got in cc);
   keys = λ k x got. absurd (let no : None ≡ Some x = sym (ap (λ (m : FinMap number_cmp (ℕ × ℕ)). get m k) none ∙ get-empty number_cmp k) ∙ got in cc);
   counted =
@@ -225,6 +225,6 @@ counting-empty q limits small none = record {
     nothing : batches_in empty ≡ 0
     nothing = sum-empty (entries empty) (sym (len-entries empty) ∙ len-empty number_cmp ℕ)
       where
-        sum-empty : (es : List (Number × ℕ)) → length es ≡ 0 → sum_by (λ e. begun e.1) es ≡ 0
+        sum-empty : (es : List (UserNumber × ℕ)) → length es ≡ 0 → sum_by (λ e. begun e.1) es ≡ 0
         sum-empty [] e = refl
         sum-empty (x ∷ es) e = absurd (omega arith)

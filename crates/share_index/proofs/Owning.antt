@@ -10,7 +10,7 @@ use Rattle.std.specs.Cmp.Rules.{comparing}
 use Rattle.std.specs.FinMap.{FinMap, get, insert, remove, empty, entries, len, len-entries, len-empty, len-insert, get-insert, get-remove, get-empty, same_map, nat_cmp-IsAntisymmetric}
 use Rattle.slot_pool.specs.Pool.{Pool, limit_of}
 use Rattle.pool_map.specs.declared.Entry.{Entry as Pair}
-use Rattle.pool_map.specs.declared.number.Number.{Number}
+use Rattle.share_index.specs.declared.key.UserNumber.{UserNumber}
 use Rattle.pool_map.specs.Table.{contents, charged, with_value_at, rewritten}
 use Rattle.pool_map.specs.MapSums.{sum_by-insert_new, sum_by-insert_over, sum_by-remove, insert-remove, insert-same}
 use Rattle.pool_map.specs.Shown.{shown, get-shown, len-shown, shown-insert, shown-remove, shown-empty}
@@ -23,7 +23,8 @@ use Rattle.share_index.specs.Order.{owner_cmp, owner_exact}
 use Rattle.share_index.specs.Counts.{UserCounts, number_cmp, number_of, count_at, total, lowered, begun, sum_below}
 use Rattle.share_index.specs.Shares.{batches_of}
 use Rattle.share_index.specs.Owning.{used_of, owners_in, IsOwning}
-use Rattle.share_index.proofs.SumBelow.{number_total, number_exact, sum_below-alike}
+use Rattle.share_index.proofs.SumBelow.{number_total, number_exact}
+use Rattle.share_index.specs.SumBelow.{sum_below-alike}
 use Rattle.share_index.proofs.Counting.{plain, total-put, lowered-one, lowered-more}
 
 pub owner_total : IsTotalOrder owner_cmp
@@ -281,7 +282,7 @@ owning-empty q counts accounts limits none counted room =
       limits = limits;
       charged = subst (IsCharged accounts user_of) (sym none) (charged-empty owner_total owner_exact user_of accounts);
       counted = λ user. ap (λ (m : FinMap number_cmp ℕ). count_at m user) counted ∙ ap (λ o. unwrap_or o 0) (get-empty number_cmp (number_of user)) ∙ sym (ap (λ (m : FinMap owner_cmp ℕ). keys_of user_of m user) after ∙ no-sum (λ (e : Owner × ℕ). one user e.0) (entries empty) (sym (len-entries empty) ∙ len-empty owner_cmp ℕ));
-      totalled = ap (λ (m : FinMap number_cmp ℕ). total m) counted ∙ no-sum (λ (e : Number × ℕ). e.1) (entries empty) (sym (len-entries empty) ∙ len-empty number_cmp ℕ) ∙ sym (ap len after ∙ len-empty owner_cmp ℕ);
+      totalled = ap (λ (m : FinMap number_cmp ℕ). total m) counted ∙ no-sum (λ (e : UserNumber × ℕ). e.1) (entries empty) (sym (len-entries empty) ∙ len-empty number_cmp ℕ) ∙ sym (ap len after ∙ len-empty owner_cmp ℕ);
       room = room;
     }
   where

@@ -1,8 +1,8 @@
--- Sums over all users' numbers.
-use Rattle.std.proofs.Common.{rules, ◌≡◌, ◌≢◌, ℕ, zero, suc, ◌+◌, ◌<◌, ◌≤◌, Bool, true, false, ◌&&◌, T, List, [], ◌∷◌, Some, None, refl, sym, ap, ◌∙◌, arith, inl, inr, sum_by, true≢false}
+-- A sum over all users' numbers is one over the users that own some.
+use Rattle.std.proofs.Common.{rules, ◌≡◌, ◌≢◌, ℕ, ◌<◌, Bool, true, false, ◌&&◌, T, List, [], ◌∷◌, Some, None, refl, sym, ap, ◌∙◌, arith, inl, inr, sum_by, true≢false}
 use Rattle.std.specs.Prelude.{unwrap_or}
 use Rattle.std.proofs.lemmas.List.Sums.{sum_by-cons}
-use Rattle.std.proofs.lemmas.Bool.{cases_eq, cases_Bool, cond-true, cond-false}
+use Rattle.std.proofs.lemmas.Bool.{cases_Bool, cond-true, cond-false}
 use Rattle.std.specs.declared.cmp.Ordering.{Ordering}
 use Rattle.std.specs.declared.cmp.Ordering.TheVariants.{Less, Equal, Greater}
 use Rattle.std.specs.Ordering.{eq_by_cmp, is_eq, is_lt}
@@ -10,50 +10,15 @@ use Rattle.std.specs.Cmp.{IsTotalOrder, tied_itself}
 use Rattle.std.specs.Cmp.Rules.{comparing}
 use Rattle.std.specs.FinMap.{FinMap, find, get, entries, entries_sorted, is_sorted, get-entries, nat_cmp-IsAntisymmetric, IsAntisymmetric}
 use Rattle.std.specs.FinMap.Entries.{below_all}
-use Rattle.pool_map.specs.declared.number.Number.{Number}
+use Rattle.share_index.specs.declared.key.UserNumber.{UserNumber}
 use Rattle.share_index.specs.Counts.{number_cmp, number_of, count_at, begun, batches_in, sum_below}
+use Rattle.share_index.specs.SumBelow.{sum_below-alike, sum_below-change, sum_below-zeros}
 
 pub number_total : IsTotalOrder number_cmp
 number_total = search (comparing, rules)
 
 pub number_exact : IsAntisymmetric number_cmp
 number_exact x y e = ap (λ n. number_of n) (nat_cmp-IsAntisymmetric x.value y.value e)
-
-pub sum_below-alike : (n : ℕ) (f g : ℕ → ℕ) → ((k : ℕ) → f k ≡ g k) → sum_below n f ≡ sum_below n g
-unfolding sum_below
-sum_below-alike zero f g same = refl
-sum_below-alike (suc n) f g same = let rest = sum_below-alike n f g same in let here = same n in omega arith
-
--- up to a number at which alone the functions differ
-sum_below-prefix : (m u : ℕ) (f g : ℕ → ℕ) → m ≤ u → ((k : ℕ) → k ≢ u → f k ≡ g k) → sum_below m f ≡ sum_below m g
-unfolding sum_below
-sum_below-prefix zero u f g l same = refl
-sum_below-prefix (suc m) u f g l same =
-    let rest = sum_below-prefix m u f g (omega arith) same in
-    let here = same m (λ is. let x : m ≡ u = is in omega arith) in
-    omega arith
-
--- two functions that differ at one number
-sum_below-change : (n u : ℕ) (f g : ℕ → ℕ) → u < n → ((k : ℕ) → k ≢ u → f k ≡ g k) → sum_below n f + g u ≡ sum_below n g + f u
-unfolding sum_below
-sum_below-change zero u f g l same = absurd (omega arith)
-sum_below-change (suc n) u f g l same =
-    elim (cases_eq u n) [
-      | inl e ↦
-          let rest = sum_below-prefix n u f g (omega arith) same in
-          let fu : f n ≡ f u = ap f (sym e) in
-          let gu : g n ≡ g u = ap g (sym e) in
-          omega arith
-      | inr other ↦
-          let rest = sum_below-change n u f g (omega arith) same in
-          let here = same n (λ e. other (sym e)) in
-          omega arith
-    ]
-
-sum_below-zeros : (n : ℕ) (f : ℕ → ℕ) → ((k : ℕ) → f k ≡ 0) → sum_below n f ≡ 0
-unfolding sum_below
-sum_below-zeros zero f same = refl
-sum_below-zeros (suc n) f same = let rest = sum_below-zeros n f same in let here = same n in omega arith
 
 is_eq-at : (r : Ordering) → is_eq r ≡ true → r ≡ Equal
 is_eq-at Less e = absurd (true≢false (sym e))
@@ -69,16 +34,16 @@ below-parts Less p = refl
 below-parts Equal p = absurd p
 below-parts Greater p = absurd p
 
-below-absent : (q : Number) (es : List (Number × ℕ)) → T (below_all number_cmp q es) → find number_cmp q es ≡ None
+below-absent : (q : UserNumber) (es : List (UserNumber × ℕ)) → T (below_all number_cmp q es) → find number_cmp q es ≡ None
 below-absent q [] h = refl
 below-absent q (e ∷ es) h =
     let parts = both-parts (is_lt (number_cmp q e.0)) (below_all number_cmp q es) h in
     cond-false _ _ _ (ap is_eq (below-parts (number_cmp q e.0) parts.0)) ∙ below-absent q es parts.1
 
-abbrev lookup : List (Number × ℕ) → ℕ → ℕ
+abbrev lookup : List (UserNumber × ℕ) → ℕ → ℕ
 lookup es user = unwrap_or (find number_cmp (number_of user) es) 0
 
-over : (n : ℕ) (es : List (Number × ℕ)) → T (is_sorted number_cmp es) → ((k : Number) (v : ℕ) → find number_cmp k es ≡ Some v → k.value < n) → sum_below n (λ user. begun (lookup es user)) ≡ sum_by (λ (e : Number × ℕ). begun e.1) es
+over : (n : ℕ) (es : List (UserNumber × ℕ)) → T (is_sorted number_cmp es) → ((k : UserNumber) (v : ℕ) → find number_cmp k es ≡ Some v → k.value < n) → sum_below n (λ user. begun (lookup es user)) ≡ sum_by (λ (e : UserNumber × ℕ). begun e.1) es
 over n [] sorted keys = sum_below-zeros n (λ user. begun (lookup [] user)) (λ k. refl)
 over n (e ∷ es) sorted keys =
     let parts = both-parts (below_all number_cmp e.0 es) (is_sorted number_cmp es) sorted in
@@ -94,12 +59,12 @@ over n (e ∷ es) sorted keys =
     ap (λ o. begun (unwrap_or o 0)) (cond-false _ _ _ (apart k u other))) in
     let here : begun (lookup (e ∷ es) u) ≡ begun e.1 = ap (λ o. begun (unwrap_or o 0)) (cond-true _ _ _ itself) in
     let none : begun (lookup es u) ≡ 0 = ap (λ o. begun (unwrap_or o 0)) absent in
-    omega (arith, sum_by-cons (λ (x : Number × ℕ). begun x.1) e es)
+    omega (arith, sum_by-cons (λ (x : UserNumber × ℕ). begun x.1) e es)
   where
     apart : (k u : ℕ) → k ≢ u → eq_by_cmp number_cmp (number_of k) (number_of u) ≡ false
     apart k u other = elim (cases_Bool (eq_by_cmp number_cmp (number_of k) (number_of u))) [ inl t ↦ absurd (other (nat_cmp-IsAntisymmetric k u (is_eq-at _ t))) | inr f ↦ f ]
 
-pub sum_below-counts : (n : ℕ) (m : FinMap number_cmp ℕ) → ((k : Number) (v : ℕ) → get m k ≡ Some v → k.value < n) → sum_below n (λ user. begun (count_at m user)) ≡ batches_in m
+pub sum_below-counts : (n : ℕ) (m : FinMap number_cmp ℕ) → ((k : UserNumber) (v : ℕ) → get m k ≡ Some v → k.value < n) → sum_below n (λ user. begun (count_at m user)) ≡ batches_in m
 sum_below-counts n m keys =
     sum_below-alike n (λ user. begun (count_at m user)) (λ user. begun (lookup (entries m) user)) (λ k. ap (λ o. begun (unwrap_or o 0)) (get-entries m (number_of k)))
     ∙ over n (entries m) (entries_sorted m) (λ k v got. keys k v (get-entries m k ∙ got))

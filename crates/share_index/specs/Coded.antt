@@ -2,7 +2,7 @@
 use Rattle.std.specs.Prelude.{ℕ, List, Option, refl}
 use Rattle.std.specs.Coded.{Coded, code_by, coded×, coded_ℕ, coded_list, coded_option}
 use Rattle.std.specs.FinMap as map
-use Rattle.pool_map.specs.contracts.number.Number as number
+use Rattle.share_index.specs.contracts.key.UserNumber as number
 use Rattle.index_base.specs.declared.Accounts.{Accounts}
 use Rattle.index_base.specs.contracts.Accounts as accounts
 use Rattle.share_index.specs.declared.key.Owner.{Owner}

@@ -3,7 +3,7 @@ use Rattle.std.specs.Prelude.{◌≡◌, ℕ, ◌<◌, ◌^◌, List, [], ◌∷
 use Rattle.std.specs.FinMap.{get}
 use Rattle.slot_pool.specs.Pool.{Pool}
 use Rattle.pool_map.specs.declared.Entry.{Entry as Pair}
-use Rattle.pool_map.specs.declared.number.Number.{Number}
+use Rattle.share_index.specs.declared.key.UserNumber.{UserNumber}
 use Rattle.pool_map.specs.Table.{contents}
 use Rattle.pool_map.specs.Shown.{shown}
 use Rattle.index_base.specs.declared.Accounts.TheVariants.{Shared}
@@ -13,13 +13,13 @@ use Rattle.share_index.specs.Counts.{UserCounts, number_cmp, batches_in}
 abbrev pub room_of : List ℕ → ℕ
 room_of limits = slice_index_or limits 0 0
 
-abbrev pub counts_of : Pool (Pair Number ℕ) → UserCounts
+abbrev pub counts_of : Pool (Pair UserNumber ℕ) → UserCounts
 counts_of table = record { counts = shown (λ (x : ℕ × ℕ). x.1) (contents number_cmp table); room = room_of table.limits }
 
-pub record IsCounting (table : Pool (Pair Number ℕ)) (batches : ℕ) : Type 0 where
+pub record IsCounting (table : Pool (Pair UserNumber ℕ)) (batches : ℕ) : Type 0 where
   pub limits : table.limits ≡ room_of table.limits ∷ []
   pub small : room_of table.limits < 2 ^ 32
-  pub charged : IsCharged (Shared (room_of table.limits)) (λ (k : Number). 0) (contents number_cmp table)
-  pub positive : (k : Number) (x : ℕ × ℕ) → get (contents number_cmp table) k ≡ Some x → 0 < x.1
-  pub keys : (k : Number) (x : ℕ × ℕ) → get (contents number_cmp table) k ≡ Some x → k.value < 2 ^ 32
+  pub charged : IsCharged (Shared (room_of table.limits)) (λ (k : UserNumber). 0) (contents number_cmp table)
+  pub positive : (k : UserNumber) (x : ℕ × ℕ) → get (contents number_cmp table) k ≡ Some x → 0 < x.1
+  pub keys : (k : UserNumber) (x : ℕ × ℕ) → get (contents number_cmp table) k ≡ Some x → k.value < 2 ^ 32
   pub counted : batches ≡ batches_in (counts_of table).counts

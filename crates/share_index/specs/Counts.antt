@@ -3,13 +3,13 @@ use Rattle.std.specs.Prelude.{ℕ, zero, suc, ◌+◌, ◌-◌, ◌/◌, ◌==�
 use Rattle.std.specs.declared.cmp.Ordering.{Ordering}
 use Rattle.std.specs.Ordering.{nat_cmp, on}
 use Rattle.std.specs.FinMap.{FinMap, get, insert, remove, entries}
-use Rattle.pool_map.specs.declared.number.Number.{Number}
+use Rattle.share_index.specs.declared.key.UserNumber.{UserNumber}
 
--- the order of numbers as keys
-abbrev pub number_cmp : Number → Number → Ordering
+-- the order of users' numbers
+abbrev pub number_cmp : UserNumber → UserNumber → Ordering
 number_cmp = on (λ n. n.value) nat_cmp
 
-abbrev pub number_of : ℕ → Number
+abbrev pub number_of : ℕ → UserNumber
 number_of user = record { value = user }
 
 -- each user that owns some, and how many users there may be

@@ -1,5 +1,6 @@
 pub mod Order
 pub mod Counts
+pub mod SumBelow
 pub mod Counting
 pub mod Shares
 pub mod Owning

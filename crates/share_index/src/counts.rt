@@ -4,14 +4,15 @@ ghost use Rattle.std.specs.Prelude.{◌≡◌, ◌+◌, ◌-◌, ◌<◌, ◌^�
 ghost use Rattle.std.specs.FinMap as map;
 ghost use Rattle.share_index.specs.Counts.{UserCounts as Counts, count_at, total, number_of, lowered, begun, sum_below};
 
-use pool_map::{HashTable, Number, Table};
+use crate::key::UserNumber;
+use pool_map::{HashTable, Table};
 use std::alloc::{AllocError, Global};
 use std::marker::Model;
 
 /// The number of fingerprints of each user that has some, and the number of batches of 256 that they make.
 #[derive(Drop)]
 pub(crate) struct UserCounts {
-    table: HashTable<Number, u32>,
+    table: HashTable<UserNumber, u32>,
     batches: u32,
 }
 
@@ -52,7 +53,7 @@ impl UserCounts {
         ensures { result ≡ count_at self.now.counts user }
     {
         self.table
-            .get(&Number { value: user as u64 })
+            .get(&UserNumber { value: user })
             .copied()
             .unwrap_or(0)
     }
@@ -63,7 +64,7 @@ impl UserCounts {
         ensures counts { self.new.counts ≡ map.insert self.old.counts (number_of user) (count_at self.old.counts user + 1) }
         ensures room { self.new.room ≡ self.old.room }
     {
-        let key = Number { value: user as u64 };
+        let key = UserNumber { value: user };
         match self.table.get(&key).copied() {
             Some(count) => {
                 self.batches = self.batches - begun(count) + begun(count + 1);
@@ -85,7 +86,7 @@ impl UserCounts {
         ensures counts { self.new.counts ≡ lowered self.old.counts user }
         ensures room { self.new.room ≡ self.old.room }
     {
-        let key = Number { value: user as u64 };
+        let key = UserNumber { value: user };
         let count = self.count(user);
         self.batches = self.batches - begun(count) + begun(count - 1);
         if count == 1 {

@@ -53,3 +53,23 @@ pub struct Kept {
     pub place: Place,
     pub owners: u32,
 }
+
+/// A user's number as a key. Its word is the number, spread over 64 bits.
+#[derive(Clone, Copy, Debug, PartialEq, Eq, PartialOrd, Ord)]
+pub(crate) struct UserNumber {
+    pub value: u32,
+}
+
+impl Key for UserNumber {
+    ghost use Rattle.std.specs.Prelude.{◌*◌, ◌%◌, ◌^◌};
+    ghost use Rattle.std.proofs.Common.{ap};
+    ghost use Rattle.std.specs.FinMap.{nat_cmp-IsAntisymmetric};
+
+    ghost word_of = { λ n. (n.value * 11400714819323198485) % 2 ^ 64 };
+
+    ghost exact = { λ x y e. ap (λ n. record { value = n }) (nat_cmp-IsAntisymmetric x.value y.value e) };
+
+    fn word(&self) -> u64 {
+        (self.value as u64).wrapping_mul(11400714819323198485)
+    }
+}
