@@ -1,22 +1,42 @@
 #!/usr/bin/env bash
-# Builds the program and times it on a script of 1,000 puts of 4,096 bytes and their gets, beside sha256sum on as many
-# bytes. A script has at most 16,777,216 bytes, so the gets are those of the first 500 puts.
+# Builds the program and times a whole session of one put of 64 MiB and one get of it from three of four clouds, with the
+# memory that it takes at most, beside the SHA-256 of as many bytes by the library that the program uses.
+#
+# A put needs two hashes of the file (the key and the package) and one of its four thirds (the shares), a get two of the
+# file: 5.33 times the file's SHA-256 in all.
 set -eu
 top="$(cd "$(dirname "$0")/.." && pwd)"
 work="$(mktemp -d)"
 trap 'rm -rf "$work"' EXIT
-head -c $((1000 * 4096)) /dev/urandom > "$work/bytes"
+size=67108864
+head -c "$size" /dev/urandom | od -An -v -tx1 | tr -d ' \n' > "$work/sent"
 {
-    echo "cdstore 1 4 3"
-    od -An -v -tx1 -w4096 "$work/bytes" | tr -d ' ' | awk '{ print "put 7 66 " NR " " $0 }'
-    for ((i = 1; i <= 500; i++)); do echo "get 7 66 $i 1,2,3"; done
+    printf 'cdstore 1 4 3\nput 7 66 1 '
+    cat "$work/sent"
+    printf '\nget 7 66 1 1,2,3\n'
 } > "$work/script"
+
+mkdir -p "$work/crates/sessions_bench/src" "$work/crates/cd_base"
+(cd "$top/crates/cd_base" && tar cf - --exclude=./out --exclude=./must-fail .) | (cd "$work/crates/cd_base" && tar xf -)
+grep '^cd_base:' "$top/crates.txt" > "$work/crates.txt"
+echo 'sessions_bench: cd_base' >> "$work/crates.txt"
+cp "$top/HANDLES" "$work/HANDLES"
+cp "$top/bench/sessions.rt.txt" "$work/crates/sessions_bench/src/main.rt"
+(cd "$work/crates/sessions_bench" && rt run > "$work/hash" 2> "$work/log") || { cat "$work/log"; exit 1; }
+
 cd "$top/crates/cdstore"
 echo 'cdstore 1 4 3' | rt run -- replay d > "$work/log" 2>&1 || { cat "$work/log"; exit 1; }
 program="$top/crates/cdstore/out/cdstore"
-time_of() { local from; from=$(date +%s%N); "$@" > /dev/null; echo $((($(date +%s%N) - from) / 1000)); }
-replay() { "$program" replay d < "$work/script"; }
-took=$(time_of replay)
-hash=$(time_of sha256sum "$work/bytes")
-echo "1,000 puts and 500 gets of 4,096 bytes: $took microseconds; sha256sum of the bytes put: $hash microseconds"
-awk -v a="$took" -v b="$hash" 'BEGIN { printf "ratio %.2f\n", a / b }'
+python3 - "$program" "$work/script" "$work/transcript" "$(tail -n 1 "$work/hash" | cut -d ' ' -f 1)" "$size" <<'PY'
+import resource, subprocess, sys, time
+program, script, transcript, hashed, size = sys.argv[1:]
+begun = time.time()
+with open(script) as source, open(transcript, "w") as sink:
+    subprocess.run([program, "replay", "d"], stdin=source, stdout=sink, check=True)
+took = (time.time() - begun) * 1e6
+peak = resource.getrusage(resource.RUSAGE_CHILDREN).ru_maxrss * 1024
+hashed, size = float(hashed), int(size)
+print(f"one put and one get of 64 MiB: {took / 1e6:.2f} s, {size / took:.1f} MB/s; SHA-256 of the file once: {hashed / 1e6:.2f} s")
+print(f"{took / hashed:.2f} times the file's SHA-256, {took / (hashed * 16 / 3):.2f} times the hashes of the session; {peak / size:.2f} bytes of memory a byte of the file")
+PY
+sed -n 's/^got //p' "$work/transcript" | tr -d '\n' | cmp - "$work/sent"

@@ -14,100 +14,15 @@ use Rattle.cd_base.specs.declared.ids.Version.{Version}
 use Rattle.cd_top.specs.declared.first.TheConstants.{NUMBERS}
 use Rattle.cd_top.specs.declared.first.PutNews.{PutNews}
 use Rattle.cd_top.specs.declared.first.PutNews.TheVariants as answers
-use Rattle.cd_top.specs.News.{news_of, IsNewsOf, AreBytesOf}
-use Rattle.cd_top.specs.Held.{file_width, file_share, IsFileAt, AreFilesAt, HoldsAt, Holds, Held, is_named}
-use Rattle.cd_base.specs.Lengths.{share_len_of}
-use Rattle.caont_rs.specs.Opening.{opened}
-use Rattle.caont_rs.specs.declared.opening.RecoverErr.{RecoverErr}
-use Rattle.caont_rs.specs.declared.opening.RecoverErr.TheVariants as errors
-use Rattle.caont_rs.proofs.Opened.{gives_back}
-use Rattle.reed_solomon.specs.Dispersal.{row, AreChoice}
-use Rattle.reed_solomon.proofs.Shares.{row_byte}
+use Rattle.cd_top.specs.News.{news_of, IsNewsOf, IsGot}
+use Rattle.cd_top.specs.Held.{IsFileAt, AreFilesAt, HoldsAt, Holds, Held, is_named}
+use Rattle.std.specs.List.{range_with_len}
+use Rattle.std.proofs.lemmas.List.FromFn.{length-map-range_with_len, get_or-map-range_with_len}
+use Rattle.std.proofs.lemmas.Option.{slice_get-get_or}
+use Rattle.std.specs.Prelude.{slice_get, map}
+use Rattle.file_recipe.specs.Clouds.{cloud_file, dispersed}
+use Rattle.reed_solomon.specs.Dispersal.{AreChoice}
 use Rattle.reed_solomon.proofs.Recovery.{number_at}
-
--- a row that lies within has the width
-row_len : (w j : ℕ) (xs : List ℕ) → (j + 1) * w ≤ length xs → length (row w j xs) ≡ w
-row_len w j xs le =
-    let next : (j + 1) * w ≡ j * w + w = add-mul j 1 w ∙ ap (λ (z : ℕ). j * w + z) (one-mul w) in
-    length-take-le w (drop (j * w) xs) (omega (arith, length-drop (j * w) xs))
-
--- rows of the same bytes are the same
-same_row : (w a b : ℕ) (xs ys : List ℕ) → (a + 1) * w ≤ length xs → (b + 1) * w ≤ length ys →
-    ((c : ℕ) → c < w → slice_index xs (a * w + c) ≡ slice_index ys (b * w + c)) → row w a xs ≡ row w b ys
-same_row w a b xs ys la lb same =
-    ext_get_or 0 (row w a xs) (row w b ys) (row_len w a xs la ∙ sym (row_len w b ys lb))
-    (λ c l. let lt : c < w = omega (arith, row_len w a xs la) in row_byte w a c xs lt ∙ same c lt ∙ sym (row_byte w b c ys lt))
-
--- a list that was written whole, as the vector holds it
-written_back : (new rest : List ℕ) (len : ℕ) → len ≡ length new → take len (new ++ rest) ≡ new
-written_back new rest len e = rw e (take-append_seam new rest)
-
--- the shares that the points name, one after another
-abbrev pub Gathered : ℕ → List ℕ → List ℕ → List ℕ → Type 0
-Gathered w points shares given = (t c : ℕ) → t < length points → c < w → slice_index given (t * w + c) ≡ slice_index shares (slice_index points t * w + c)
-
--- what is opened of a file's shares are its bytes
-pub opened_file : (s : Shape) (w : ℕ) (points given : List ℕ) (file : StoredFile) (put : FilePut) → AreChoice s points → IsFileAt s points file put → 0 < file.len → w ≡ share_len_of s.k file.len →
-    ((i : ℕ) → slice_index given i < 256) → length given ≡ s.k * w → ((t : ℕ) → t < length points → (slice_index points t + 1) * w ≤ length file.shares) → Gathered w points file.shares given →
-    opened s file.len points given ≡ Ok put.bytes
-opened_file s w points given file put choice at some width bytes long within gathered = by_bytes put.bytes at.len_is at.are_bytes at.shares_are
-  where
-    by_bytes : (text : List ℕ) → file.len ≡ length text → ((i : ℕ) → slice_index text i < 256) →
-        ((t : ℕ) → t < length points → row (file_width s.k file.len) (slice_index points t) file.shares ≡ file_share s (slice_index points t) text) → opened s file.len points given ≡ Ok text
-    by_bytes [] len are rows = absurd (omega arith)
-    by_bytes (b ∷ text) len are rows =
-        let w_is : w ≡ share_len_of s.k (length (b ∷ text)) = width ∙ ap (share_len_of s.k) len in
-        ap (λ z. opened s z points given) len ∙
-        gives_back s (b ∷ text) points given choice are bytes (long ∙ ap (λ z. s.k * z) w_is)
-        (λ t lt.
-        let lt' : t < length points = omega (arith, choice.count) in
-        let fits : (t + 1) * w ≤ s.k * w = mul-le-mul_right w (omega arith) in
-        let la : (t + 1) * w ≤ length given = omega arith in
-        ap (λ z. row z t given) (sym w_is) ∙ same_row w t (slice_index points t) given file.shares la (within t lt') (λ c l. gathered t c lt' l)
-        ∙ ap (λ z. row z (slice_index points t) file.shares) (w_is ∙ ap (file_width s.k) (sym len)) ∙ rows t lt')
-
--- what is opened of the gathered shares, as the vector holds them
-pub opened_read : (s : Shape) (w : ℕ) (points shares target items read : List ℕ) (len : ℕ) (file : StoredFile) (put : FilePut) → AreChoice s points → IsFileAt s points file put → (file.len ≡ 0 → ⊥) → w ≡ share_len_of s.k file.len →
-    shares ≡ file.shares → length file.shares ≡ s.n * w → ((i : ℕ) → slice_index target i < 256) → Gathered w points shares target → len ≡ length items → len ≡ s.k * w → length target ≡ length items →
-    read ≡ take len (target ++ drop (length target) items) → opened s file.len points read ≡ Ok put.bytes
-opened_read s w points shares target items read len file put choice at some width shares_are long bytes gathered vec_long vec_len target_len is =
-    let read_is : read ≡ target = is ∙ written_back target (drop (length target) items) len (vec_long ∙ sym target_len) in
-    let pos : 0 < file.len = omega (arith, some) in
-    ap (opened s file.len points) read_is ∙
-    opened_file s w points target file put choice at pos width bytes (target_len ∙ sym vec_long ∙ vec_len)
-    (λ t lt. let lt' : t < s.k = omega (arith, choice.count) in let in_n = choice.within t lt' in let le : (slice_index points t + 1) * w ≤ s.n * w = mul-le-mul_right w (omega arith) in omega arith)
-    (λ t c lt l. gathered t c lt l ∙ ap (λ z. slice_index z (slice_index points t * w + c)) shares_are)
-
--- an opening gives one text
-abbrev text_of : Result (List ℕ) RecoverErr → List ℕ
-text_of (Ok text) = text
-text_of (Err error) = []
-
-pub opened_text : (s : Shape) (len : ℕ) (points given text bytes read : List ℕ) → opened s len points given ≡ Ok bytes → opened s len points given ≡ Ok text → read ≡ [] ++ text → Some read ≡ Some bytes
-opened_text s len points given text bytes read a b appended = ap Some (appended ∙ ap text_of (sym b ∙ a))
-
--- a refusal comes only for want of memory
-pub never_refused : (s : Shape) (len : ℕ) (points given bytes : List ℕ) (error : RecoverErr) (result : Result (Option (List ℕ)) NoMemory) → opened s len points given ≡ Ok bytes →
-    (error ≢ errors.NoMemory → opened s len points given ≡ Err error) → (error ≡ errors.NoMemory → IsErr result) → IfOk result (λ read. read ≡ Some bytes)
-never_refused s len points given bytes (errors.BadSecret named found) result opens refused unread = let e = sym opens ∙ refused (λ same. cc) in absurd cc
-never_refused s len points given bytes (errors.BadPad at byte) result opens refused unread = let e = sym opens ∙ refused (λ same. cc) in absurd cc
-never_refused s len points given bytes errors.NoMemory (Ok read) opens refused unread = let e = unread refl in absurd cc
-never_refused s len points given bytes errors.NoMemory (Err e) opens refused unread = tt
-
--- a file without bytes
-pub empty_file : (s : Shape) (points : List ℕ) (file : StoredFile) (put : FilePut) → IsFileAt s points file put → file.len ≡ 0 → [] ≡ put.bytes
-empty_file s points file put at none = by_bytes put.bytes at.len_is
-  where
-    by_bytes : (text : List ℕ) → file.len ≡ length text → [] ≡ text
-    by_bytes [] len = refl
-    by_bytes (b ∷ text) len = absurd (omega arith)
-
-pub file_long : (s : Shape) (points : List ℕ) (file : StoredFile) (put : FilePut) (w : ℕ) → IsFileAt s points file put → 0 < file.len → w ≡ share_len_of s.k file.len → length file.shares ≡ s.n * w
-file_long s points file put w at some width = at.long ∙ ap (λ z. s.n * z) (by_len file.len some ∙ sym width)
-  where
-    by_len : (len : ℕ) → 0 < len → file_width s.k len ≡ share_len_of s.k len
-    by_len zero pos = absurd (omega arith)
-    by_len (suc len) pos = refl
 
 -- ---- the first k clouds
 
@@ -176,18 +91,17 @@ none_found s clouds None None none found = refl
 none_found s clouds None (Some put) none found = absurd found
 none_found s clouds (Some file) put none found = absurd cc
 
--- what was read is what the put says, where it is what any such put says
-bytes_of_found : (s : Shape) (clouds : List ℕ) (read : Option (List ℕ)) (file : StoredFile) (put : FilePut) → IsFileAt s clouds file put → ((p : FilePut) → IsFileAt s clouds file p → read ≡ Some p.bytes) → AreBytesOf (Some put) read
-bytes_of_found s clouds None file put at reads = let e = reads put at in absurd cc
-bytes_of_found s clouds (Some read) file put at reads = (let e = reads put at in cc, refl)
+pub got_found : (s : Shape) (clouds old new : List ℕ) (result : Result Bool NoMemory) (stored : Option StoredFile) (file : StoredFile) (put : Option FilePut) → stored ≡ Some file → Found s clouds stored put →
+    ((p : FilePut) → IsFileAt s clouds file p → IfOk result (λ whole. IsTrue whole × (new ≡ old ++ p.bytes))) → IfOk result (λ found. IsGot put old new found)
+got_found s clouds old new result None file put is found opens = absurd cc
+got_found s clouds old new result (Some other) file None is found opens = absurd found
+got_found s clouds old new (Err e) (Some other) file (Some put) is found opens = tt
+got_found s clouds old new (Ok whole) (Some other) file (Some put) is found opens =
+    let same : other ≡ file = cc in opens put (subst (λ f. IsFileAt s clouds f put) same found)
 
-pub read_found : (s : Shape) (clouds : List ℕ) (result : Result (Option (List ℕ)) NoMemory) (stored : Option StoredFile) (file : StoredFile) (put : Option FilePut) → stored ≡ Some file → Found s clouds stored put →
-    ((p : FilePut) → IsFileAt s clouds file p → IfOk result (λ read. read ≡ Some p.bytes)) → IfOk result (λ read. AreBytesOf put read)
-read_found s clouds result None file put is found reads = absurd cc
-read_found s clouds result (Some other) file None is found reads = absurd found
-read_found s clouds (Err e) (Some other) file (Some put) is found reads = tt
-read_found s clouds (Ok read) (Some other) file (Some put) is found reads =
-    let same : other ≡ file = cc in bytes_of_found s clouds read file put (subst (λ f. IsFileAt s clouds f put) same found) reads
+pub got_none : (put : Option FilePut) (out : List ℕ) → put ≡ None → IsGot put out out false
+got_none None out none = (refl, refl)
+got_none (Some put) out none = absurd cc
 
 pub news_found : (s : Shape) (clouds bytes : List ℕ) (stored : Option StoredFile) (file : StoredFile) (put : Option FilePut) (same : Bool) → stored ≡ Some file → Found s clouds stored put →
     ((p : FilePut) → IsFileAt s clouds file p → same ≡ bytes_eq p.bytes bytes) → IsNewsOf put bytes (Some (cond same answers.Stored answers.Exists))
@@ -195,14 +109,6 @@ news_found s clouds bytes None file put same is found tests = absurd cc
 news_found s clouds bytes (Some other) file None same is found tests = absurd found
 news_found s clouds bytes (Some other) file (Some put) same is found tests =
     let e : other ≡ file = cc in (refl, ap (λ b. cond b answers.Stored answers.Exists) (tests put (subst (λ f. IsFileAt s clouds f put) e found)))
-
-pub got : (put : Option FilePut) (old new read : List ℕ) → AreBytesOf put (Some read) → new ≡ old ++ read → MatchOption put (IsFalse true × (new ≡ old)) (λ p. IsTrue true × (new ≡ old ++ p.bytes))
-got None old new read are appended = absurd cc
-got (Some put) old new read are appended = (refl, appended ∙ ap (λ l. old ++ l) are.0)
-
-pub got_none : (put : Option FilePut) (out : List ℕ) → put ≡ None → MatchOption put (IsFalse false × (out ≡ out)) (λ p. IsTrue false × (out ≡ out ++ p.bytes))
-got_none None out none = (refl, refl)
-got_none (Some put) out none = absurd cc
 
 pub kept : (found : Option FilePut) (put : FilePut) (puts : List FilePut) → IsSome found → puts_with found put puts ≡ puts
 kept None put puts some = absurd cc
@@ -221,17 +127,21 @@ pub known_at : (s : Shape) (files read : List StoredFile) (puts : List FilePut) 
 known_at s files read puts user path bytes version known holds same tests =
     tests puts (subst (λ l. AreFilesAt s (take s.k NUMBERS) l puts) (sym same) (holds (take s.k NUMBERS) (first_within s)).files_are)
 
+-- what a cloud gets of a file that is dispersed
+pub dispersed_at : (s : Shape) (path bytes : List ℕ) (cloud : ℕ) → cloud < s.n → slice_get (dispersed s path bytes) cloud ≡ Some (cloud_file s cloud path bytes)
+unfolding dispersed
+dispersed_at s path bytes cloud within =
+    slice_get-get_or (map (λ j. cloud_file s j path bytes) (range_with_len 0 s.n)) cloud (cloud_file s cloud path bytes) (omega (arith, length-map-range_with_len (λ j. cloud_file s j path bytes) 0 s.n))
+    ∙ ap Some (get_or-map-range_with_len (λ j. cloud_file s j path bytes) 0 s.n cloud cloud (cloud_file s cloud path bytes) within (omega arith))
+
 pub file_at : (s : Shape) (clouds : List ℕ) (file : StoredFile) (put : FilePut) → file.user ≡ put.user → file.path.items ≡ put.path → file.version ≡ put.version → ((i : ℕ) → slice_index put.bytes i < 256) →
-    file.len ≡ length put.bytes → length file.shares ≡ s.n * file_width s.k (length put.bytes) →
-    ((cloud : ℕ) → cloud < s.n → row (file_width s.k (length put.bytes)) cloud file.shares ≡ file_share s cloud put.bytes) → All (λ cloud. cloud < s.n) clouds → IsFileAt s clouds file put
-file_at s clouds file put user path version bytes len long rows within = record {
+    file.clouds ≡ dispersed s put.path put.bytes → All (λ cloud. cloud < s.n) clouds → IsFileAt s clouds file put
+file_at s clouds file put user path version bytes is within = record {
   user_is = user;
   path_is = path;
   version_is = version;
   are_bytes = bytes;
-  len_is = len;
-  long = long ∙ ap (λ z. s.n * file_width s.k z) (sym len);
-  shares_are = λ t lt. ap (λ z. row (file_width s.k z) (slice_index clouds t) file.shares) len ∙ rows (slice_index clouds t) (within t 0 lt);
+  kept = λ t lt. ap (λ files. slice_get files (slice_index clouds t)) is ∙ dispersed_at s put.path put.bytes (slice_index clouds t) (within t 0 lt);
 }
 
 pub news_none : (found : Option FilePut) (bytes : List ℕ) → found ≡ None → answers.Stored ≡ news_of found bytes

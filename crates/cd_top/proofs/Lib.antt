@@ -1,4 +1,5 @@
 pub mod Clouds
+pub mod Restoring
 pub mod LinesRead
 pub mod Named
 pub mod StepsMade

@@ -1,5 +1,6 @@
 pub mod Puts
 pub mod Held
+pub mod Pieces
 pub mod News
 pub mod Due
 pub mod Endings

@@ -1,5 +1,5 @@
 -- What a put answers.
-use Rattle.std.specs.Prelude.{◌≡◌, ℕ, List, Option, Some, None, IsSome, IfSome, if◌then◌else◌}
+use Rattle.std.specs.Prelude.{◌≡◌, ℕ, Bool, IsTrue, IsFalse, List, ◌++◌, Option, Some, None, IsSome, if◌then◌else◌}
 use Rattle.std.specs.Str.{bytes_eq}
 use Rattle.cd_top.specs.Puts.{FilePut}
 use Rattle.cd_top.specs.declared.first.PutNews.{PutNews}
@@ -15,7 +15,7 @@ abbrev pub IsNewsOf : Option FilePut → List ℕ → Option PutNews → Type 0
 IsNewsOf put bytes None = put ≡ None
 IsNewsOf put bytes (Some answer) = IsSome put × (answer ≡ news_of put bytes)
 
--- the bytes of a put, where there is one
-abbrev pub AreBytesOf : Option FilePut → Option (List ℕ) → Type 0
-AreBytesOf put None = put ≡ None
-AreBytesOf put (Some read) = IfSome put (λ p. read ≡ p.bytes) × IsSome put
+-- What a get appends and answers: the bytes of the put under its name, or nothing where there is none.
+abbrev pub IsGot : Option FilePut → List ℕ → List ℕ → Bool → Type 0
+IsGot None before after found = IsFalse found × (after ≡ before)
+IsGot (Some put) before after found = IsTrue found × (after ≡ before ++ put.bytes)

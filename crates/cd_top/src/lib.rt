@@ -3,6 +3,7 @@
 
 pub mod first;
 mod replay;
+mod restore;
 mod stored;
 mod top;
 

@@ -139,20 +139,42 @@ fn a_path_has_a_limit(rt: HostRuntime) -> Result<(), Fail> {
     Ok(())
 }
 
-#[test]
-fn a_script_has_a_limit(rt: HostRuntime) -> Result<(), Fail> {
-    let mut script = Vec::new(rt.alloc());
-    script.extend_from_slice(b"cdstore 1 4 3\n")?;
-    for _ in 0..986_895u32 {
-        script.extend_from_slice(b"get 7 61 1 0,1,2\n")?;
+// Puts a file of 40,000 bytes, of several secrets, whose bytes differ by a seed.
+fn long_script(alloc: Global, seed: u8, gets: &[u8]) -> Result<Vec<u8>, Fail> {
+    let mut script = Vec::new(alloc);
+    script.extend_from_slice(b"cdstore 1 4 3\nput 7 61 1 ")?;
+    push_long(&mut script, seed)?;
+    script.push(b'\n')?;
+    script.extend_from_slice(gets)?;
+    Ok(script)
+}
+
+// The bytes of that file, in hexadecimal.
+fn push_long(text: &mut Vec<u8>, seed: u8) -> Result<(), Fail> {
+    let digits = b"0123456789abcdef";
+    let mut state = seed;
+    for _ in 0..80_000_u32 {
+        state = state.wrapping_mul(77).wrapping_add(1);
+        text.push(digits[(state >> 4) as usize])?;
     }
-    let ended = ran_into(rt.alloc(), 18_000_000, &script)?;
-    assert_eq!(rt; ended.status, 2);
-    assert!(rt;
-        ended
-            .text
-            .ends_with(b"\nrefused missing 0\nscript 986896 4 37\n")
-    );
+    Ok(())
+}
+
+#[test]
+fn a_long_file_comes_back_from_any_clouds(rt: HostRuntime) -> Result<(), Fail> {
+    let gets = b"get 7 61 1 0,1,2\nget 7 61 1 0,1,3\nget 7 61 1 0,2,3\nget 7 61 1 1,2,3\n";
+    let script = long_script(rt.alloc(), 5, gets)?;
+    let ended = ran_into(rt.alloc(), 400_000, &script)?;
+    let mut wanted = Vec::new(rt.alloc());
+    wanted.extend_from_slice(b"open 4 3\nstored 1\n")?;
+    for _ in 0..4_u8 {
+        wanted.extend_from_slice(b"got ")?;
+        push_long(&mut wanted, 5)?;
+        wanted.push(b'\n')?;
+    }
+    wanted.extend_from_slice(b"done 5\n")?;
+    assert_eq!(rt; ended.status, 0);
+    assert!(rt; ended.text.as_slice() == wanted.as_slice());
     Ok(())
 }
 

@@ -33,4 +33,4 @@ returns-clause-stored c puts holds =
     let held = subst (λ (h : Held). Holds h puts) (sym c.self.view_is) holds in
     let known = known_at c.self.inside.shape c.self.inside.files.items c.deref.result.now puts c.args.user c.args.path.now c.args.bytes.now c.args.version c.in_ok-news.field-0 held c.deref.ensures.value c.in_ok-news.ensures in
     stored_new (record { shape = c.self.inside.shape; files = c.self.inside.files.items }) _ put _ puts _ (subst (IsNewsOf put c.args.bytes.now) c.in-None.is known) (sym c.in_ok-push.ensures.items) held
-    (λ clouds within. file_at c.self.inside.shape clouds _ _ refl c.in_ok-copy_of.ensures refl (λ i. omega (arith, c.type_inv.bytes i)) refl c.in_ok-shares_of.ensures.len c.in_ok-shares_of.ensures.rows within)
+    (λ clouds within. file_at c.self.inside.shape clouds _ (record { user = c.args.user; path = c.args.path.now; version = c.args.version; bytes = c.args.bytes.now }) refl c.in_ok-copy_of.ensures refl (λ i. omega (arith, c.type_inv.bytes i)) c.in_ok-disperse_file.ensures within)
