@@ -1,0 +1,5 @@
+pub mod ItemLaws
+pub mod BodyLaws
+pub mod Walks
+pub mod Spelled
+pub mod Cuts

@@ -1,0 +1,107 @@
+//! Reading the fields of a body, from left to right.
+
+ghost use Rattle.std.specs.Int.{w32};
+ghost use Rattle.grammar.specs.Fields.{number_at, checked};
+ghost use Rattle.message_fields.specs.Parts.{times, behind};
+ghost use Rattle.message_fields.specs.Readings.{IsReading};
+ghost use Rattle.message_fields.specs.Shares.{is_share_len};
+ghost use Rattle.record_body.specs.Reading.{place_at, placed_at, item_at, commit_at, is_recipe_len};
+ghost use Rattle.record_body.specs.Spelling.{Commit};
+
+use crate::{CommitBody, PutItem};
+use cd_base::{Tag, Version};
+use message_fields::{Left, array_of, fp_of, u32_of, u64_of, user_of};
+use share_index::Place;
+
+// The length of a share, 1 to 8,208.
+fn share_len_of(bytes: &[u8]) -> Result<(u32, &[u8]), Left>
+    ensures { IsReading (λ x. (x.0, x.1.now)) result (checked is_share_len (number_at w32) bytes.now) }
+{
+    let (len, rest) = u32_of(bytes)?;
+    if 1 <= len && len <= 8208 {
+        Ok((len, rest))
+    } else {
+        Err(Left(bytes.len()))
+    }
+}
+
+// The length of a recipe, at least 1.
+fn recipe_len_of(bytes: &[u8]) -> Result<(u32, &[u8]), Left>
+    ensures { IsReading (λ x. (x.0, x.1.now)) result (checked is_recipe_len (number_at w32) bytes.now) }
+{
+    let (len, rest) = u32_of(bytes)?;
+    if 1 <= len {
+        Ok((len, rest))
+    } else {
+        Err(Left(bytes.len()))
+    }
+}
+
+#[tactic(auto, unfolding(crate::specs::Reading::place_at))]
+fn place_of(bytes: &[u8]) -> Result<(Place, &[u8]), Left>
+    ensures { IsReading (λ x. (x.0, x.1.now)) result (place_at bytes.now) }
+{
+    let (at, rest) = u64_of(bytes)?;
+    let (len, rest) = share_len_of(rest)?;
+    Ok((Place { at, len }, rest))
+}
+
+// A flag, and the place behind flag 1.
+#[tactic(auto, unfolding(crate::specs::Reading::placed_at))]
+fn placed_of(bytes: &[u8]) -> Result<(Option<Place>, &[u8]), Left>
+    ensures { IsReading (λ x. (x.0, x.1.now)) result (placed_at bytes.now) }
+{
+    match bytes {
+        [] => Err(Left(0)),
+        [0, rest @ ..] => Ok((None, rest)),
+        [1, rest @ ..] => {
+            let (place, rest) = place_of(rest)?;
+            Ok((Some(place), rest))
+        }
+        _ => Err(Left(bytes.len())),
+    }
+}
+
+/// An item of a Put, and what follows it.
+#[tactic(auto, unfolding(crate::specs::Reading::item_at))]
+pub fn item_of(bytes: &[u8]) -> Result<(PutItem, &[u8]), Left>
+    ensures { IsReading (λ x. (x.0, x.1.now)) result (item_at bytes.now) }
+{
+    let (fp, rest) = fp_of(bytes)?;
+    let (place, rest) = placed_of(rest)?;
+    Ok((PutItem { fp, place }, rest))
+}
+
+/// What follows so many items.
+pub fn behind_items(bytes: &[u8], count: usize) -> Result<&[u8], Left>
+    ensures { IsReading (λ rest. rest.now) result (behind (times item_at count bytes.now)) }
+{
+    let mut rest = bytes;
+    for _i in 0..count {
+        let (_, after) = item_of(rest)?;
+        rest = after;
+    }
+    Ok(rest)
+}
+
+/// The fields of a Commit, and what follows them.
+#[tactic(auto, unfolding(crate::specs::Reading::commit_at))]
+pub fn commit_of(bytes: &[u8]) -> Result<(CommitBody, &[u8]), Left>
+    ensures { IsReading (λ x. (Commit x.0, x.1.now)) result (commit_at bytes.now) }
+{
+    let (user, rest) = user_of(bytes)?;
+    let (tag, rest) = array_of(rest)?;
+    let (version, rest) = u64_of(rest)?;
+    let (at, rest) = u64_of(rest)?;
+    let (len, rest) = recipe_len_of(rest)?;
+    let (fp, rest) = fp_of(rest)?;
+    let commit = CommitBody {
+        user,
+        tag: Tag(tag),
+        version: Version(version),
+        at,
+        len,
+        fp,
+    };
+    Ok((commit, rest))
+}
