@@ -1,0 +1,27 @@
+-- What is answered by a list.
+use Rattle.std.specs.Prelude.{◌≡◌, ℕ, ◌≤◌, List, length, Result, MatchResult}
+use Rattle.cd_base.specs.declared.shape.Shape.{Shape}
+use Rattle.messages.specs.declared.request.Request.{Request}
+use Rattle.messages.specs.declared.request.Request.TheVariants as requests
+use Rattle.messages.specs.declared.reply.Reply.TheVariants as replies
+use Rattle.user_dedup.specs.declared.command.Command.{Command}
+use Rattle.user_dedup.specs.Dedup.{Outcome, only, answer_over}
+use Rattle.list_link.specs.declared.answers.Served.{Served}
+
+-- the reply, and the command that it adds
+abbrev pub outcome_of : Served → Outcome
+outcome_of s = record { reply = s.reply; adds = s.adds }
+
+-- the answer to what was read, or Malformed at the place that fails
+abbrev pub IsAnswer : Shape → ℕ → List Command → Result Request ℕ → Served → Type 0
+IsAnswer shape cloud list read s = MatchResult read (λ request. outcome_of s ≡ answer_over shape cloud list request) (λ at. outcome_of s ≡ only (replies.Malformed at))
+
+-- the recipe of a Commit isn't longer than the content of a frame
+abbrev pub HasFewBytes : Request → Type 0
+HasFewBytes requests.Hello = Unit {0}
+HasFewBytes (requests.Query user fps) = Unit {0}
+HasFewBytes (requests.Put user shares) = Unit {0}
+HasFewBytes (requests.Commit user tag version recipe) = length recipe ≤ 4194304
+HasFewBytes (requests.GetRecipe user tag version) = Unit {0}
+HasFewBytes (requests.GetShares user fps) = Unit {0}
+HasFewBytes (requests.List user after) = Unit {0}

@@ -1,0 +1,30 @@
+//! The answers of a list of commands to the content of frames.
+
+ghost use Rattle.std.specs.Prelude.{◌≤◌, length, IfOk};
+ghost use Rattle.cd_base.specs.declared.shape.Shape.{Shape};
+ghost use Rattle.user_dedup.specs.Requests.{asked_at};
+ghost use Rattle.list_link.specs.Serving.{IsAnswer};
+
+use crate::answers::{Served, only, serve};
+use cd_base::{NoMemory, Shape};
+use messages::{MsgErr, Reply, Request};
+use std::alloc::Global;
+use user_dedup::Command;
+
+/// The answer to the content of a frame, by a list. The only error is want of memory.
+pub fn answered(
+    alloc: Global,
+    shape: Shape,
+    cloud: u8,
+    list: &[Command],
+    content: &[u8],
+) -> Result<Served, NoMemory>
+    requires { length content.now ≤ 4194304 }
+    ensures { IfOk result (IsAnswer shape cloud list.now (asked_at shape content.now)) }
+{
+    match Request::read(alloc, content) {
+        Ok(request) => serve(alloc, shape, cloud, list, &request),
+        Err(MsgErr::Malformed { at }) => Ok(only(Reply::Malformed { at })),
+        Err(MsgErr::NoMemory) => Err(NoMemory),
+    }
+}
