@@ -5,7 +5,7 @@ pub mod Counts
 pub mod Above
 pub mod Steps
 pub mod Ring
-pub mod Chains
+pub mod Walks
 pub mod Unlink
 pub mod Unhash
 pub mod Rewrite

@@ -13,6 +13,7 @@ use Rattle.slot_pool.specs.declared.Content.TheVariants.{Empty, Held}
 use Rattle.slot_pool.specs.Pool.{IsHeld, value_of}
 use Rattle.pool_map.specs.declared.Entry.{Entry}
 use Rattle.pool_map.specs.Table.{is_held}
+use Rattle.pool_map.specs.Chains.{HasKey}
 use Rattle.pool_map.specs.Index.{IsIndex, IsRing, IsOrdered, IsStart, IsSeek, IsBeforeKey, IsBeforeGap, IsLeastAbove, HasNoneAbove, before, placed}
 use Rattle.pool_map.proofs.Order.{held-parts, held-from, same-account, order-once, place-in-range, below-from, above-from, index-insert, index-remove}
 use Rattle.pool_map.proofs.Steps.{Splits, gap-splits, place-splits, none-above, least-above, fresh-index}
@@ -313,6 +314,16 @@ module _ {K W : Type 0} (R : K → K → Ordering) (total : IsTotalOrder R) wher
 
       pub key-live : (n : ℕ) → n ≡ get_or next at 0 → IsHeld (get_or cells n Empty)
       key-live n read = subst (λ t. IsHeld (get_or cells t Empty)) (sym (read ∙ key-slot 0)) (h.ordered.index.live h.place h.found.in_range)
+
+      pub key-has : HasKey R cells key (get_or next at 0)
+      key-has =
+          let p = held-parts _ (h.ordered.index.live h.place h.found.in_range) in
+          record {
+            account = p.0;
+            entry = p.1;
+            holds = ap (λ t. get_or cells t Empty) (key-slot 0) ∙ p.2;
+            ties = h.found.has_key p.0 p.1 p.2;
+          }
 
       -- what comes after the key's slot
       pub key-after : get_or next (get_or next at 0) 0 ≡ get_or h.ordered.order (h.place + 1) (length cells)

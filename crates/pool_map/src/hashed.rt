@@ -1,8 +1,8 @@
 // A table whose slots are chained by their keys' words.
+use super::chains::Chains;
 use super::{Entry, Key, Table, TableFull};
 use slot_pool::{Content, Pool, Slot};
 use std::alloc::{AllocError, Global};
-use std::cmp::Ordering;
 use std::marker::Model;
 use std::mem;
 
@@ -10,10 +10,8 @@ use std::mem;
 #[derive(Drop)]
 pub struct HashTable<K: Key, W> {
     pool: Pool<Entry<K, W>>,
-    // the first slot of each bucket's chain, or a number past the slots
-    heads: Vec<u32>,
-    // the slot after each slot in its chain, or a number past the slots
-    next: Vec<u32>,
+    // where the slot of a key is
+    chains: Chains,
     // how many slots hold a pair
     len: u32,
 }
@@ -30,42 +28,11 @@ impl<K: Key, W> Model for HashTable<K, W> {
 
     ghost view = { λ t. t.pool };
 
-    ghost invariant = { λ t. IsHashed K.cmp K.word_of t.pool.slots t.heads.items t.next.items × (t.len ≡ count_by is_held t.pool.slots) };
+    ghost invariant = { λ t. IsHashed K.cmp K.word_of t.pool.slots t.chains.heads.items t.chains.next.items × (t.len ≡ count_by is_held t.pool.slots) };
 }
 
-ghost use Rattle.std.specs.Prelude.{◌≡◌, ◌≢◌, ◌<◌, ℕ, IfSome, IfNone, IfOk, length, replicate, slice_index};
+ghost use Rattle.std.specs.Prelude.{◌≡◌, length, replicate};
 ghost use Rattle.slot_pool.specs.declared.Content.TheVariants.{Empty};
-ghost use Rattle.pool_map.specs.Chains.{IsHashed, HasKey, LacksKey, bucket, IsLinked, UnlinksOwn, KeepsOthers};
-
-// The bucket of a key: the words are cut into as many equal ranges as there are buckets.
-fn bucket_of<K: Key>(key: &K, buckets: usize) -> usize
-    requires { 0 < buckets }
-    ensures same { result ≡ bucket K.word_of buckets key.now }
-    ensures in_range { result < buckets }
-{
-    ((key.word() as u128 * buckets as u128) >> 64) as usize
-}
-
-// The slot of a key, if it has one.
-fn find<K: Key, W>(pool: &Pool<Entry<K, W>>, heads: &[u32], next: &[u32], key: &K) -> Option<u32>
-    requires { IsHashed K.cmp K.word_of pool.now.slots heads.now next.now }
-    ensures found { IfSome result (HasKey K.cmp pool.now.slots key.now) }
-    ensures absent { IfNone result (LacksKey K.cmp pool.now.slots key.now) }
-{
-    let start = bucket_of(key, heads.len());
-    let mut at = heads[start];
-    for _step in 0..next.len() {
-        if at as usize >= next.len() {
-            return None;
-        }
-        let entry = pool.get(Slot { number: at });
-        match entry.key.cmp(key) {
-            Ordering::Equal => return Some(at),
-            _ => at = next[at as usize],
-        }
-    }
-    None
-}
 
 impl<K: Key, W: Drop> HashTable<K, W> {
     ghost use Rattle.std.specs.Prelude.{◌≡◌, ◌≤◌, IfOk, sum, replicate, Some};
@@ -80,12 +47,10 @@ impl<K: Key, W: Drop> HashTable<K, W> {
         ensures limits { IfOk result (λ t. t.limits ≡ limits.now) }
     {
         let pool = Pool::with_capacity(alloc, slots, limits)?;
-        let next = no_slots(alloc, slots as usize)?;
-        let heads = no_slots(alloc, slots as usize + 1)?;
+        let chains = Chains::make(alloc, slots)?;
         Ok(HashTable {
             pool,
-            heads,
-            next,
+            chains,
             len: 0,
         })
     }
@@ -98,7 +63,7 @@ impl<K: Key, W: Drop> HashTable<K, W> {
         ensures replaced { contents K.cmp self.new ≡ with_value_at (contents K.cmp self.old) key.now value }
         ensures slots { Rewrites K.cmp self.old self.new key.now value }
     {
-        match find(&self.pool, &self.heads, &self.next, key) {
+        match self.chains.find(&self.pool, key) {
             Some(number) => mem::replace(&mut self.pool.get_mut(Slot { number }).value, value),
             None => unreachable!(),
         }
@@ -109,7 +74,7 @@ impl<K: Key, W: Drop> Table<K, W> for HashTable<K, W> {
     ghost pool = { λ t. t };
 
     fn get(&self, key: &K) -> Option<&W> {
-        match find(&self.pool, &self.heads, &self.next, key) {
+        match self.chains.find(&self.pool, key) {
             Some(number) => {
                 let entry = self.pool.get(Slot { number });
                 Some(&entry.value)
@@ -119,11 +84,10 @@ impl<K: Key, W: Drop> Table<K, W> for HashTable<K, W> {
     }
 
     fn insert(&mut self, account: u32, key: K, value: W) -> Result<(), TableFull> {
-        let start = bucket_of(&key, self.heads.len());
+        let start = self.chains.bucket(&key);
         match self.pool.take(account, Entry { key, value }) {
             Ok(slot) => {
-                self.next[slot.number as usize] = self.heads[start];
-                self.heads[start] = slot.number;
+                self.chains.link(start, slot.number);
                 self.len += 1;
                 Ok(())
             }
@@ -158,10 +122,9 @@ impl<K: Key, W: Drop> Table<K, W> for HashTable<K, W> {
     }
 
     fn remove(&mut self, key: &K) -> Option<W> {
-        match find(&self.pool, &self.heads, &self.next, key) {
+        match self.chains.find(&self.pool, key) {
             Some(number) => {
-                let start = bucket_of(key, self.heads.len());
-                unlink(&mut self.heads, &mut self.next, start, number);
+                self.chains.unlink(&self.pool, key, number);
                 self.len -= 1;
                 let entry = self.pool.give(Slot { number });
                 Some(entry.value)
@@ -172,7 +135,7 @@ impl<K: Key, W: Drop> Table<K, W> for HashTable<K, W> {
 
     fn clear(&mut self) {
         empty(&mut self.pool);
-        reset(&mut self.heads);
+        self.chains.reset();
         self.len = 0;
     }
 }
@@ -191,49 +154,4 @@ pub(super) fn empty<T: Drop>(pool: &mut Pool<T>)
             let _value = pool.give(Slot { number });
         }
     }
-}
-
-// Makes each link one to no slot.
-fn reset(links: &mut [u32])
-    ensures { links.new ≡ replicate (length links.old) u32.MAX }
-{
-    for link in links.iter_mut() {
-        *link = u32::MAX;
-    }
-}
-
-// So many links to no slot.
-fn no_slots(alloc: Global, count: usize) -> Result<Vec<u32>, AllocError>
-    ensures { IfOk result (λ v. v.items ≡ replicate count u32.MAX) }
-{
-    let mut links = Vec::with_capacity(alloc, count)?;
-    for _step in 0..count {
-        links.push_reserved(u32::MAX);
-    }
-    Ok(links)
-}
-
-// Takes a slot out of the chain of a bucket.
-fn unlink(heads: &mut [u32], next: &mut [u32], start: usize, slot: u32)
-    requires start_in { start < length heads.old }
-    requires linked { IsLinked next.old (slice_index heads.old start) slot }
-    ensures own { UnlinksOwn next.old next.new (slice_index heads.old start) (slice_index heads.new start) slot }
-    ensures others { KeepsOthers next.old next.new (slice_index heads.old start) }
-    ensures heads { (b : ℕ) → b ≢ start → slice_index heads.new b ≡ slice_index heads.old b }
-{
-    let after = next[slot as usize];
-    let mut at = heads[start];
-    if at == slot {
-        heads[start] = after;
-        return;
-    }
-    for _step in 0..next.len() {
-        let following = next[at as usize];
-        if following == slot {
-            next[at as usize] = after;
-            return;
-        }
-        at = following;
-    }
-    unreachable!()
 }

@@ -97,6 +97,7 @@ pub trait Table<K: Key, W> {
         ensures limits { (pool self.new).limits ≡ (pool self.old).limits };
 }
 
+mod chains;
 mod hashed;
 mod number;
 mod sorted;

@@ -1,4 +1,5 @@
 // A table whose slots are linked in the order of their keys.
+use super::chains::Chains;
 use super::hashed::empty;
 use super::tree::Tree;
 use super::{Entry, Key, Table, TableFull};
@@ -11,10 +12,12 @@ use std::marker::Model;
 #[derive(Drop)]
 pub struct SortedTable<K: Key, W> {
     pool: Pool<Entry<K, W>>,
+    // where the slot of a key is
+    chains: Chains,
     // a ring of the slots that hold a pair, in the order of their keys: the slot after each, and at the number of slots the
     // first. After the last slot comes the number of slots
     next: Vec<u32>,
-    // where in the ring to look for a key
+    // where in the ring a key would go
     tree: Tree,
     // how many slots hold a pair
     len: u32,
@@ -28,11 +31,12 @@ impl<K: Key, W> Model for SortedTable<K, W> {
     ghost Value = { Slots (Entry K W) };
 
     ghost use Rattle.pool_map.specs.Table.{is_held};
+    ghost use Rattle.pool_map.specs.Chains.{IsHashed};
     ghost use Rattle.pool_map.specs.Index.{IsOrdered};
 
     ghost view = { λ t. t.pool };
 
-    ghost invariant = { λ t. IsOrdered K.cmp t.pool.slots t.next.items × (t.len ≡ count_by is_held t.pool.slots) };
+    ghost invariant = { λ t. IsOrdered K.cmp t.pool.slots t.next.items × (t.len ≡ count_by is_held t.pool.slots) × IsHashed K.cmp K.word_of t.pool.slots t.chains.heads.items t.chains.next.items };
 }
 
 ghost use Rattle.std.specs.Prelude.{◌≡◌, ◌+◌, ◌<◌, IfOk, IfErr, length, replicate, slice_index, slice_set};
@@ -76,16 +80,24 @@ fn link(next: &mut [u32], before: u32, slot: u32) -> u32
     after
 }
 
-// Takes the slot after another out of the ring, and answers it.
-fn unlink(next: &mut [u32], before: u32) -> u32
+// A slot that was taken out of the ring, and the one that came after it.
+#[derive(Clone, Copy)]
+struct Unlinked {
+    slot: u32,
+    after: u32,
+}
+
+// Takes the slot after another out of the ring.
+fn unlink(next: &mut [u32], before: u32) -> Unlinked
     requires before { before < length next.old }
     requires slot { slice_index next.old before < length next.old }
-    ensures slot { result ≡ slice_index next.old before }
+    ensures slot { result.slot ≡ slice_index next.old before }
     ensures unlinked { next.new ≡ slice_set next.old before (slice_index next.old (slice_index next.old before)) }
 {
     let slot = next[before as usize];
-    next[before as usize] = next[slot as usize];
-    slot
+    let after = next[slot as usize];
+    next[before as usize] = after;
+    Unlinked { slot, after }
 }
 
 // The ring of no slot.
@@ -111,10 +123,12 @@ impl<K: Key, W: Drop> SortedTable<K, W> {
         ensures limits { IfOk result (λ t. t.limits ≡ limits.now) }
     {
         let pool = Pool::with_capacity(alloc, slots, limits)?;
+        let chains = Chains::make(alloc, slots)?;
         let next = ring(alloc, slots)?;
         let tree = Tree::make(alloc, slots)?;
         Ok(SortedTable {
             pool,
+            chains,
             next,
             tree,
             len: 0,
@@ -149,24 +163,23 @@ impl<K: Key, W: Drop> Table<K, W> for SortedTable<K, W> {
     ghost pool = { λ t. t };
 
     fn get(&self, key: &K) -> Option<&W> {
-        let start = self.tree.closest(&self.pool, key);
-        match place(&self.pool, &self.next, start, key) {
-            Ok(before) => {
-                let entry = self.pool.get(Slot {
-                    number: self.next[before as usize],
-                });
+        match self.chains.find(&self.pool, key) {
+            Some(number) => {
+                let entry = self.pool.get(Slot { number });
                 Some(&entry.value)
             }
-            Err(_) => None,
+            None => None,
         }
     }
 
     fn insert(&mut self, account: u32, key: K, value: W) -> Result<(), TableFull> {
-        let start = self.tree.closest(&self.pool, &key);
-        match place(&self.pool, &self.next, start, &key) {
+        let start = self.chains.bucket(&key);
+        let closest = self.tree.closest(&self.pool, &key);
+        match place(&self.pool, &self.next, closest, &key) {
             Ok(_) => unreachable!(),
             Err(before) => match self.pool.take(account, Entry { key, value }) {
                 Ok(slot) => {
+                    self.chains.link(start, slot.number);
                     let after = link(&mut self.next, before, slot.number);
                     self.tree.insert(before, after, slot.number);
                     self.len += 1;
@@ -204,13 +217,15 @@ impl<K: Key, W: Drop> Table<K, W> for SortedTable<K, W> {
     }
 
     fn remove(&mut self, key: &K) -> Option<W> {
-        let start = self.tree.closest(&self.pool, key);
+        let slot = self.chains.find(&self.pool, key)?;
+        let start = self.tree.before(&self.pool, key, slot);
         match place(&self.pool, &self.next, start, key) {
             Ok(before) => {
-                let number = unlink(&mut self.next, before);
-                self.tree.remove(before, number);
+                let gone = unlink(&mut self.next, before);
+                self.chains.unlink(&self.pool, key, gone.slot);
+                self.tree.remove(before, gone.slot, gone.after);
                 self.len -= 1;
-                let entry = self.pool.give(Slot { number });
+                let entry = self.pool.give(Slot { number: gone.slot });
                 Some(entry.value)
             }
             Err(_) => None,
@@ -220,6 +235,7 @@ impl<K: Key, W: Drop> Table<K, W> for SortedTable<K, W> {
     fn clear(&mut self) {
         let end = self.pool.slots();
         empty(&mut self.pool);
+        self.chains.reset();
         self.next[end as usize] = end;
         self.tree.clear();
         self.len = 0;

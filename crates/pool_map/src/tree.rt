@@ -47,6 +47,8 @@ enum Side {
 pub(super) struct Tree {
     // the place of each slot, of which those that the root reaches are in the tree
     nodes: Vec<Node>,
+    // the slot before each in the order, or the number of slots
+    previous: Vec<u32>,
     root: u32,
 }
 
@@ -56,10 +58,36 @@ impl Tree {
     /// A tree of no slot, which so many may come into.
     pub(super) fn make(alloc: Global, slots: u32) -> Result<Tree, AllocError> {
         let mut nodes = Vec::with_capacity(alloc, slots as usize)?;
+        let mut previous = Vec::with_capacity(alloc, slots as usize)?;
         for _slot in 0..slots {
             nodes.push_reserved(Node::leaf(NONE));
+            previous.push_reserved(NONE);
         }
-        Ok(Tree { nodes, root: NONE })
+        Ok(Tree {
+            nodes,
+            previous,
+            root: NONE,
+        })
+    }
+
+    /// Where a search for the key in this slot may begin: at the slot before it, or at the number of slots.
+    pub(super) fn before<K: Key, W>(&self, pool: &Pool<Entry<K, W>>, key: &K, slot: u32) -> u32
+        ensures { IsStart K.cmp pool.now.slots key.now result }
+    {
+        let before = match self.previous.get(slot as usize) {
+            Some(before) => *before,
+            None => NONE,
+        };
+        if before >= pool.slots() {
+            return pool.slots();
+        }
+        match pool.look(before) {
+            Content::Held(_, entry) => match entry.key.cmp(key) {
+                Ordering::Less => before,
+                _ => self.closest(pool, key),
+            },
+            Content::Empty => self.closest(pool, key),
+        }
     }
 
     /// The slot with the greatest key that is smaller than this, or the number of slots.
@@ -89,6 +117,8 @@ impl Tree {
 
     /// Puts a slot between the two that follow each other in the order. One that isn't there is the number of slots.
     pub(super) fn insert(&mut self, before: u32, after: u32, slot: u32) {
+        self.set_previous(slot, before);
+        self.set_previous(after, slot);
         let ends = self.holds(before) && self.node(before).right == NONE;
         let (parent, side) = if ends {
             (before, Side::Right)
@@ -105,8 +135,9 @@ impl Tree {
         }
     }
 
-    /// Takes a slot out that follows another in the order, or is the first and follows the number of slots.
-    pub(super) fn remove(&mut self, before: u32, slot: u32) {
+    /// Takes a slot out from between two in the order. One that isn't there is the number of slots.
+    pub(super) fn remove(&mut self, before: u32, slot: u32, after: u32) {
+        self.set_previous(after, before);
         let node = self.node(slot);
         if node.left == NONE || node.right == NONE {
             let child = if node.left == NONE {
@@ -161,6 +192,13 @@ impl Tree {
     fn put(&mut self, slot: u32, node: Node) {
         if let Some(old) = self.nodes.get_mut(slot as usize) {
             *old = node;
+        }
+    }
+
+    // Sets which slot comes before a slot, if there is such a slot.
+    fn set_previous(&mut self, slot: u32, before: u32) {
+        if let Some(previous) = self.previous.get_mut(slot as usize) {
+            *previous = before;
         }
     }
 
@@ -297,12 +335,26 @@ mod tests {
         last
     }
 
-    // Whether each slot that is present is balanced.
+    // The first slot after another among those that are present, or 1,000.
+    fn first_after(present: &[bool], slot: u32) -> u32 {
+        let mut first = 1000;
+        for at in slot.saturating_add(1)..1000 {
+            if first == 1000 && present.get(at as usize) == Some(&true) {
+                first = at;
+            }
+        }
+        first
+    }
+
+    // Whether each slot that is present is balanced, and knows the one before it.
     fn all_balanced(tree: &Tree, present: &[bool]) -> bool {
         let mut balanced = true;
+        let mut last = 1000;
         for slot in 0u32..1000 {
             if present.get(slot as usize) == Some(&true) {
-                balanced = balanced && is_balanced(tree, slot);
+                let knows = tree.previous.get(slot as usize) == Some(&last);
+                balanced = balanced && knows && is_balanced(tree, slot);
+                last = slot;
             }
         }
         balanced
@@ -318,7 +370,8 @@ mod tests {
         assert_eq!(rt; tree.node(tree.root).height, 10);
         for step in 0u32..900 {
             let slot = step.wrapping_mul(377) % 1000;
-            tree.remove(last_before(&present, slot), slot);
+            let before = last_before(&present, slot);
+            tree.remove(before, slot, first_after(&present, slot));
             if let Some(here) = present.get_mut(slot as usize) {
                 *here = false;
             }

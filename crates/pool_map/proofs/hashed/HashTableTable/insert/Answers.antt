@@ -1,9 +1,9 @@
-use Rattle.std.proofs.Common.{◌≡◌, ◌∙◌, ◌+◌, length, ap, arith, sym}
+use Rattle.std.proofs.Common.{◌∙◌, ◌+◌, get_or, ap, arith, sym}
+use Rattle.std.proofs.lemmas.List.{get_or_default}
 use Rattle.slot_pool.specs.Pool.{Pool}
 use Rattle.pool_map.specs.declared.Entry.{Entry}
 use Rattle.pool_map.specs.Table.{contents}
-use Rattle.pool_map.specs.Chains.{bucket}
-use Rattle.pool_map.proofs.Chains.{insert-hashed, fill-count, lacks-from-none, find-none-from}
+use Rattle.pool_map.proofs.Walks.{insert-hashed, fill-count, lacks-from-none, find-none-from}
 use Rattle.pool_map.proofs.Contents.{fill-contents}
 use Rattle.pool_map.proofs.Counts.{charged-uses, by-map}
 use Rattle.pool_map.proofs.hashed.HashTableTable.insert.Goals as goal
@@ -21,10 +21,9 @@ invariant_of-self g c =
     let e : Entry g.row.K.Denot g.row.W.Denot = record { key = c.args.key; value = c.args.value } in
     let counts = fill-count c.self.inside.pool.slots c.in-Ok.slot.number c.args.account e c.in-Ok.ensures.in_range c.in-Ok.ensures.was_empty in
     let slots = ap (λ (p : Pool (Entry g.row.K.Denot g.row.W.Denot)). p.slots) c.in-Ok.ensures.ok in
-    let n : c.len.result ≡ length c.self.inside.heads.items = omega arith in
     let lacks = lacks-from-none g.K.Ord.cmp g.met.K.Ord.total g.met.K.Key.exact g.K.Key.word_of c.self.inside.pool.slots c.args.key (rw (← c.self.view_is) at c.requires.absent) in
-    rw slots (
-      insert-hashed g.K.Ord.cmp g.met.K.Ord.total g.met.K.Key.exact g.K.Key.word_of c.self.inside.pool.slots c.self.inside.heads.items c.self.inside.next.items c.self.invariant.0 c.in-Ok.slot.number c.args.account e c.in-Ok.ensures.in_range c.in-Ok.ensures.was_empty c.bucket_of-start.result c.index.result.now (c.bucket_of-start.ensures.same ∙ ap (λ k. bucket g.K.Key.word_of k c.args.key) n) (omega (arith, c.bucket_of-start.ensures.in_range)) c.index.ensures lacks,
+    rw (slots, c.link.ensures.heads, c.link.ensures.next) (
+      insert-hashed g.K.Ord.cmp g.met.K.Ord.total g.met.K.Key.exact g.K.Key.word_of c.self.inside.pool.slots c.self.inside.chains.heads.items c.self.inside.chains.next.items c.self.invariant.0 c.in-Ok.slot.number c.args.account e c.in-Ok.ensures.in_range c.in-Ok.ensures.was_empty c.bucket-start.result (get_or c.self.inside.chains.heads.items c.bucket-start.result 0) c.bucket-start.ensures.same c.bucket-start.ensures.in_range (get_or_default c.self.inside.chains.heads.items c.bucket-start.result 0 (get_or c.self.inside.chains.heads.items c.bucket-start.result 0) c.bucket-start.ensures.in_range) lacks,
       ap (λ m. m + 1) c.self.invariant.1 ∙ counts.0,
     )
 

@@ -1,10 +1,10 @@
 use Rattle.std.proofs.Common.{◌≡◌, ◌+◌, length, get_or, set, subst, ap, ◌∙◌, arith, length-set, sym}
-use Rattle.std.proofs.lemmas.List.{take_at}
+use Rattle.std.proofs.lemmas.List.{take_at, get_or_default}
 use Rattle.slot_pool.specs.Pool.{Pool}
 use Rattle.pool_map.specs.declared.Entry.{Entry}
 use Rattle.pool_map.specs.Index.{IsBeforeGap}
 use Rattle.pool_map.specs.Table.{contents}
-use Rattle.pool_map.proofs.Chains.{fill-count}
+use Rattle.pool_map.proofs.Walks.{fill-count, insert-hashed, lacks-from-none}
 use Rattle.pool_map.proofs.Order.{once}
 use Rattle.pool_map.proofs.Ring.{gap-below, ordered-insert}
 use Rattle.pool_map.proofs.Steps.{insert-step, not-absent}
@@ -38,9 +38,13 @@ invariant_of-self g c =
     let n : length c.link-after.new.next ≡ length c.self.inside.next.items = ap length links ∙ length-set (set c.self.inside.next.items s (get_or c.self.inside.next.items b 0)) b s ∙ length-set c.self.inside.next.items s (get_or c.self.inside.next.items b 0) in
     let m : length c.link-after.new.next ≡ c.self.inside.next.len = omega arith in
     let counts = fill-count c.self.inside.pool.slots s c.args.account e c.in-Ok-take.ensures.in_range c.in-Ok-take.ensures.was_empty in
-    rw (slots, take_at c.link-after.new.next _ _ m, links) (
+    let lacks = lacks-from-none g.K.Ord.cmp g.met.K.Ord.total g.met.K.Key.exact g.K.Key.word_of c.self.inside.pool.slots c.args.key (rw (← c.self.view_is) at c.requires.absent) in
+    let heads = c.self.inside.chains.heads.items in
+    let start = c.bucket-start.result in
+    rw (slots, take_at c.link-after.new.next _ _ m, links, c.link.ensures.heads, c.link.ensures.next) (
       ordered-insert g.K.Ord.cmp g.met.K.Ord.total c.self.inside.pool.slots c.self.inside.next.items b s c.args.account e gap c.in-Ok-take.ensures.in_range c.in-Ok-take.ensures.was_empty,
       ap (λ k. k + 1) c.self.invariant.1 ∙ counts.0,
+      insert-hashed g.K.Ord.cmp g.met.K.Ord.total g.met.K.Key.exact g.K.Key.word_of c.self.inside.pool.slots heads c.self.inside.chains.next.items c.self.invariant.2 s c.args.account e c.in-Ok-take.ensures.in_range c.in-Ok-take.ensures.was_empty start (get_or heads start 0) c.bucket-start.ensures.same c.bucket-start.ensures.in_range (get_or_default heads start 0 (get_or heads start 0) c.bucket-start.ensures.in_range) lacks,
     )
 
 pub returns-in-Ok-take-clause-ok : goal.returns-in-Ok-take-clause-ok
