@@ -1,0 +1,10 @@
+use Rattle.std.proofs.Common.{◌≡◌, ℕ, ◌+◌, ◌<◌, ◌≤◌, List, length, get_or, refl, sym, ap, ◌∙◌, subst, arith}
+use Rattle.upload_job.specs.Lanes.{LaneView}
+use Rattle.upload_job.proofs.Laning.{length-lanes_in}
+use Rattle.upload_job.proofs.job.Job.lanes.Goals as goal
+
+pub returns : goal.returns
+returns c =
+    let lanes = length-lanes_in c.self.inside.key c.self.inside.files c.self.inside.lanes.items c.self.invariant in
+    let seen = ap (λ (xs : List LaneView). length xs) c.self.view_is in
+    omega arith

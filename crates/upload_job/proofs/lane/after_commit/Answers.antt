@@ -1,0 +1,9 @@
+use Rattle.std.proofs.Common.{◌≡◌, ℕ, ◌+◌, ◌<◌, ◌≤◌, List, length, take, drop, refl, sym, ap, ◌∙◌, subst, arith}
+use Rattle.messages.specs.declared.reply.Reply.{Reply}
+use Rattle.upload_job.specs.Upload.{in_batches}
+use Rattle.upload_job.specs.Lane.{Committing}
+use Rattle.upload_job.specs.Index.{StepIs}
+use Rattle.upload_job.proofs.lane.after_commit.Goals as goal
+
+pub returns-in-Lacking : goal.returns-in-Lacking
+returns-in-Lacking c = λ w all e f. subst (λ (r : Reply). StepIs w all Committing r c.after_lacking.result) (sym c.in-Lacking.is) (c.after_lacking.ensures w all e f)

@@ -1,0 +1,9 @@
+use Rattle.std.proofs.Common.{◌≡◌, ℕ, ◌+◌, ◌<◌, ◌≤◌, List, length, take, drop, refl, sym, ap, ◌∙◌, subst, arith}
+use Rattle.messages.specs.declared.reply.Reply.{Reply}
+use Rattle.upload_job.specs.Upload.{in_batches}
+use Rattle.upload_job.specs.Lane.{Sending}
+use Rattle.upload_job.specs.Index.{StepIs}
+use Rattle.upload_job.proofs.lane.after_put.Goals as goal
+
+pub returns-in-Stored : goal.returns-in-Stored
+returns-in-Stored c = λ w all batch flags rest e f. subst (λ (r : Reply). StepIs w all (Sending batch flags rest) r c.after_stored.result) (sym c.in-Stored.is) (c.after_stored.ensures w all batch flags rest e f)

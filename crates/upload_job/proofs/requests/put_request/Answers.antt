@@ -1,0 +1,34 @@
+use Rattle.std.proofs.Common.{◌≡◌, ℕ, ◌+◌, ◌<◌, ◌≤◌, ◌++◌, Bool, true, List, [], length, map, take, drop, min, refl, sym, ap, ◌∙◌, subst, arith, get_or, Some}
+use Rattle.std.proofs.lemmas.List.Elements.{All-take, All-drop}
+use Rattle.messages.specs.Requests.{request_bytes}
+use Rattle.messages.specs.declared.request.Request.TheVariants.{Put}
+use Rattle.upload_job.specs.declared.wanted.Wanted.{Wanted}
+use Rattle.upload_job.specs.declared.lane.Stage.{Stage}
+use Rattle.upload_job.specs.declared.lane.Stage.TheVariants as stages
+use Rattle.upload_job.specs.Upload.{in_batches}
+use Rattle.upload_job.specs.Lane.{LaneState, lane_request, unflagged}
+use Rattle.upload_job.specs.Lanes.{IsAsked}
+use Rattle.upload_job.specs.Index.{IsIn, AreIn, share_in, shares_in, work_in, state_in}
+use Rattle.upload_job.proofs.Batches.{batch_few}
+use Rattle.upload_job.proofs.Sending.{batch_shares, into_none}
+use Rattle.upload_job.proofs.requests.put_request.Goals as goal
+
+pub put_put-requires-clause-few : goal.put_put-requires-clause-few
+put_put-requires-clause-few c = let few = batch_few c.in-Sending.from c.as_slice.result.now in let len = ap length c.batch_at-batch.ensures in omega arith
+
+pub put_put-requires-clause-inside : goal.put_put-requires-clause-inside
+put_put-requires-clause-inside c =
+    subst (AreIn c.args.shares.now) (sym (c.batch_at-batch.ensures ∙ ap (λ (xs : List Wanted). take 256 (drop c.in-Sending.from xs)) c.as_slice.ensures.value))
+    (All-take (IsIn c.args.shares.now) 256 (drop c.in-Sending.from c.args.lane.now.wanted.items) (All-drop (IsIn c.args.shares.now) c.in-Sending.from c.args.lane.now.wanted.items c.requires.inside))
+
+pub returns-in_ok-put_put-in-Sending : goal.returns-in_ok-put_put-in-Sending
+returns-in_ok-put_put-in-Sending c =
+    let all : List (List ℕ) = shares_in c.args.shares.now c.args.lane.now.wanted.items in
+    let batch : shares_in c.args.shares.now c.batch_at-batch.result.now ≡ take 256 (drop c.in-Sending.from all) =
+    ap (shares_in c.args.shares.now) (c.batch_at-batch.ensures ∙ ap (λ (xs : List Wanted). take 256 (drop c.in-Sending.from xs)) c.as_slice.ensures.value) ∙ batch_shares c.args.shares.now c.in-Sending.from c.args.lane.now.wanted.items in
+    subst (λ (s : Stage). IsAsked (lane_request (work_in c.args.key.now c.args.shares.now c.args.lane.now) (state_in all s)) true c.args.out.now c.put_put.new.out) (sym c.in-Sending.is) (
+      refl,
+      into_none c.args.out.now c.put_put.new.out (request_bytes (Put c.args.key.now.user (unflagged (shares_in c.args.shares.now c.batch_at-batch.result.now) c.as_slice-in-Sending.result.now))) c.requires.empty c.in_ok-put_put-in-Sending.ensures
+          ∙ ap (λ (b : List (List ℕ)). request_bytes (Put c.args.key.now.user (unflagged b c.as_slice-in-Sending.result.now))) batch
+          ∙ ap (λ (fs : List ℕ). request_bytes (Put c.args.key.now.user (unflagged (take 256 (drop c.in-Sending.from all)) fs))) c.as_slice-in-Sending.ensures,
+    )

@@ -1,0 +1,148 @@
+-- How a job keeps its lanes: where the wanted shares lie, and up to which of them the lane has come.
+use Rattle.std.specs.Prelude.{◌≡◌, ℕ, ◌+◌, ◌<◌, ◌≤◌, Bool, true, false, List, [], ◌∷◌, ◌++◌, length, map, take, drop, slice_range, slice_index_or, All, Option, Some, None, Result, Ok, Err}
+use Rattle.cd_base.specs.Lengths.{share_len_of}
+use Rattle.message_fields.specs.Fingerprints.{batch_limit}
+use Rattle.message_fields.specs.Shares.{share_limit}
+use Rattle.messages.specs.declared.reply.Reply.{Reply}
+use Rattle.messages.specs.Replies.{IsReply}
+use Rattle.recipe.specs.declared.items.Item.{Item}
+use Rattle.recipe.specs.Spelling.{spelling, item_limit}
+use Rattle.file_recipe.specs.declared.cloud_file.CloudFile.{CloudFile}
+use Rattle.user_dedup.specs.Cloud.{fingerprint}
+use Rattle.user_dedup.specs.Owning.{new_strings}
+use Rattle.upload_job.specs.declared.wanted.Wanted.{Wanted}
+use Rattle.upload_job.specs.declared.lane.FileKey.{FileKey}
+use Rattle.upload_job.specs.declared.lane.Lane.{Lane}
+use Rattle.upload_job.specs.declared.lane.Stage.{Stage}
+use Rattle.upload_job.specs.declared.lane.Stage.TheVariants as stages
+use Rattle.upload_job.specs.declared.lane.Step.{Step}
+use Rattle.upload_job.specs.Upload.{Work, in_batches}
+use Rattle.upload_job.specs.Lane.{LaneState, Sending, Done, Refused, onward, lane_after, news_of, IsAnswer}
+use Rattle.upload_job.specs.declared.turn.Turn.{Turn}
+use Rattle.upload_job.specs.declared.news.LaneErr.TheVariants as errors
+use Rattle.upload_job.specs.Lanes.{LaneView, Says, first_byte}
+
+-- ---- the wanted shares
+
+-- the share lies there, has this fingerprint, and is one that a message may have
+pub record IsIn (shares : List ℕ) (w : Wanted) : Type 0 where
+  pub some : w.start < w.end
+  pub within : w.end ≤ length shares
+  pub short : w.end ≤ w.start + share_limit
+  pub named : w.fp ≡ fingerprint (slice_range shares w.start w.end)
+
+abbrev pub AreIn : List ℕ → List Wanted → Type 0
+AreIn shares wanted = All (IsIn shares) wanted
+
+abbrev pub share_in : List ℕ → Wanted → List ℕ
+share_in shares w = slice_range shares w.start w.end
+
+abbrev pub shares_in : List ℕ → List Wanted → List (List ℕ)
+shares_in shares wanted = map (share_in shares) wanted
+
+-- the shares that lie one after another, as long as the items say
+abbrev pub pieces : ℕ → List Item → List ℕ → List (List ℕ)
+pieces k [] shares = []
+pieces k (i ∷ is) shares = take (share_len_of k i.secret_len) shares ∷ pieces k is (drop (share_len_of k i.secret_len) shares)
+
+-- there are so many bytes, and each item names its share
+pub record IsNamed (k : ℕ) (i : Item) (shares : List ℕ) : Type 0 where
+  pub some : 1 ≤ i.secret_len
+  pub few : i.secret_len ≤ 16384
+  pub room : share_len_of k i.secret_len ≤ length shares
+  pub named : i.fp ≡ fingerprint (take (share_len_of k i.secret_len) shares)
+
+abbrev pub AreNamed : ℕ → List Item → List ℕ → Type 0
+AreNamed k [] shares = Unit {0}
+AreNamed k (i ∷ is) shares = IsNamed k i shares × AreNamed k is (drop (share_len_of k i.secret_len) shares)
+
+-- with one more, unless it was seen
+abbrev pub noted : Bool → List Wanted → Wanted → List Wanted
+noted true wanted w = wanted
+noted false wanted w = wanted ++ w ∷ []
+
+-- ---- lanes
+
+abbrev pub state_in : List (List ℕ) → Stage → LaneState
+state_in all (stages.Bringing from) = onward (in_batches (drop from all))
+state_in all (stages.Sending from flags) = Sending (take batch_limit (drop from all)) flags (in_batches (drop batch_limit (drop from all)))
+state_in all stages.Done = Done
+state_in all stages.Refused = Refused
+
+-- a lane whose cloud's shares are these
+abbrev pub work_in : FileKey → List ℕ → Lane → Work
+work_in key shares lane = record {
+  user = key.user;
+  tag = key.tag;
+  version = key.version;
+  recipe = lane.recipe;
+  items = lane.items;
+  batches = in_batches (shares_in shares lane.wanted.items);
+}
+
+abbrev pub lane_in : FileKey → List ℕ → Lane → LaneView
+lane_in key shares lane = record { work = work_in key shares lane; state = state_in (shares_in shares lane.wanted.items) lane.stage }
+
+abbrev pub lanes_in : FileKey → List CloudFile → List Lane → List LaneView
+lanes_in key [] lanes = []
+lanes_in key (f ∷ files) [] = []
+lanes_in key (f ∷ files) (lane ∷ lanes) = lane_in key f.shares lane ∷ lanes_in key files lanes
+
+-- as many lanes as clouds, and the wanted shares lie in those of the cloud
+abbrev pub AreLanes : List CloudFile → List Lane → Type 0
+AreLanes [] [] = Unit {0}
+AreLanes [] (lane ∷ lanes) = ⊥
+AreLanes (f ∷ files) [] = ⊥
+AreLanes (f ∷ files) (lane ∷ lanes) = AreIn f.shares lane.wanted.items × AreLanes files lanes
+
+-- ---- a step of a lane
+
+-- where the lane stands next, or where it stands
+abbrev pub next_in : List (List ℕ) → LaneState → Option Stage → LaneState
+next_in all state None = state
+next_in all state (Some stage) = state_in all stage
+
+abbrev pub moved_to : Lane → Option Stage → Lane
+moved_to lane None = lane
+moved_to lane (Some stage) = record { recipe = lane.recipe; items = lane.items; wanted = lane.wanted; stage = stage }
+
+-- a step is made by a reply to the lane's request, and none by another
+abbrev pub StepIs : Work → List (List ℕ) → LaneState → Reply → Option Step → Type 0
+StepIs w all state reply None = ¬ (IsAnswer w state reply)
+StepIs w all state reply (Some step) = IsAnswer w state reply × ((news_of state reply ≡ Some step.news) × (next_in all state step.next ≡ lane_after w state reply))
+
+-- the lane of a cloud's file at its beginning
+pub record IsBegun (k : ℕ) (f : CloudFile) (lane : Lane) : Type 0 where
+  pub recipe : lane.recipe ≡ spelling f.recipe
+  pub items : lane.items ≡ length f.recipe.items
+  pub wanted : shares_in f.shares lane.wanted.items ≡ new_strings [] (pieces k f.recipe.items f.shares)
+  pub inside : AreIn f.shares lane.wanted.items
+  pub stage : lane.stage ≡ stages.Bringing 0
+
+-- each cloud's file has few items, which name its shares
+abbrev pub EachNamed : ℕ → List CloudFile → Type 0
+EachNamed k files = (i : ℕ) (f : CloudFile) → i < length files → (length (slice_index_or files i f).recipe.items ≤ item_limit) × AreNamed k (slice_index_or files i f).recipe.items (slice_index_or files i f).shares
+
+-- each lane is at its beginning
+abbrev pub EachBegun : ℕ → List CloudFile → List Lane → Type 0
+EachBegun k files lanes = (i : ℕ) (f : CloudFile) (lane : Lane) → i < length lanes → IsBegun k (slice_index_or files i f) (slice_index_or lanes i lane)
+
+-- ---- what a reply does
+
+-- nothing that content may be is a reply to a lane's request
+abbrev pub IsNoReply : List ℕ → Type 0
+IsNoReply content = (lane : LaneView) (reply : Reply) → ¬ (Says lane content reply)
+
+-- the content is this reply and no other
+pub record IsOneReply (content : List ℕ) (reply : Reply) : Type 0 where
+  pub is : IsReply content reply
+  pub one : (other : Reply) → IsReply content other → other ≡ reply
+
+abbrev pub IsReplyRead : List ℕ → Option Reply → Type 0
+IsReplyRead content None = IsNoReply content
+IsReplyRead content (Some reply) = IsOneReply content reply
+
+-- a step is told and made; where there is none the lane is refused, with the first byte
+abbrev pub TurnsBy : List ℕ → Option Step → Turn → Type 0
+TurnsBy content None turn = (turn.result ≡ Err (errors.Strange (first_byte content))) × (turn.next ≡ Some stages.Refused)
+TurnsBy content (Some step) turn = (turn.result ≡ Ok step.news) × (turn.next ≡ step.next)

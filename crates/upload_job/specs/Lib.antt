@@ -1,0 +1,4 @@
+pub mod Upload
+pub mod Lane
+pub mod Lanes
+pub mod Index

@@ -1,0 +1,119 @@
+//! A job: a version of a file on its way to all clouds.
+
+use crate::beginning::lanes_of;
+use crate::lane::{FileKey, Lane, are_done, move_lane};
+use crate::requests::put_request;
+use crate::turn::{Turn, turn_of};
+use crate::{LaneErr, LaneNews};
+use caont_rs::tag_of;
+use cd_base::{Bytes, CloudNo, NoMemory, Shape, UserId, Version};
+use file_recipe::{CloudFiles, disperse_file};
+use std::alloc::Global;
+use std::marker::Model;
+use std::mem;
+
+/// A version of a file on its way to all clouds. It keeps each cloud's shares and recipe. Contracts see a list of lanes, one for
+/// each cloud in the order of their numbers: what each has to bring, and where it stands.
+#[derive(Debug, Drop)]
+pub struct Job {
+    alloc: Global,
+    key: FileKey,
+    files: CloudFiles,
+    lanes: Vec<Lane>,
+    // a request is written here, and then takes the place of what the caller has
+    spare: Bytes,
+}
+
+impl Model for Job {
+    ghost use Rattle.std.specs.Prelude.{List};
+    ghost use Rattle.upload_job.specs.Lanes.{LaneView};
+    ghost use Rattle.upload_job.specs.Index.{lanes_in, AreLanes};
+
+    ghost Value = { List LaneView };
+
+    ghost view = { λ j. lanes_in j.key j.files j.lanes.items };
+
+    ghost invariant = { λ j. AreLanes j.files j.lanes.items };
+}
+
+impl Job {
+    ghost use Rattle.std.specs.Prelude.{◌≡◌, ◌<◌, ◌≤◌, ◌≢◌, ◌↔◌, ℕ, List, length, All, IfOk, OnErr, IsTrue, IsSome, slice_get};
+    ghost use Rattle.cd_base.specs.Limits.{IsPath};
+    ghost use Rattle.recipe.specs.Spelling.{file_limit};
+    ghost use Rattle.upload_job.specs.Lane.{Done};
+    ghost use Rattle.upload_job.specs.Lanes.{lanes_begun, request_at, IsAsked, AnswersAt};
+
+    /// A new job of a version of a file of at most 67,108,864 bytes, each lane at its beginning. The file is cut and dispersed
+    /// once, here.
+    pub fn new(
+        alloc: Global,
+        shape: Shape,
+        user: UserId,
+        path: &[u8],
+        version: Version,
+        bytes: &[u8],
+    ) -> Result<Job, NoMemory>
+        requires path { IsPath path.now }
+        requires few { length bytes.now ≤ file_limit }
+        ensures { IfOk result (λ job. job ≡ lanes_begun shape (record { user = user; path = path.now; number = version; file = bytes.now })) }
+    {
+        let tag = tag_of(alloc, shape, path)?;
+        let files = disperse_file(alloc, shape, path, bytes)?;
+        let lanes = lanes_of(alloc, shape, files.as_slice())?;
+        Ok(Job {
+            alloc,
+            key: FileKey { user, tag, version },
+            files,
+            lanes,
+            spare: Bytes::new(alloc),
+        })
+    }
+
+    /// How many lanes there are: as many as clouds.
+    pub fn lanes(&self) -> usize
+        ensures { result ≡ length self.now }
+    {
+        self.lanes.len()
+    }
+
+    /// Puts the lane's request in the place of what stands in `out`, and is true. False, with `out` as before, exactly where the
+    /// lane is at its end: its version is entered, or it was refused. Asked again without an answer it gives the same request. After
+    /// want of memory `out` is as before; the job is so always.
+    pub fn next(&mut self, lane: CloudNo, out: &mut Bytes) -> Result<bool, NoMemory>
+        requires { lane.0 < length self.old }
+        ensures request { IfOk result (λ more. IsAsked (request_at self.old lane.0) more out.old out.new) }
+        ensures same { self.new ≡ self.old }
+        ensures err { OnErr result (out.new ≡ out.old) }
+    {
+        let place = lane.0 as usize;
+        self.spare.clear();
+        let shares = self.files.as_slice()[place].shares.as_slice();
+        let more = put_request(&mut self.spare, &self.key, shares, &self.lanes[place])?;
+        if more {
+            mem::swap(&mut self.spare, out);
+        }
+        Ok(more)
+    }
+
+    /// Takes the reply to the lane's request, which the lane has, as `next` says. Ok exactly where a server that keeps to the
+    /// rules may give this reply to that request: what it tells, and the lane moves by it. `LaneErr::Strange` exactly where not,
+    /// with the first byte of the content, or 0 of an empty one; the lane is refused then. After want of memory here the job is as
+    /// before. Other lanes stay.
+    pub fn answer(&mut self, lane: CloudNo, reply: &[u8]) -> Result<LaneNews, LaneErr>
+        requires { IsSome (request_at self.old lane.0) }
+        ensures answers { AnswersAt self.old lane.0 reply.now result self.new }
+        ensures others { (i : ℕ) → i ≢ lane.0 → slice_get self.new i ≡ slice_get self.old i }
+    {
+        let place = lane.0 as usize;
+        let Turn { result, next } = turn_of(self.alloc, &self.lanes[place], reply);
+        move_lane(&mut self.lanes[place], next);
+        result
+    }
+
+    /// Whether the version is entered at all clouds.
+    pub fn stored(&self) -> bool
+        ensures { IsTrue result ↔ All (λ lane. lane.state ≡ Done) self.now }
+    {
+        are_done(self.lanes.as_slice())
+    }
+}

@@ -1,0 +1,76 @@
+//! What the content of a reply does to a lane.
+
+ghost use Rattle.std.specs.Prelude.{◌≡◌, ℕ, List, length, vec_len, IfOk};
+ghost use Rattle.upload_job.specs.Upload.{Work, in_batches};
+ghost use Rattle.upload_job.specs.Lanes.{Answers, first_byte};
+ghost use Rattle.upload_job.specs.Index.{state_in, next_in, IsReplyRead, TurnsBy};
+
+use crate::lane::{Lane, Stage, Step, step_of};
+use crate::{LaneErr, LaneNews};
+use cd_base::NoMemory;
+use messages::{MsgErr, Reply};
+use std::alloc::Global;
+
+/// What an answer returns, and where the lane stands next, if it moves.
+#[derive(Debug, Drop)]
+pub struct Turn {
+    pub result: Result<LaneNews, LaneErr>,
+    pub next: Option<Stage>,
+}
+
+// The reply that the content is, or None where it is none that answers a lane: those have at most 65 bytes but for flags.
+fn read_reply(alloc: Global, content: &[u8]) -> Result<Option<Reply>, NoMemory>
+    ensures { IfOk result (IsReplyRead content.now) }
+{
+    if content.len() > 4_194_304 {
+        return Ok(None);
+    }
+    match Reply::read(alloc, content) {
+        Ok(reply) => Ok(Some(reply)),
+        Err(MsgErr::Malformed { .. }) => Ok(None),
+        Err(MsgErr::NoMemory) => Err(NoMemory),
+    }
+}
+
+// The first byte, or 0 where there is none.
+fn kind_of(content: &[u8]) -> u8
+    ensures { result ≡ first_byte content.now }
+{
+    match content {
+        [] => 0,
+        [kind, ..] => *kind,
+    }
+}
+
+// What a step does, or the lack of one.
+fn turn_by(content: &[u8], step: Option<Step>) -> Turn
+    ensures { TurnsBy content.now step result }
+{
+    match step {
+        Some(step) => Turn {
+            result: Ok(step.news),
+            next: step.next,
+        },
+        None => Turn {
+            result: Err(LaneErr::Strange {
+                kind: kind_of(content),
+            }),
+            next: Some(Stage::Refused),
+        },
+    }
+}
+
+/// What content does to a lane.
+pub fn turn_of(alloc: Global, lane: &Lane, content: &[u8]) -> Turn
+    ensures { (w : Work) (all : List (List ℕ)) → length all ≡ vec_len lane.now.wanted → w.items ≡ lane.now.items → w.batches ≡ in_batches all
+        → Answers (record { work = w; state = state_in all lane.now.stage }) content.now result.result (next_in all (state_in all lane.now.stage) result.next) }
+{
+    match read_reply(alloc, content) {
+        Ok(Some(reply)) => turn_by(content, step_of(lane, reply)),
+        Ok(None) => turn_by(content, None),
+        Err(NoMemory) => Turn {
+            result: Err(LaneErr::NoMemory),
+            next: None,
+        },
+    }
+}
