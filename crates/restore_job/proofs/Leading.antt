@@ -1,0 +1,176 @@
+-- One reading after another.
+use Rattle.std.proofs.Common.{◌≡◌, ◌⊎◌, ℕ, ◌≤◌, Bool, true, false, cond, List, [], ◌∷◌, ◌++◌, Option, None, refl, sym, ap, ◌∙◌, subst, arith, inl, inr, eq-eqb}
+use Rattle.std.specs.Prelude.{IsTrue, IsSomeAnd, ◌==◌}
+use Rattle.std.specs.List.{Contains}
+use Rattle.std.proofs.lemmas.Bool.{cases_eq, ne_eqb}
+use Rattle.cd_edges.specs.Causes.{Rose}
+use Rattle.user_dedup.specs.declared.command.Command.{Command}
+use Rattle.user_dedup.specs.Exec.{Peer, MaySettleAs, Settles, Stays, CountsOn}
+use Rattle.user_dedup.specs.Link.{LinkTelling, LeavesOthers}
+use Rattle.user_dedup.proofs.Owned.{contains_here}
+use Rattle.restore_job.specs.Asking.{PeersOf, Reads, MayRead, ReadFails, OnlyRead, Leads, Asked}
+
+-- ---- one cloud
+
+pub rose_on : (a b c : ℕ) → a ≤ b → Rose b c → Rose a c
+rose_on a b c le rose = omega (arith, rose)
+
+pub rose_off : (a b c : ℕ) → Rose a b → b ≤ c → Rose a c
+rose_off a b c rose le = omega (arith, rose)
+
+pub counts_on : (a b c : Peer) → CountsOn a b → CountsOn b c → CountsOn a c
+counts_on a b c one two = record { faults = let x = one.faults in let y = two.faults in omega arith; armings = two.armings ∙ one.armings }
+
+pub settle_along : (a b : Peer) (list : List Command) → Stays a b → MaySettleAs b list → MaySettleAs a list
+settle_along a b list stays (inl same) = inl (same ∙ stays.list)
+settle_along a b list stays (inr some) =
+    inr (subst (λ (l : List Command). IsSomeAnd a.pending (λ command. list ≡ l ++ command ∷ [])) stays.list
+    (subst (λ (o : Option Command). IsSomeAnd o (λ command. list ≡ b.list ++ command ∷ [])) stays.pending some))
+
+-- where nothing is pending a cloud settles as it stands
+pub no_pending : (p : Peer) (list : List Command) → p.pending ≡ None → MaySettleAs p list → list ≡ p.list
+no_pending p list none (inl same) = same
+no_pending p list none (inr some) = absurd (subst (λ (o : Option Command). IsSomeAnd o (λ command. list ≡ p.list ++ command ∷ [])) none some)
+
+either : (a b c : Peer) → Stays a b ⊎ Settles a b → Stays b c ⊎ Settles b c → Stays a c ⊎ Settles a c
+either a b c (inl s) (inl t) = inl (record { list = t.list ∙ s.list; pending = t.pending ∙ s.pending })
+either a b c (inl s) (inr t) = inr (record { list = settle_along a b c.list s t.list; pending = t.pending })
+either a b c (inr s) (inl t) = inr (record { list = subst (MaySettleAs a) (sym t.list) s.list; pending = t.pending ∙ s.pending })
+either a b c (inr s) (inr t) = inr (record { list = subst (MaySettleAs a) (sym (no_pending b c.list s.pending t.list)) s.list; pending = t.pending })
+
+pub may_on : (a b c : Peer) → MayRead a b → MayRead b c → MayRead a c
+may_on a b c one two = (either a b c one.0 two.0, counts_on a b c one.1 two.1)
+
+pub may_stay : (p : Peer) → MayRead p p
+may_stay p = (inl (record { list = refl; pending = refl }), record { faults = omega arith; armings = refl })
+
+pub read_may : (a b : Peer) → Reads a b → MayRead a b
+read_may a b r = (inr r.0, r.1)
+
+-- a settled cloud that may have been read is as it was, but for its count
+pub record SameList (a b : Peer) : Type 0 where
+  pub list : b.list ≡ a.list
+  pub pending : b.pending ≡ None
+
+pub settled_same : (a b : Peer) → a.pending ≡ None → MayRead a b → SameList a b
+settled_same a b none may = go may.0
+  where
+    go : Stays a b ⊎ Settles a b → SameList a b
+    go (inl s) = record { list = s.list; pending = s.pending ∙ none }
+    go (inr s) = record { list = no_pending a b.list none s.list; pending = s.pending }
+
+-- read, and then maybe read again
+pub reads_on : (a b c : Peer) → Reads a b → MayRead b c → Reads a c
+reads_on a b c one two =
+    let same = settled_same b c one.0.pending two in
+    (record { list = subst (MaySettleAs a) (sym same.list) one.0.list; pending = same.pending }, counts_on a b c one.1 two.1)
+
+pub fails_on : (a b c : Peer) → MayRead a b → ReadFails b c → ReadFails a c
+fails_on a b c one two = (rose_on a.faults b.faults c.faults one.1.faults two.0, may_on a b c one two.1)
+
+-- ---- all clouds
+
+pub none_read : (clouds : List ℕ) (peers : ℕ → Peer) → OnlyRead clouds peers peers
+none_read clouds peers = record { read = λ x. may_stay (peers x); others = λ x no. refl }
+
+pub only_on : (xs ys zs : List ℕ) (a b c : ℕ → Peer) → OnlyRead xs a b → OnlyRead ys b c → ((x : ℕ) → Contains xs x → Contains zs x)
+    → ((x : ℕ) → Contains ys x → Contains zs x) → OnlyRead zs a c
+only_on xs ys zs a b c one two xs_in ys_in = record {
+  read = λ x. may_on (a x) (b x) (c x) (one.read x) (two.read x);
+  others = λ x no. two.others x (λ y. no (ys_in x y)) ∙ one.others x (λ y. no (xs_in x y));
+}
+
+abbrev pub Relation : Type 1
+Relation = (ℕ → Peer) → (ℕ → Peer) → Type 0
+
+pub leads_on : {L : Type 0} (t : LinkTelling L) (xs ys zs : List ℕ) (old mid new : L) (R S T : (ℕ → Peer) → (ℕ → Peer) → Type 0)
+    → Leads t xs old mid R → t.told mid ≡ t.told old → Leads t ys mid new S
+    → ((x : ℕ) → Contains xs x → Contains zs x) → ((x : ℕ) → Contains ys x → Contains zs x)
+    → ((a b c : ℕ → Peer) → OnlyRead xs a b → OnlyRead ys b c → R a b → S b c → T a c)
+    → Leads t zs old new T
+leads_on {L} t xs ys zs old mid new R S T first same second xs_in ys_in both before peers =
+    let x = first before peers in
+    let y = second x.0 x.1 in (
+      y.0,
+      y.1,
+      only_on xs ys zs before x.0 y.0 x.2 y.2 xs_in ys_in,
+      λ told. both before x.0 y.0 x.2 y.2 (x.3 (λ c has. told c (xs_in c has)))
+          (y.3 (λ c has. subst (λ (f : ℕ → Bool). IsTrue (f c)) (sym same) (told c (ys_in c has)))),
+    )
+
+pub leads_to : {L : Type 0} (t : LinkTelling L) (xs zs : List ℕ) (old new : L) (R T : (ℕ → Peer) → (ℕ → Peer) → Type 0)
+    → Leads t xs old new R → ((x : ℕ) → Contains xs x → Contains zs x) → ((a b : ℕ → Peer) → OnlyRead xs a b → R a b → T a b) → Leads t zs old new T
+leads_to t xs zs old new R T first xs_in then before peers =
+    let x = first before peers in (
+      x.0,
+      x.1,
+      record { read = x.2.read; others = λ c no. x.2.others c (λ has. no (xs_in c has)) },
+      λ told. then before x.0 x.2 (x.3 (λ c has. told c (xs_in c has))),
+    )
+
+pub leads_none : {L : Type 0} (t : LinkTelling L) (zs : List ℕ) (link : L) (T : (ℕ → Peer) → (ℕ → Peer) → Type 0) → ((a : ℕ → Peer) → T a a) → Leads t zs link link T
+leads_none t zs link T same before peers = (before, peers, none_read zs before, λ told. same before)
+
+-- ---- one ask
+
+-- from each state that the cloud stood for it went on to one that it stands for
+abbrev pub Moves : {L : Type 0} → LinkTelling L → ℕ → L → L → (Peer → Peer → Type 0) → Type 0
+Moves t cloud old new P = (p : Peer) → t.stands old cloud p → (q : Peer) × t.stands new cloud q × MayRead p q × (IsTrue (t.told old cloud) → P p q)
+
+abbrev put : (ℕ → Peer) → ℕ → Peer → ℕ → Peer
+put peers cloud q x = cond (x == cloud) q (peers x)
+
+put_here : (peers : ℕ → Peer) (cloud : ℕ) (q : Peer) → put peers cloud q cloud ≡ q
+put_here peers cloud q = ap (λ (b : Bool). cond b q (peers cloud)) (eq-eqb cloud cloud refl)
+
+put_other : (peers : ℕ → Peer) (cloud : ℕ) (q : Peer) (x : ℕ) → (x ≡ cloud → ⊥) → put peers cloud q x ≡ peers x
+put_other peers cloud q x ne = ap (λ (b : Bool). cond b q (peers x)) (ne_eqb x cloud ne)
+
+pub one_step : {L : Type 0} (t : LinkTelling L) (cloud : ℕ) (old new : L) (P : Peer → Peer → Type 0) → IsTrue (t.reaches old cloud)
+    → LeavesOthers t cloud old new → Moves t cloud old new P → Leads t (cloud ∷ []) old new (λ a b. P (a cloud) (b cloud))
+one_step {L} t cloud old new P reached others moves before peers =
+    let m = moves (before cloud) (peers cloud reached) in
+    let after : ℕ → Peer = put before cloud m.0 in
+    let stands : PeersOf t new after = λ x reach. by_place m.0 m.1 x (subst (λ (f : ℕ → Bool). IsTrue (f x)) others.reaches reach) (cases_eq x cloud) in
+    let read : (x : ℕ) → MayRead (before x) (after x) = λ x. may_place m.0 m.2 x (cases_eq x cloud) in (
+      after,
+      stands,
+      record { read = read; others = λ x no. put_other before cloud m.0 x (λ e. no (subst (λ (y : ℕ). Contains (cloud ∷ []) y) (sym e) (contains_here cloud []))) },
+      λ told. subst (λ (q : Peer). P (before cloud) q) (sym (put_here before cloud m.0)) (m.3 (told cloud (contains_here cloud []))),
+    )
+  where
+    by_place : (q : Peer) → t.stands new cloud q → (x : ℕ) → IsTrue (t.reaches old x) → (x ≡ cloud) ⊎ (x ≡ cloud → ⊥) → t.stands new x (put before cloud q x)
+    by_place q stands x reach (inl e) = subst (λ (y : ℕ). t.stands new y (put before cloud q y)) (sym e) (subst (t.stands new cloud) (sym (put_here before cloud q)) stands)
+    by_place q stands x reach (inr ne) = subst (t.stands new x) (sym (put_other before cloud q x ne)) (others.stands x (before x) ne (peers x reach))
+
+    may_place : (q : Peer) → MayRead (before cloud) q → (x : ℕ) → (x ≡ cloud) ⊎ (x ≡ cloud → ⊥) → MayRead (before x) (put before cloud q x)
+    may_place q may x (inl e) = subst (λ (y : ℕ). MayRead (before y) (put before cloud q y)) (sym e) (subst (MayRead (before cloud)) (sym (put_here before cloud q)) may)
+    may_place q may x (inr ne) = subst (MayRead (before x)) (sym (put_other before cloud q x ne)) (may_stay (before x))
+
+-- ---- what the link tells beside its clouds
+
+pub asked_none : {L : Type 0} (t : LinkTelling L) (link : L) → Asked t link link false
+asked_none t link = record {
+  reaches = refl;
+  shape = refl;
+  told = refl;
+  full = refl;
+  later = omega arith;
+  lost = λ e. absurd (let f : false ≡ true = e in cc);
+  lossless = λ h. (refl, h);
+}
+
+pub asked_on : {L : Type 0} (t : LinkTelling L) (old mid new : L) (loss : Bool) → Asked t old mid false → Asked t mid new loss → Asked t old new loss
+asked_on t old mid new loss one two = record {
+  reaches = two.reaches ∙ one.reaches;
+  shape = two.shape ∙ one.shape;
+  told = two.told ∙ one.told;
+  full = two.full ∙ one.full;
+  later = let x = one.later in let y = two.later in omega arith;
+  lost = λ e. rose_on (t.losses old) (t.losses mid) (t.losses new) one.later (two.lost e);
+  lossless = λ h. two.lossless (one.lossless h).1;
+}
+
+-- where an ask wasn't lost, it counts as one that wasn't
+pub asked_as : {L : Type 0} (t : LinkTelling L) (old new : L) (a b : Bool) → a ≡ b → Asked t old new a → Asked t old new b
+asked_as t old new a b e asked = subst (λ (x : Bool). Asked t old new x) e asked

@@ -1,0 +1,33 @@
+use Rattle.std.proofs.Common.{◌∙◌}
+use Rattle.cd_base.specs.Numbers.{numbers_of}
+use Rattle.restore_job.proofs.Leading.{leads_none}
+use Rattle.restore_job.proofs.Taking.{grows_on, grows_none}
+use Rattle.restore_job.proofs.Ending.{restoring_none, restoring_more, restoring_stops, restoring_all}
+use Rattle.restore_job.proofs.batch.restore_items.Goals as goal
+
+pub returns-in-Err-clause-told : goal.returns-in-Err-clause-told
+returns-in-Err-clause-told g c tag version = leads_none g.L.Link.tells (numbers_of c.args.clouds.now) c.args.link.now _ (λ a ready. tt)
+
+pub loop-place-init : goal.loop-place-init
+loop-place-init g c = record {
+  restoring = restoring_none g.L.Link.tells c.args.shape c.args.user (numbers_of c.args.clouds.now) c.args.firsts.now c.args.recipes.now c.args.link.now c.args.out.now;
+  grows = grows_none c.args.out.now;
+  rooms = c.in-Ok.ensures;
+}
+
+pub returns-in-Err-restore_batch-clause-told : goal.returns-in-Err-restore_batch-clause-told
+returns-in-Err-restore_batch-clause-told g c =
+    restoring_stops g.L.Link.tells c.args.shape c.args.user (numbers_of c.args.clouds.now) c.args.firsts.now c.args.recipes.now c.args.link.now c.loop-place.link c.restore_batch.new.link c.loop-place.place c.size_of-count.result
+    c.args.out.now c.loop-place.out c.restore_batch.new.out c.in-Err-restore_batch.e c.loop-place.invariant.restoring c.loop-place-test.true c.size_of-count.ensures c.in-Err-restore_batch.ensures.told
+
+pub loop-place-preserved : goal.loop-place-preserved
+loop-place-preserved g c = record {
+  restoring = restoring_more g.L.Link.tells c.args.shape c.args.user (numbers_of c.args.clouds.now) c.args.firsts.now c.args.recipes.now c.args.link.now c.loop-place.link c.restore_batch.new.link c.loop-place.place c.size_of-count.result
+      c.args.out.now c.loop-place.out c.restore_batch.new.out c.loop-place.invariant.restoring c.loop-place-test.true c.size_of-count.ensures c.in-Ok-restore_batch.ensures.asked c.in-Ok-restore_batch.ensures.told;
+  grows = grows_on c.args.out.now c.loop-place.out c.restore_batch.new.out c.loop-place.invariant.grows c.in-Ok-restore_batch.ensures.grows;
+  rooms = c.in-Ok-restore_batch.ensures.rooms ∙ c.loop-place.invariant.rooms;
+}
+
+pub returns-clause-told : goal.returns-clause-told
+returns-clause-told g c =
+    restoring_all g.L.Link.tells c.args.shape c.args.user (numbers_of c.args.clouds.now) c.args.firsts.now c.args.recipes.now c.args.link.now c.loop-place.link c.loop-place.place c.args.out.now c.loop-place.out c.loop-place.invariant.restoring c.loop-place-test.false

@@ -1,0 +1,15 @@
+use Rattle.std.proofs.Common.{◌≡◌, ◌-◌, length}
+use Rattle.cd_base.specs.Numbers.{numbers_of}
+use Rattle.restore_job.specs.Steps.{Grows}
+use Rattle.restore_job.proofs.Ending.{Restoring}
+use Rattle.restore_job.proofs.batch.restore_items.Given as goal
+
+abbrev pub invariant-loop-place : goal.invariant-loop-place
+invariant-loop-place g l = record {
+  restoring : Restoring g.L.Link.tells l.shape l.user (numbers_of l.clouds) l.firsts l.recipes l.fn.link l.link l.place l.fn.out l.out;
+  grows : Grows l.fn.out l.out;
+  rooms : length l.rooms ≡ 256;
+}
+
+abbrev pub decreases-loop-place : goal.decreases-loop-place
+decreases-loop-place g l = length l.firsts - l.place

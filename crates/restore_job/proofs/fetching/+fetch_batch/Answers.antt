@@ -1,0 +1,56 @@
+use Rattle.std.proofs.Common.{◌≡◌, ◌∷◌, ℕ, Bool, List, [], length, Ok, Err, sym, ap, subst, arith, rules, ◌∙◌}
+use Rattle.std.specs.Prelude.{All, IsTrue}
+use Rattle.std.specs.List.{Contains}
+use Rattle.std.proofs.lemmas.List.Elements.{All-tail}
+use Rattle.cd_base.specs.Numbers.{numbers_of}
+use Rattle.recipe.specs.declared.recipe.Recipe.{Recipe}
+use Rattle.user_dedup.proofs.Owned.{contains_later}
+use Rattle.restore_job.specs.Steps.{AreItemsAt}
+use Rattle.restore_job.proofs.Batches.{batch_none, batch_more, batch_stops, batch_as}
+use Rattle.restore_job.proofs.fetching.+fetch_batch.Goals as goal
+
+pub returns-in_default-clause-told : goal.returns-in_default-clause-told
+returns-in_default-clause-told g t c tag version =
+    let tells = g.L.Link.tells in
+    batch_as tells c.args.shape c.args.user (tag, version) c.args.firsts.now c.args.place c.args.count c.args.link.now c.args.link.now c.args.rooms.now c.args.rooms.now (Ok tt)
+    [] (numbers_of c.args.clouds.now) c.args.recipes.now c.args.recipes.now (ap numbers_of c.in_default.ensures.clouds) (λ i. c.args.recipes.now)
+    (batch_none tells c.args.shape c.args.user (tag, version) c.args.firsts.now c.args.recipes.now c.args.place c.args.count c.args.link.now c.args.rooms.now)
+
+pub returns-in-Err-clause-told : goal.returns-in-Err-clause-told
+returns-in-Err-clause-told g t c tag version =
+    let tells = g.L.Link.tells in
+    batch_as tells c.args.shape c.args.user (tag, version) c.args.firsts.now c.args.place c.args.count c.args.link.now c.fetch_shares.new.link c.args.rooms.now c.fetch_shares.new.rooms (Err c.in-Err.e)
+    (c.in-Some.cloud.0 ∷ numbers_of c.in-Some.more.now) (numbers_of c.args.clouds.now) (c.in-Some.recipe.now ∷ c.in-Some.rest.now) c.args.recipes.now (ap numbers_of c.in-Some.ensures.clouds) c.in-Some.ensures.recipes
+    (batch_stops tells c.args.shape c.args.user (tag, version) c.in-Some.cloud (numbers_of c.in-Some.more.now) c.args.firsts.now c.in-Some.recipe.now c.in-Some.rest.now c.args.place c.args.count
+    c.args.link.now c.fetch_shares.new.link c.args.rooms.now c.fetch_shares.new.rooms c.in-Err.e (c.in-Err.ensures.told tag version))
+
+pub fetch_batch-requires : goal.fetch_batch-requires
+fetch_batch-requires g t c =
+    let shorter : length c.args.clouds.now ≡ length (c.in-Some.cloud ∷ c.in-Some.more.now) = ap length c.in-Some.ensures.clouds in
+    let fewer : length c.args.recipes.now ≡ length (c.in-Some.recipe.now ∷ c.in-Some.rest.now) = ap length c.in-Some.ensures.recipes in
+    let pairs : length c.in-Some.more.now ≡ length c.in-Some.rest.now = (let e = c.requires.pairs in omega arith) in
+    let same : All (λ (recipe : Recipe). length recipe.items ≡ length c.args.firsts.now) c.in-Some.rest.now =
+    All-tail (λ (recipe : Recipe). length recipe.items ≡ length c.args.firsts.now) c.in-Some.recipe.now c.in-Some.rest.now (subst (All (λ (recipe : Recipe). length recipe.items ≡ length c.args.firsts.now)) c.in-Some.ensures.recipes c.requires.same) in
+    let items : All (λ (recipe : Recipe). AreItemsAt recipe.items) c.in-Some.rest.now =
+    All-tail (λ (recipe : Recipe). AreItemsAt recipe.items) c.in-Some.recipe.now c.in-Some.rest.now (subst (All (λ (recipe : Recipe). AreItemsAt recipe.items)) c.in-Some.ensures.recipes c.requires.items) in
+    let reached : (cloud : ℕ) → Contains (numbers_of c.in-Some.more.now) cloud → IsTrue (g.L.Link.tells.reaches c.fetch_shares.new.link cloud) =
+    λ cloud has. subst (λ (r : ℕ → Bool). IsTrue (r cloud)) (sym c.in-Ok.ensures.asked.reaches)
+    (c.requires.reached cloud (subst (λ (l : List ℕ). Contains l cloud) (sym (ap numbers_of c.in-Some.ensures.clouds)) (contains_later c.in-Some.cloud.0 (numbers_of c.in-Some.more.now) cloud has))) in
+    let shape : g.L.Link.tells.shape c.fetch_shares.new.link ≡ c.args.shape = c.in-Ok.ensures.asked.shape ∙ c.requires.shape in
+    search rules
+
+pub returns-in-Ok-fetch_batch-clause-told : goal.returns-in-Ok-fetch_batch-clause-told
+returns-in-Ok-fetch_batch-clause-told g t c tag version =
+    let tells = g.L.Link.tells in
+    batch_as tells c.args.shape c.args.user (tag, version) c.args.firsts.now c.args.place c.args.count c.args.link.now c.fetch_batch.new.link c.args.rooms.now c.fetch_batch.new.rooms (Ok tt)
+    (c.in-Some.cloud.0 ∷ numbers_of c.in-Some.more.now) (numbers_of c.args.clouds.now) (c.in-Some.recipe.now ∷ c.in-Some.rest.now) c.args.recipes.now (ap numbers_of c.in-Some.ensures.clouds) c.in-Some.ensures.recipes
+    (batch_more tells c.args.shape c.args.user (tag, version) c.in-Some.cloud (numbers_of c.in-Some.more.now) c.args.firsts.now c.in-Some.recipe.now c.in-Some.rest.now c.args.place c.args.count
+    c.args.link.now c.fetch_shares.new.link c.fetch_batch.new.link c.args.rooms.now c.fetch_shares.new.rooms c.fetch_batch.new.rooms (Ok tt) c.in-Ok.ensures.asked.told (c.in-Ok.ensures.told tag version) (c.in-Ok-fetch_batch.ensures.told tag version))
+
+pub returns-in-Err-fetch_batch-clause-told : goal.returns-in-Err-fetch_batch-clause-told
+returns-in-Err-fetch_batch-clause-told g t c tag version =
+    let tells = g.L.Link.tells in
+    batch_as tells c.args.shape c.args.user (tag, version) c.args.firsts.now c.args.place c.args.count c.args.link.now c.fetch_batch.new.link c.args.rooms.now c.fetch_batch.new.rooms (Err c.in-Err-fetch_batch.e)
+    (c.in-Some.cloud.0 ∷ numbers_of c.in-Some.more.now) (numbers_of c.args.clouds.now) (c.in-Some.recipe.now ∷ c.in-Some.rest.now) c.args.recipes.now (ap numbers_of c.in-Some.ensures.clouds) c.in-Some.ensures.recipes
+    (batch_more tells c.args.shape c.args.user (tag, version) c.in-Some.cloud (numbers_of c.in-Some.more.now) c.args.firsts.now c.in-Some.recipe.now c.in-Some.rest.now c.args.place c.args.count
+    c.args.link.now c.fetch_shares.new.link c.fetch_batch.new.link c.args.rooms.now c.fetch_shares.new.rooms c.fetch_batch.new.rooms (Err c.in-Err-fetch_batch.e) c.in-Ok.ensures.asked.told (c.in-Ok.ensures.told tag version) (c.in-Err-fetch_batch.ensures.told tag version))

@@ -1,0 +1,42 @@
+use Rattle.std.proofs.Common.{ℕ, Bool, List, [], subst, sym}
+use Rattle.std.specs.Prelude.{IsTrue}
+use Rattle.recipe.specs.declared.recipe.Recipe.{Recipe}
+use Rattle.restore_job.proofs.Asks.{Fetched, fetched_none, fetched_more, fetched_all, fetched_stops, fetched_unkept, numbers_next, numbers_none, rest_is, next_named}
+use Rattle.restore_job.proofs.fetching.fetch_recipes.Goals as goal
+use Rattle.cd_base.specs.Numbers.{numbers_of}
+
+pub clouds-init : goal.clouds-init
+clouds-init g c =
+    subst (λ (l : List Recipe). Fetched g.L.Link.tells c.args.shape c.args.link.now c.args.link.now c.args.request.now (numbers_of c.args.clouds.now) (numbers_of c.args.clouds.now) l) (sym c.new-recipes.ensures)
+    (fetched_none g.L.Link.tells c.args.shape c.args.link.now c.args.request.now (numbers_of c.args.clouds.now))
+
+pub returns-in_default-clause-told : goal.returns-in_default-clause-told
+returns-in_default-clause-told g c =
+    fetched_all g.L.Link.tells c.args.shape c.args.link.now c.clouds.link c.args.request.now (numbers_of c.args.clouds.now) c.clouds.recipes
+    (rest_is g.L.Link.tells c.args.shape c.args.link.now c.clouds.link c.args.request.now (numbers_of c.args.clouds.now) (numbers_of c.clouds.rest.now) [] c.clouds.recipes (numbers_none c.clouds.rest.now c.in_default.ensures) c.clouds.invariant)
+
+pub fetch_recipe-requires-clause-reached : goal.fetch_recipe-requires-clause-reached
+fetch_recipe-requires-clause-reached g c =
+    let t = g.L.Link.tells in
+    let f = rest_is t c.args.shape c.args.link.now c.clouds.link c.args.request.now (numbers_of c.args.clouds.now) (numbers_of c.clouds.rest.now) _ c.clouds.recipes (numbers_next c.clouds.rest.now c.in-Some.cloud c.in-Some.more.now c.in-Some.ensures) c.clouds.invariant in
+    subst (λ (r : ℕ → Bool). IsTrue (r c.in-Some.cloud.0)) (sym f.asked.reaches)
+    (c.requires.reached c.in-Some.cloud.0 (next_named t c.args.shape c.args.link.now c.clouds.link c.args.request.now (numbers_of c.args.clouds.now) c.in-Some.cloud.0 (numbers_of c.in-Some.more.now) c.clouds.recipes f))
+
+pub returns-in-Err-push-clause-told : goal.returns-in-Err-push-clause-told
+returns-in-Err-push-clause-told g c =
+    let t = g.L.Link.tells in
+    let f = rest_is t c.args.shape c.args.link.now c.clouds.link c.args.request.now (numbers_of c.args.clouds.now) (numbers_of c.clouds.rest.now) _ c.clouds.recipes (numbers_next c.clouds.rest.now c.in-Some.cloud c.in-Some.more.now c.in-Some.ensures) c.clouds.invariant in
+    fetched_unkept t c.args.shape c.args.link.now c.clouds.link c.fetch_recipe.new.link c.args.request.now (numbers_of c.args.clouds.now) c.in-Some.cloud (numbers_of c.in-Some.more.now) c.clouds.recipes c.in-Ok.recipe f c.in-Ok.ensures.told
+
+pub returns-in-Err-clause-told : goal.returns-in-Err-clause-told
+returns-in-Err-clause-told g c =
+    let t = g.L.Link.tells in
+    let f = rest_is t c.args.shape c.args.link.now c.clouds.link c.args.request.now (numbers_of c.args.clouds.now) (numbers_of c.clouds.rest.now) _ c.clouds.recipes (numbers_next c.clouds.rest.now c.in-Some.cloud c.in-Some.more.now c.in-Some.ensures) c.clouds.invariant in
+    fetched_stops t c.args.shape c.args.link.now c.clouds.link c.fetch_recipe.new.link c.args.request.now (numbers_of c.args.clouds.now) c.in-Some.cloud (numbers_of c.in-Some.more.now) c.clouds.recipes c.in-Err.e f c.in-Err.ensures.told
+
+pub clouds-preserved : goal.clouds-preserved
+clouds-preserved g c =
+    let t = g.L.Link.tells in
+    let f = rest_is t c.args.shape c.args.link.now c.clouds.link c.args.request.now (numbers_of c.args.clouds.now) (numbers_of c.clouds.rest.now) _ c.clouds.recipes (numbers_next c.clouds.rest.now c.in-Some.cloud c.in-Some.more.now c.in-Some.ensures) c.clouds.invariant in
+    subst (λ (l : List Recipe). Fetched t c.args.shape c.args.link.now c.fetch_recipe.new.link c.args.request.now (numbers_of c.args.clouds.now) (numbers_of c.in-Some.more.now) l) (sym c.in-Ok-push.ensures.ok)
+    (fetched_more t c.args.shape c.args.link.now c.clouds.link c.fetch_recipe.new.link c.args.request.now (numbers_of c.args.clouds.now) c.in-Some.cloud (numbers_of c.in-Some.more.now) c.clouds.recipes c.in-Ok.recipe f c.in-Ok.ensures.asked c.in-Ok.ensures.fits c.in-Ok.ensures.told)

@@ -1,0 +1,14 @@
+use Rattle.std.proofs.Common.{◌≡◌, ◌+◌, ◌-◌, ◌<◌, ℕ, List, map}
+use Rattle.std.specs.List.{flat_map}
+use Rattle.restore_job.specs.Restored.{Given, secrets_opened, string_at}
+use Rattle.restore_job.specs.Steps.{Grows, room_of}
+use Rattle.restore_job.proofs.Taking.{Opening}
+use Rattle.restore_job.proofs.opening.open_batch.Given as goal
+
+abbrev pub invariant-loop-j : goal.invariant-loop-j
+invariant-loop-j l = record {
+  opening : (all : List Given) → l.points ≡ map (λ given. given.cloud) all
+      → ((j : ℕ) → j < l.count → room_of l.rooms j ≡ flat_map (λ given. string_at given (l.place + j)) all)
+      → Opening (secrets_opened l.shape l.firsts all l.place l.count) (secrets_opened l.shape l.firsts all (l.place + l.j) (l.count - l.j)) l.fn.out l.out;
+  grows : Grows l.fn.out l.out;
+}

@@ -1,0 +1,57 @@
+use Rattle.std.proofs.Common.{◌≡◌, ◌∷◌, List, length, Ok, Err, sym, ap, subst, arith}
+use Rattle.std.specs.Prelude.{All}
+use Rattle.std.proofs.lemmas.List.{length-map}
+use Rattle.std.proofs.lemmas.List.Elements.{All-weaker}
+use Rattle.cd_base.specs.Numbers.{numbers_of}
+use Rattle.cd_base.specs.declared.ids.CloudNo.{CloudNo}
+use Rattle.recipe.specs.Spelling.{Fits}
+use Rattle.recipe.specs.declared.recipe.Recipe.{Recipe}
+use Rattle.restore_job.specs.Steps.{AreItemsAt}
+use Rattle.restore_job.proofs.Ending.{agreed_as, agreed_differs, agreed_items, agreed_unmade, items_as, fits_items}
+use Rattle.restore_job.proofs.restoring.restore_agreed.Goals as goal
+
+-- as many others as recipes of theirs
+others_long : (clouds others : List CloudNo) (recipes rest : List Recipe) (first : CloudNo) (recipe : Recipe) → clouds ≡ first ∷ others → recipes ≡ recipe ∷ rest → length clouds ≡ length recipes → length (numbers_of others) ≡ length rest
+others_long clouds others recipes rest first recipe c r pairs =
+    let a = ap length c in
+    let b = ap length r in
+    let m : length (numbers_of others) ≡ length others = length-map others (λ (cloud : CloudNo). cloud.0) in
+    omega arith
+
+pub returns-in-Err-clause-told : goal.returns-in-Err-clause-told
+returns-in-Err-clause-told g c =
+    agreed_as g.L.Link.tells c.args.shape c.args.user c.args.link.now c.args.link.now c.args.out.now c.args.out.now (Err c.in-Err.e) (c.in-Some.first.0 ∷ numbers_of c.in-Some.others.now) (numbers_of c.args.clouds.now) (c.in-Some.recipe.now ∷ c.in-Some.rest.now) c.args.recipes.now
+    (ap numbers_of c.in-Some.ensures.clouds) c.in-Some.ensures.recipes
+    (agreed_differs g.L.Link.tells c.args.shape c.args.user c.in-Some.first.0 c.in-Some.recipe.now (numbers_of c.in-Some.others.now) c.in-Some.rest.now c.args.link.now c.args.out.now c.in-Err.e
+    (others_long c.args.clouds.now c.in-Some.others.now c.args.recipes.now c.in-Some.rest.now c.in-Some.first c.in-Some.recipe.now c.in-Some.ensures.clouds c.in-Some.ensures.recipes c.requires.pairs) c.in-Err.ensures.compares)
+
+pub returns-in-Err-points_of-clause-told : goal.returns-in-Err-points_of-clause-told
+returns-in-Err-points_of-clause-told g c = agreed_unmade g.L.Link.tells c.args.shape c.args.user (numbers_of c.args.clouds.now) c.args.recipes.now c.args.link.now c.args.out.now
+
+pub restore_items-requires-clause-lens : goal.restore_items-requires-clause-lens
+restore_items-requires-clause-lens g c =
+    let fits : Fits c.args.shape c.in-Some.recipe.now = (subst (All (Fits c.args.shape)) c.in-Some.ensures.recipes c.requires.fits) 0 c.in-Some.recipe.now (omega arith) in
+    subst AreItemsAt (sym c.as_slice-firsts.ensures) (fits_items c.in-Some.recipe.now.items fits.items)
+
+pub restore_items-requires-clause-items : goal.restore_items-requires-clause-items
+restore_items-requires-clause-items g c = All-weaker (Fits c.args.shape) (λ (r : Recipe). AreItemsAt r.items) (λ r f. fits_items r.items f.items) c.args.recipes.now c.requires.fits
+
+pub returns-in-Ok-restore_items-clause-told : goal.returns-in-Ok-restore_items-clause-told
+returns-in-Ok-restore_items-clause-told g c =
+    let t = g.L.Link.tells in
+    agreed_as t c.args.shape c.args.user c.args.link.now c.restore_items.new.link c.args.out.now c.restore_items.new.out (Ok tt) (c.in-Some.first.0 ∷ numbers_of c.in-Some.others.now) (numbers_of c.args.clouds.now) (c.in-Some.recipe.now ∷ c.in-Some.rest.now) c.args.recipes.now
+    (ap numbers_of c.in-Some.ensures.clouds) c.in-Some.ensures.recipes
+    (agreed_items t c.args.shape c.args.user c.in-Some.first.0 c.in-Some.recipe.now (numbers_of c.in-Some.others.now) c.in-Some.rest.now c.args.link.now c.restore_items.new.link c.args.out.now c.restore_items.new.out (Ok tt)
+    (others_long c.args.clouds.now c.in-Some.others.now c.args.recipes.now c.in-Some.rest.now c.in-Some.first c.in-Some.recipe.now c.in-Some.ensures.clouds c.in-Some.ensures.recipes c.requires.pairs) c.in-Ok.ensures.compares
+    (items_as t c.args.shape c.args.user c.args.link.now c.restore_items.new.link c.args.out.now c.restore_items.new.out (Ok tt) (c.in-Some.first.0 ∷ numbers_of c.in-Some.others.now) (numbers_of c.args.clouds.now) (c.in-Some.recipe.now ∷ c.in-Some.rest.now) c.args.recipes.now
+    c.in-Some.recipe.now.items c.as_slice-firsts.result.now (ap numbers_of c.in-Some.ensures.clouds) c.in-Some.ensures.recipes c.as_slice-firsts.ensures c.in-Ok-restore_items.ensures.told))
+
+pub returns-clause-told : goal.returns-clause-told
+returns-clause-told g c =
+    let t = g.L.Link.tells in
+    agreed_as t c.args.shape c.args.user c.args.link.now c.restore_items.new.link c.args.out.now c.restore_items.new.out (Err c.in-Err-restore_items.e) (c.in-Some.first.0 ∷ numbers_of c.in-Some.others.now) (numbers_of c.args.clouds.now) (c.in-Some.recipe.now ∷ c.in-Some.rest.now) c.args.recipes.now
+    (ap numbers_of c.in-Some.ensures.clouds) c.in-Some.ensures.recipes
+    (agreed_items t c.args.shape c.args.user c.in-Some.first.0 c.in-Some.recipe.now (numbers_of c.in-Some.others.now) c.in-Some.rest.now c.args.link.now c.restore_items.new.link c.args.out.now c.restore_items.new.out (Err c.in-Err-restore_items.e)
+    (others_long c.args.clouds.now c.in-Some.others.now c.args.recipes.now c.in-Some.rest.now c.in-Some.first c.in-Some.recipe.now c.in-Some.ensures.clouds c.in-Some.ensures.recipes c.requires.pairs) c.in-Ok.ensures.compares
+    (items_as t c.args.shape c.args.user c.args.link.now c.restore_items.new.link c.args.out.now c.restore_items.new.out (Err c.in-Err-restore_items.e) (c.in-Some.first.0 ∷ numbers_of c.in-Some.others.now) (numbers_of c.args.clouds.now) (c.in-Some.recipe.now ∷ c.in-Some.rest.now) c.args.recipes.now
+    c.in-Some.recipe.now.items c.as_slice-firsts.result.now (ap numbers_of c.in-Some.ensures.clouds) c.in-Some.ensures.recipes c.as_slice-firsts.ensures c.in-Err-restore_items.ensures.told))

@@ -1,0 +1,83 @@
+-- What reading does to the clouds of a link.
+use Rattle.std.specs.Prelude.{◌≡◌, ◌≢◌, ℕ, ◌≤◌, ◌⊎◌, Bool, true, false, IsTrue, List, [], ◌∷◌, ◌++◌, Result, Ok, Err}
+use Rattle.std.specs.List.{Contains}
+use Rattle.cd_edges.specs.Causes.{Rose}
+use Rattle.user_dedup.specs.Exec.{Peer, Settles, Stays, CountsOn}
+use Rattle.user_dedup.specs.Link.{LinkTelling}
+use Rattle.restore_job.specs.declared.error.RestoreErr.{RestoreErr}
+use Rattle.restore_job.specs.declared.error.RestoreErr.TheVariants as errors
+
+-- each cloud that the link reaches stands for its peer
+abbrev pub PeersOf : {L : Type 0} → LinkTelling L → L → (ℕ → Peer) → Type 0
+PeersOf t link peers = (cloud : ℕ) → IsTrue (t.reaches link cloud) → t.stands link cloud (peers cloud)
+
+abbrev pub TellsAll : {L : Type 0} → LinkTelling L → L → List ℕ → Type 0
+TellsAll t link clouds = (cloud : ℕ) → Contains clouds cloud → IsTrue (t.told link cloud)
+
+-- a cloud that was asked and answered
+abbrev pub Reads : Peer → Peer → Type 0
+Reads old new = Settles old new × CountsOn old new
+
+-- a cloud that may have been asked
+abbrev pub MayRead : Peer → Peer → Type 0
+MayRead old new = (Stays old new ⊎ Settles old new) × CountsOn old new
+
+-- a cloud that answered fault
+abbrev pub ReadFails : Peer → Peer → Type 0
+ReadFails old new = Rose old.faults new.faults × MayRead old new
+
+-- these clouds may have been asked, and the others are as they were
+pub record OnlyRead (clouds : List ℕ) (old new : ℕ → Peer) : Type 0 where
+  pub read : (cloud : ℕ) → MayRead (old cloud) (new cloud)
+  pub others : (cloud : ℕ) → (Contains clouds cloud → ⊥) → new cloud ≡ old cloud
+
+-- From all peers that the clouds stood for they went on to others that they stand for now; only these clouds were asked; and where
+-- all of these are told, the peers before and after are so related.
+abbrev pub Leads : {L : Type 0} → LinkTelling L → List ℕ → L → L → ((ℕ → Peer) → (ℕ → Peer) → Type 0) → Type 0
+Leads t clouds old new Related =
+    (before : ℕ → Peer) → PeersOf t old before → (after : ℕ → Peer) × PeersOf t new after × OnlyRead clouds before after
+    × (TellsAll t old clouds → Related before after)
+
+-- these were read
+abbrev pub AreRead : List ℕ → (ℕ → Peer) → (ℕ → Peer) → Type 0
+AreRead clouds before after = (cloud : ℕ) → Contains clouds cloud → Reads (before cloud) (after cloud)
+
+-- one cloud stopped it: those in front of it were read, and those behind it not asked
+pub record StoppedAt (at : ℕ) (Stops : Peer → Peer → Type 0) (clouds : List ℕ) (before after : ℕ → Peer) : Type 0 where
+  pub front : List ℕ
+  pub rest : List ℕ
+  pub split : clouds ≡ front ++ at ∷ rest
+  pub read : (cloud : ℕ) → Contains front cloud → cloud ≢ at → Reads (before cloud) (after cloud)
+  pub stops : Stops (before at) (after at)
+  pub others : (cloud : ℕ) → (Contains (front ++ at ∷ []) cloud → ⊥) → after cloud ≡ before cloud
+
+abbrev pub is_loss : RestoreErr → Bool
+is_loss (errors.Missing cloud) = false
+is_loss (errors.Lost cloud) = true
+is_loss (errors.CloudFault cloud) = false
+is_loss (errors.CloudDamaged cloud at byte) = false
+is_loss (errors.CloudRotten cloud named found) = false
+is_loss (errors.CloudNoMemory cloud) = false
+is_loss (errors.Strange cloud kind) = false
+is_loss (errors.RecipesDiffer a b place) = false
+is_loss (errors.ShareLength cloud secret found wanted) = false
+is_loss (errors.BadShare cloud secret named found) = false
+is_loss (errors.BadSecret secret named found) = false
+is_loss (errors.BadPad secret at byte) = false
+is_loss errors.NoMemory = false
+
+-- whether a result is that an ask was lost
+abbrev pub is_lost : {A : Type 0} → Result A RestoreErr → Bool
+is_lost (Ok x) = false
+is_lost (Err e) = is_loss e
+
+-- A link after some asks: what it tells beside its clouds stays. An ask is lost only where the count of losses rose, and never where
+-- the link tells that it loses nothing, which it then tells still.
+pub record Asked {L : Type 0} (t : LinkTelling L) (old new : L) (loss : Bool) : Type 0 where
+  pub reaches : t.reaches new ≡ t.reaches old
+  pub shape : t.shape new ≡ t.shape old
+  pub told : t.told new ≡ t.told old
+  pub full : t.full new ≡ t.full old
+  pub later : t.losses old ≤ t.losses new
+  pub lost : loss ≡ true → Rose (t.losses old) (t.losses new)
+  pub lossless : IsTrue (t.lossless old) → (loss ≡ false) × IsTrue (t.lossless new)

@@ -1,0 +1,4 @@
+pub mod Restored
+pub mod Asking
+pub mod Reading
+pub mod Steps

@@ -1,0 +1,127 @@
+//! A file's secrets, batch by batch.
+
+ghost use Rattle.std.specs.Prelude.{◌≡◌, ◌+◌, ◌≤◌, ◌<◌, ℕ, length, min, All, IsTrue};
+ghost use Rattle.std.specs.List.{Contains};
+ghost use Rattle.cd_base.specs.Numbers.{numbers_of};
+ghost use Rattle.cd_base.specs.declared.ids.Tag.{Tag};
+ghost use Rattle.cd_base.specs.declared.ids.Version.{Version};
+ghost use Rattle.reed_solomon.specs.Dispersal.{AreChoice};
+ghost use Rattle.restore_job.specs.Asking.{Asked, Leads, is_lost};
+ghost use Rattle.restore_job.specs.Reading.{Ends};
+ghost use Rattle.restore_job.specs.Restored.{batch_opened, items_opened};
+ghost use Rattle.restore_job.specs.Steps.{AreItemsAt, Grows, Ready, givens};
+
+use crate::RestoreErr;
+use crate::fetching::fetch_batch;
+use crate::opening::open_batch;
+use crate::rooms::Rooms;
+use cd_base::{Bytes, CloudNo, Shape, UserId};
+use frames::ReplyBuf;
+use recipe::{Item, Recipe};
+use std::alloc::Global;
+use user_dedup::Link;
+
+// The most secrets of a batch.
+const BATCH: usize = 256;
+
+// How many secrets the next batch has, of so many that are left.
+fn size_of(left: usize) -> usize
+    ensures { result ≡ min 256 left }
+{
+    if left < BATCH { left } else { BATCH }
+}
+
+// Appends a batch of secrets: asks each cloud for its shares of them, and opens them.
+fn restore_batch<L: Link>(
+    alloc: Global,
+    link: &mut L,
+    shape: Shape,
+    user: UserId,
+    clouds: &[CloudNo],
+    points: &[u8],
+    firsts: &[Item],
+    recipes: &[Recipe],
+    place: usize,
+    count: usize,
+    reply: &mut ReplyBuf,
+    rooms: &mut Rooms,
+    out: &mut Bytes,
+) -> Result<(), RestoreErr>
+    requires shape { L.tells.shape link.old ≡ shape }
+    requires reached { (cloud : ℕ) → Contains (numbers_of clouds.now) cloud → IsTrue (L.tells.reaches link.old cloud) }
+    requires choice { AreChoice shape points.now }
+    requires points { points.now ≡ numbers_of clouds.now }
+    requires pairs { length clouds.now ≡ length recipes.now }
+    requires some { 1 ≤ count }
+    requires batch { count ≤ 256 }
+    requires firsts { place + count ≤ length firsts.now }
+    requires same { All (λ recipe. length recipe.items ≡ length firsts.now) recipes.now }
+    requires lens { AreItemsAt firsts.now }
+    requires items { All (λ recipe. AreItemsAt recipe.items) recipes.now }
+    requires few { length firsts.now ≤ 32768 }
+    requires room { count ≤ length rooms.old }
+    ensures asked { Asked L.tells link.old link.new (is_lost result) }
+    ensures told { (tag : Tag) (version : Version) → Leads L.tells (numbers_of clouds.now) link.old link.new (λ before after.
+        Ready shape user (tag, version) (numbers_of clouds.now) recipes.now before
+        → Ends (batch_opened shape firsts.now (givens before (numbers_of clouds.now) recipes.now) place count) (numbers_of clouds.now) result out.old out.new before after) }
+    ensures grows { Grows out.old out.new }
+    ensures rooms { length rooms.new ≡ length rooms.old }
+{
+    rooms.clear();
+    match fetch_batch(
+        alloc, link, shape, user, clouds, firsts, recipes, place, count, reply, rooms,
+    ) {
+        Ok(()) => match open_batch(shape, points, firsts, place, count, rooms, out) {
+            Ok(()) => Ok(()),
+            Err(e) => Err(e),
+        },
+        Err(e) => Err(e),
+    }
+}
+
+/// Appends the secrets of a file, whose items at the clouds stand in the recipes; after an error a part of them may stand there.
+pub fn restore_items<L: Link>(
+    alloc: Global,
+    link: &mut L,
+    shape: Shape,
+    user: UserId,
+    clouds: &[CloudNo],
+    points: &[u8],
+    firsts: &[Item],
+    recipes: &[Recipe],
+    reply: &mut ReplyBuf,
+    out: &mut Bytes,
+) -> Result<(), RestoreErr>
+    requires shape { L.tells.shape link.old ≡ shape }
+    requires reached { (cloud : ℕ) → Contains (numbers_of clouds.now) cloud → IsTrue (L.tells.reaches link.old cloud) }
+    requires choice { AreChoice shape points.now }
+    requires points { points.now ≡ numbers_of clouds.now }
+    requires pairs { length clouds.now ≡ length recipes.now }
+    requires same { All (λ recipe. length recipe.items ≡ length firsts.now) recipes.now }
+    requires lens { AreItemsAt firsts.now }
+    requires items { All (λ recipe. AreItemsAt recipe.items) recipes.now }
+    requires few { length firsts.now ≤ 32768 }
+    ensures asked { Asked L.tells link.old link.new (is_lost result) }
+    ensures told { (tag : Tag) (version : Version) → Leads L.tells (numbers_of clouds.now) link.old link.new (λ before after.
+        Ready shape user (tag, version) (numbers_of clouds.now) recipes.now before
+        → Ends (items_opened shape firsts.now (givens before (numbers_of clouds.now) recipes.now)) (numbers_of clouds.now) result out.old out.new before after) }
+    ensures grows { Grows out.old out.new }
+{
+    let mut rooms = match Rooms::make(alloc, BATCH) {
+        Ok(rooms) => rooms,
+        Err(_) => return Err(RestoreErr::NoMemory),
+    };
+    let mut place = 0;
+    while place < firsts.len() {
+        let count = size_of(firsts.len() - place);
+        match restore_batch(
+            alloc, link, shape, user, clouds, points, firsts, recipes, place, count, reply,
+            &mut rooms, out,
+        ) {
+            Ok(()) => {}
+            Err(e) => return Err(e),
+        }
+        place += count;
+    }
+    Ok(())
+}

@@ -1,0 +1,265 @@
+//! Asking clouds for recipes and shares.
+
+ghost use Rattle.std.specs.Prelude.{◌≡◌, ◌+◌, ◌≤◌, ◌<◌, ◌*◌, ℕ, [], ◌∷◌, ◌++◌, List, length, map, IsTrue, Ok, Err, All, MatchOption, IfOk, OnOk, OnErr};
+ghost use Rattle.std.specs.List.{Contains};
+ghost use Rattle.cd_base.specs.Lengths.{share_len_of};
+ghost use Rattle.cd_base.specs.Numbers.{numbers_of};
+ghost use Rattle.cd_base.specs.declared.ids.Tag.{Tag};
+ghost use Rattle.cd_base.specs.declared.ids.Version.{Version};
+ghost use Rattle.messages.specs.declared.request.Request.{Request};
+ghost use Rattle.messages.specs.declared.request.Request.TheVariants as requests;
+ghost use Rattle.messages.specs.Requests.{IsRequest};
+ghost use Rattle.recipe.specs.Spelling.{Fits};
+ghost use Rattle.user_dedup.specs.Link.{Asks, LeavesOthers};
+ghost use Rattle.user_dedup.specs.Owning.{fps_in};
+ghost use Rattle.user_dedup.specs.Requests.{IsAsked};
+ghost use Rattle.restore_job.specs.Asking.{Asked, Leads, is_lost};
+ghost use Rattle.restore_job.specs.Restored.{item_of};
+ghost use Rattle.restore_job.specs.Steps.{AreItemsAt, BatchTold, Ready, ReadyAt, RecipeTold, RecipesTold, SharesTold, given_of, givens, room_of};
+
+use crate::RestoreErr;
+use crate::recipes::Recipes;
+use crate::reply::{recipe_from, shares_from};
+use crate::rooms::Rooms;
+use crate::shares::take_shares;
+use cd_base::{Bytes, CloudNo, Fps, NoMemory, Shape, UserId};
+use frames::ReplyBuf;
+use messages::Request;
+use recipe::{Item, Recipe};
+use std::alloc::Global;
+use user_dedup::{Link, Lost};
+
+// Asks a cloud.
+fn ask<L: Link>(
+    link: &mut L,
+    cloud: CloudNo,
+    request: &[u8],
+    reply: &mut ReplyBuf,
+) -> Result<(), RestoreErr>
+    requires reached { IsTrue (L.tells.reaches link.old cloud.0) }
+    requires some { 1 ≤ length request.now }
+    requires framed { length request.now ≤ 4194304 }
+    ensures asked { Asked L.tells link.old link.new (is_lost result) }
+    ensures exec { (r : Request) → IsAsked (L.tells.shape link.old) request.now r → Asks L.tells cloud.0 link.old r reply.new result link.new }
+    ensures others { LeavesOthers L.tells cloud.0 link.old link.new }
+    ensures lost { OnErr result (result ≡ Err (RestoreErr.Lost cloud)) }
+{
+    match link.ask(cloud, request, reply) {
+        Ok(()) => Ok(()),
+        Err(Lost) => Err(RestoreErr::Lost { cloud }),
+    }
+}
+
+// Asks a cloud for a recipe.
+fn fetch_recipe<L: Link>(
+    alloc: Global,
+    link: &mut L,
+    shape: Shape,
+    cloud: CloudNo,
+    request: &[u8],
+    reply: &mut ReplyBuf,
+) -> Result<Recipe, RestoreErr>
+    requires shape { L.tells.shape link.old ≡ shape }
+    requires reached { IsTrue (L.tells.reaches link.old cloud.0) }
+    requires some { 1 ≤ length request.now }
+    requires framed { length request.now ≤ 4194304 }
+    ensures asked { Asked L.tells link.old link.new (is_lost result) }
+    ensures told { (user : UserId) (tag : Tag) (version : Version) → IsRequest request.now (requests.GetRecipe user tag version)
+        → Leads L.tells (cloud.0 ∷ []) link.old link.new (λ before after. RecipeTold shape user (tag, version) cloud result (before cloud.0) (after cloud.0)) }
+    ensures fits { IfOk result (Fits shape) }
+{
+    match ask(link, cloud, request, reply) {
+        Ok(()) => recipe_from(alloc, shape, cloud, reply.content()),
+        Err(e) => Err(e),
+    }
+}
+
+// The first cloud and the others.
+fn next_cloud(clouds: &[CloudNo]) -> Option<(CloudNo, &[CloudNo])>
+    ensures { MatchOption result (clouds.now ≡ []) (λ x. clouds.now ≡ x.0 ∷ x.1.now) }
+{
+    match clouds {
+        [] => None,
+        [cloud, more @ ..] => Some((*cloud, more)),
+    }
+}
+
+/// Asks clouds, in order, for the recipe that the request names, and appends what they answer. It ends at the first that refuses.
+pub fn fetch_recipes<L: Link>(
+    alloc: Global,
+    link: &mut L,
+    shape: Shape,
+    clouds: &[CloudNo],
+    request: &[u8],
+    reply: &mut ReplyBuf,
+) -> Result<Recipes, RestoreErr>
+    requires shape { L.tells.shape link.old ≡ shape }
+    requires reached { (cloud : ℕ) → Contains (numbers_of clouds.now) cloud → IsTrue (L.tells.reaches link.old cloud) }
+    requires some { 1 ≤ length request.now }
+    requires framed { length request.now ≤ 4194304 }
+    ensures asked { Asked L.tells link.old link.new (is_lost result) }
+    ensures told { (user : UserId) (tag : Tag) (version : Version) → IsRequest request.now (requests.GetRecipe user tag version)
+        → Leads L.tells (numbers_of clouds.now) link.old link.new (λ before after. RecipesTold shape user (tag, version) (numbers_of clouds.now) result before after) }
+    ensures fits { IfOk result (All (Fits shape)) }
+    ensures pairs { IfOk result (λ recipes. length recipes ≡ length clouds.now) }
+{
+    let mut recipes = Recipes::new(alloc);
+    let mut rest = clouds;
+    'clouds: loop {
+        let Some((cloud, more)) = next_cloud(rest) else {
+            return Ok(recipes);
+        };
+        match fetch_recipe(alloc, link, shape, cloud, request, reply) {
+            Ok(recipe) => match recipes.push(recipe) {
+                Ok(()) => {}
+                Err(NoMemory) => return Err(RestoreErr::NoMemory),
+            },
+            Err(e) => return Err(e),
+        }
+        rest = more;
+    }
+}
+
+// Appends the fingerprint of an item.
+fn push_fp(fps: &mut Fps, item: &Item) -> Result<(), NoMemory>
+    ensures { OnOk result (fps.new ≡ fps.old ++ item.now.fp ∷ []) }
+{
+    fps.push(item.fp)
+}
+
+// The fingerprints of items.
+fn fps_of(alloc: Global, items: &[Item]) -> Result<Fps, NoMemory>
+    ensures { IfOk result (λ fps. fps ≡ fps_in items.now) }
+{
+    let mut fps = Fps::new(alloc);
+    for item in items {
+        push_fp(&mut fps, item)?;
+    }
+    Ok(fps)
+}
+
+// The content of a request for the shares of items.
+fn shares_request(alloc: Global, user: UserId, items: &[Item]) -> Result<Bytes, NoMemory>
+    requires some { 1 ≤ length items.now }
+    requires few { length items.now ≤ 256 }
+    requires items { AreItemsAt items.now }
+    ensures asks { IfOk result (λ content. IsRequest content (requests.GetShares user (fps_in items.now))) }
+    ensures framed { IfOk result (λ content. (1 ≤ length content) × (length content ≤ 4194304)) }
+{
+    let fps = fps_of(alloc, items)?;
+    let mut content = Bytes::new(alloc);
+    Request::GetShares { user, fps }.write(&mut content)?;
+    Ok(content)
+}
+
+/// Asks a cloud for its shares of the secrets `place` on, looks at them, and appends each in its room.
+fn fetch_shares<L: Link>(
+    alloc: Global,
+    link: &mut L,
+    shape: Shape,
+    user: UserId,
+    cloud: CloudNo,
+    firsts: &[Item],
+    recipe: &Recipe,
+    place: usize,
+    count: usize,
+    reply: &mut ReplyBuf,
+    rooms: &mut Rooms,
+) -> Result<(), RestoreErr>
+    requires shape { L.tells.shape link.old ≡ shape }
+    requires reached { IsTrue (L.tells.reaches link.old cloud.0) }
+    requires some { 1 ≤ count }
+    requires batch { count ≤ 256 }
+    requires firsts { place + count ≤ length firsts.now }
+    requires same { length recipe.now.items ≡ length firsts.now }
+    requires lens { AreItemsAt firsts.now }
+    requires items { AreItemsAt recipe.now.items }
+    requires few { length firsts.now ≤ 32768 }
+    requires room { count ≤ length rooms.old }
+    ensures asked { Asked L.tells link.old link.new (is_lost result) }
+    ensures told { (tag : Tag) (version : Version) → Leads L.tells (cloud.0 ∷ []) link.old link.new (λ before after.
+        ReadyAt shape user (tag, version) recipe.now (before cloud.0)
+        → SharesTold shape cloud firsts.now (given_of (before cloud.0) cloud.0 recipe.now) place count result rooms.old rooms.new (before cloud.0) (after cloud.0)) }
+    ensures lens { OnOk result ((j : ℕ) → j < count → length (room_of rooms.new j) ≡ length (room_of rooms.old j) + share_len_of shape.k (item_of firsts.now (place + j)).secret_len) }
+    ensures rooms { length rooms.new ≡ length rooms.old }
+{
+    let items = recipe.items.as_slice();
+    let request = match shares_request(alloc, user, &items[place..place + count]) {
+        Ok(request) => request,
+        Err(NoMemory) => return Err(RestoreErr::NoMemory),
+    };
+    match ask(link, cloud, request.as_slice(), reply) {
+        Ok(()) => match shares_from(alloc, cloud, count, reply.content()) {
+            Ok(shares) => take_shares(shape, cloud, firsts, items, place, count, &shares, rooms),
+            Err(e) => Err(e),
+        },
+        Err(e) => Err(e),
+    }
+}
+
+/// The first cloud with its recipe, and the others.
+pub fn next_pair<'a>(
+    clouds: &'a [CloudNo],
+    recipes: &'a [Recipe],
+) -> Option<(CloudNo, &'a Recipe, &'a [CloudNo], &'a [Recipe])>
+    requires { length clouds.now ≡ length recipes.now }
+    ensures clouds { MatchOption result (clouds.now ≡ []) (λ x. clouds.now ≡ x.0 ∷ x.2.now) }
+    ensures recipes { MatchOption result (recipes.now ≡ []) (λ x. recipes.now ≡ x.1.now ∷ x.3.now) }
+{
+    match clouds {
+        [] => None,
+        [cloud, more @ ..] => match recipes {
+            [] => None,
+            [recipe, rest @ ..] => Some((*cloud, recipe, more, rest)),
+        },
+    }
+}
+
+/// Asks clouds, in order, for their shares of a batch of secrets. It ends at the first that refuses.
+pub fn fetch_batch<L: Link>(
+    alloc: Global,
+    link: &mut L,
+    shape: Shape,
+    user: UserId,
+    clouds: &[CloudNo],
+    firsts: &[Item],
+    recipes: &[Recipe],
+    place: usize,
+    count: usize,
+    reply: &mut ReplyBuf,
+    rooms: &mut Rooms,
+) -> Result<(), RestoreErr>
+    requires shape { L.tells.shape link.old ≡ shape }
+    requires reached { (cloud : ℕ) → Contains (numbers_of clouds.now) cloud → IsTrue (L.tells.reaches link.old cloud) }
+    requires pairs { length clouds.now ≡ length recipes.now }
+    requires some { 1 ≤ count }
+    requires batch { count ≤ 256 }
+    requires firsts { place + count ≤ length firsts.now }
+    requires same { All (λ recipe. length recipe.items ≡ length firsts.now) recipes.now }
+    requires lens { AreItemsAt firsts.now }
+    requires items { All (λ recipe. AreItemsAt recipe.items) recipes.now }
+    requires few { length firsts.now ≤ 32768 }
+    requires room { count ≤ length rooms.old }
+    ensures asked { Asked L.tells link.old link.new (is_lost result) }
+    ensures told { (tag : Tag) (version : Version) → Leads L.tells (numbers_of clouds.now) link.old link.new (λ before after.
+        Ready shape user (tag, version) (numbers_of clouds.now) recipes.now before
+        → BatchTold shape (numbers_of clouds.now) firsts.now (givens before (numbers_of clouds.now) recipes.now) place count result rooms.old rooms.new before after) }
+    ensures lens { OnOk result ((j : ℕ) → j < count → length (room_of rooms.new j) ≡ length (room_of rooms.old j) + length clouds.now * share_len_of shape.k (item_of firsts.now (place + j)).secret_len) }
+    ensures rooms { length rooms.new ≡ length rooms.old }
+{
+    let Some((cloud, recipe, more, rest)) = next_pair(clouds, recipes) else {
+        return Ok(());
+    };
+    match fetch_shares(
+        alloc, link, shape, user, cloud, firsts, recipe, place, count, reply, rooms,
+    ) {
+        Ok(()) => {}
+        Err(e) => return Err(e),
+    }
+    match fetch_batch(
+        alloc, link, shape, user, more, firsts, rest, place, count, reply, rooms,
+    ) {
+        Ok(()) => Ok(()),
+        Err(e) => Err(e),
+    }
+}

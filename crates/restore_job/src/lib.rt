@@ -1,0 +1,17 @@
+//! Bringing a version of a file back from k clouds. Replies are checked before they are believed: their kinds, the lengths and
+//! hashes of shares, and at last each secret by itself.
+#![tactic(auto)]
+
+mod batch;
+mod comparing;
+mod error;
+mod fetching;
+mod opening;
+mod recipes;
+mod reply;
+mod restoring;
+mod rooms;
+mod shares;
+
+pub use error::RestoreErr;
+pub use restoring::restore;

@@ -1,0 +1,195 @@
+//! Restoring a version of a file.
+
+ghost use Rattle.std.specs.Prelude.{◌≡◌, ◌+◌, ◌≤◌, ◌<◌, ℕ, length, take, All, IsTrue, IfOk, OnErr};
+ghost use Rattle.std.specs.List.{Contains};
+ghost use Rattle.cd_base.specs.Limits.{IsPath};
+ghost use Rattle.cd_base.specs.Numbers.{numbers_of};
+ghost use Rattle.cd_base.specs.declared.ids.Tag.{Tag};
+ghost use Rattle.cd_base.specs.declared.ids.Version.{Version};
+ghost use Rattle.caont_rs.specs.Package.{tag as tag_at};
+ghost use Rattle.messages.specs.declared.request.Request.TheVariants as requests;
+ghost use Rattle.messages.specs.Requests.{IsRequest};
+ghost use Rattle.recipe.specs.Spelling.{Fits};
+ghost use Rattle.reed_solomon.specs.Dispersal.{AreChoice};
+ghost use Rattle.restore_job.specs.Asking.{Asked, Leads, is_lost};
+ghost use Rattle.restore_job.specs.Reading.{Ends, Restores};
+ghost use Rattle.restore_job.specs.Restored.{agreed};
+ghost use Rattle.restore_job.specs.Steps.{Grows, Ready, givens};
+
+use crate::RestoreErr;
+use crate::batch::restore_items;
+use crate::comparing::compare;
+use crate::fetching::{fetch_recipes, next_pair};
+use caont_rs::tag_of;
+use cd_base::{Bytes, CloudNo, Clouds, NoMemory, Shape, UserId, Version};
+use frames::ReplyBuf;
+use messages::Request;
+use recipe::Recipe;
+use std::alloc::Global;
+use user_dedup::Link;
+
+// The content of a request for the recipe of a version.
+fn recipe_request(
+    alloc: Global,
+    shape: Shape,
+    user: UserId,
+    path: &[u8],
+    version: Version,
+) -> Result<Bytes, NoMemory>
+    requires path { IsPath path.now }
+    ensures asks { IfOk result (λ content. IsRequest content (requests.GetRecipe user (record { 0 = tag_at shape path.now }) version)) }
+    ensures framed { IfOk result (λ content. (1 ≤ length content) × (length content ≤ 4194304)) }
+{
+    let tag = tag_of(alloc, shape, path)?;
+    let mut content = Bytes::new(alloc);
+    Request::GetRecipe { user, tag, version }.write(&mut content)?;
+    Ok(content)
+}
+
+// The numbers of clouds, as the code takes them.
+fn points_of(alloc: Global, clouds: &[CloudNo]) -> Result<Vec<u8>, NoMemory>
+    ensures { IfOk result (λ points. points.items ≡ numbers_of clouds.now) }
+{
+    Ok(clouds.iter().map(|cloud| cloud.0).collect(alloc)?)
+}
+
+// Compares the recipes, and appends the secrets; after an error a part of them may stand there.
+fn restore_agreed<L: Link>(
+    alloc: Global,
+    link: &mut L,
+    shape: Shape,
+    user: UserId,
+    clouds: &[CloudNo],
+    recipes: &[Recipe],
+    reply: &mut ReplyBuf,
+    out: &mut Bytes,
+) -> Result<(), RestoreErr>
+    requires shape { L.tells.shape link.old ≡ shape }
+    requires reached { (cloud : ℕ) → Contains (numbers_of clouds.now) cloud → IsTrue (L.tells.reaches link.old cloud) }
+    requires choice { AreChoice shape (numbers_of clouds.now) }
+    requires pairs { length clouds.now ≡ length recipes.now }
+    requires fits { All (Fits shape) recipes.now }
+    ensures asked { Asked L.tells link.old link.new (is_lost result) }
+    ensures told { (tag : Tag) (version : Version) → Leads L.tells (numbers_of clouds.now) link.old link.new (λ before after.
+        Ready shape user (tag, version) (numbers_of clouds.now) recipes.now before
+        → Ends (agreed shape (givens before (numbers_of clouds.now) recipes.now)) (numbers_of clouds.now) result out.old out.new before after) }
+    ensures grows { Grows out.old out.new }
+{
+    let Some((first, recipe, others, rest)) = next_pair(clouds, recipes) else {
+        return Ok(());
+    };
+    match compare(first, recipe, others, rest) {
+        Ok(()) => {}
+        Err(e) => return Err(e),
+    }
+    let points = match points_of(alloc, clouds) {
+        Ok(points) => points,
+        Err(NoMemory) => return Err(RestoreErr::NoMemory),
+    };
+    let firsts = recipe.items.as_slice();
+    match restore_items(
+        alloc, link, shape, user, clouds, &points, firsts, recipes, reply, out,
+    ) {
+        Ok(()) => Ok(()),
+        Err(e) => Err(e),
+    }
+}
+
+// Appends the file; after an error a part of it may stand there.
+fn restore_into<L: Link>(
+    alloc: Global,
+    link: &mut L,
+    shape: Shape,
+    user: UserId,
+    path: &[u8],
+    version: Version,
+    clouds: &[CloudNo],
+    out: &mut Bytes,
+) -> Result<(), RestoreErr>
+    requires shape { L.tells.shape link.old ≡ shape }
+    requires reached { (cloud : ℕ) → Contains (numbers_of clouds.now) cloud → IsTrue (L.tells.reaches link.old cloud) }
+    requires choice { AreChoice shape (numbers_of clouds.now) }
+    requires path { IsPath path.now }
+    ensures asked { Asked L.tells link.old link.new (is_lost result) }
+    ensures restored { Leads L.tells (numbers_of clouds.now) link.old link.new
+        (Restores shape user (record { 0 = tag_at shape path.now }, version) (numbers_of clouds.now) result out.old out.new) }
+    ensures grows { Grows out.old out.new }
+{
+    let request = match recipe_request(alloc, shape, user, path, version) {
+        Ok(request) => request,
+        Err(NoMemory) => return Err(RestoreErr::NoMemory),
+    };
+    let mut reply = match ReplyBuf::make(alloc) {
+        Ok(reply) => reply,
+        Err(NoMemory) => return Err(RestoreErr::NoMemory),
+    };
+    match fetch_recipes(alloc, link, shape, clouds, request.as_slice(), &mut reply) {
+        Ok(recipes) => match restore_agreed(
+            alloc,
+            link,
+            shape,
+            user,
+            clouds,
+            recipes.as_slice(),
+            &mut reply,
+            out,
+        ) {
+            Ok(()) => Ok(()),
+            Err(e) => Err(e),
+        },
+        Err(e) => Err(e),
+    }
+}
+
+/// Appends a version of a file to `out`, from k clouds, which the link reaches. After an error `out` is as before.
+///
+/// Each cloud is asked in order for its recipe, up to the first that refuses. The recipes are compared with the first one. Then, 256
+/// secrets at a time, each cloud is asked in order for its shares, of which first the length and then the hash is looked at, and
+/// the secrets are opened in order.
+///
+/// Missing, CloudFault, CloudDamaged, CloudRotten and CloudNoMemory come where that cloud's reply was this; Lost only where an ask
+/// was lost; Strange where a reply is none that a server gives to the request; the others where what came is so.
+pub fn restore<L: Link>(
+    alloc: Global,
+    link: &mut L,
+    shape: Shape,
+    user: UserId,
+    path: &[u8],
+    version: Version,
+    clouds: &Clouds,
+    out: &mut Bytes,
+) -> Result<(), RestoreErr>
+    requires shape { L.tells.shape link.old ≡ shape }
+    requires reached { (cloud : ℕ) → Contains clouds.now cloud → IsTrue (L.tells.reaches link.old cloud) }
+    requires count { length clouds.now ≡ shape.k }
+    requires within { All (λ cloud. cloud < shape.n) clouds.now }
+    requires path { IsPath path.now }
+
+    // From all that the clouds stood for they went on: only the named clouds were read. Where the link tells all of these, the result
+    // is that of their lists as they stand after it, or a failed device's, a lost ask's or want of memory.
+    ensures restored { Leads L.tells clouds.now link.old link.new
+        (Restores shape user (record { 0 = tag_at shape path.now }, version) clouds.now result out.old out.new) }
+
+    // An ask is lost only where the link's count of losses rose, and never where it tells that it loses nothing.
+    ensures asked { Asked L.tells link.old link.new (is_lost result) }
+    ensures kept { OnErr result (out.new ≡ out.old) }
+{
+    clouds.rises();
+    let before = out.len();
+    match restore_into(
+        alloc,
+        link,
+        shape,
+        user,
+        path,
+        version,
+        clouds.as_slice(),
+        out,
+    ) {
+        Ok(()) => Ok(()),
+        Err(e) => {
+            out.truncate(before);
+            Err(e)
+        }
+    }
+}

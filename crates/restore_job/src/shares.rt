@@ -1,0 +1,82 @@
+//! Looking at the shares of a batch, and bringing them together.
+
+ghost use Rattle.std.specs.Prelude.{◌≡◌, ◌+◌, ◌≤◌, ◌<◌, ◌^◌, length};
+ghost use Rattle.restore_job.specs.Steps.{AreItemsAt, Checks, IsItem, Takes};
+
+use crate::RestoreErr;
+use crate::rooms::Rooms;
+use cd_base::{CloudNo, Fp, Shape, sha256, share_len};
+use messages::SharesView;
+use recipe::Item;
+
+// Looks at the length and then at the hash of a share of secret number `secret`, which has `secret_len` bytes.
+fn check_share(
+    shape: Shape,
+    cloud: CloudNo,
+    secret: u32,
+    secret_len: u32,
+    named: Fp,
+    share: &[u8],
+) -> Result<(), RestoreErr>
+    requires some { 1 ≤ secret_len }
+    requires few { secret_len ≤ 16384 }
+    requires short { length share.now ≤ 8208 }
+    ensures { Checks shape cloud secret secret_len named.0 share.now result }
+{
+    let found = share.len() as u32;
+    let wanted = share_len(shape, secret_len);
+    if found != wanted {
+        return Err(RestoreErr::ShareLength {
+            cloud,
+            secret,
+            found,
+            wanted,
+        });
+    }
+    let found = sha256(share);
+    if found != named {
+        return Err(RestoreErr::BadShare {
+            cloud,
+            secret,
+            named,
+            found,
+        });
+    }
+    Ok(())
+}
+
+/// Looks at the shares of secrets `place` on, in order, and appends each in its room. `firsts` has the lengths of the secrets, and
+/// `items` the fingerprints of the shares.
+pub fn take_shares(
+    shape: Shape,
+    cloud: CloudNo,
+    firsts: &[Item],
+    items: &[Item],
+    place: usize,
+    count: usize,
+    shares: &SharesView<'_>,
+    rooms: &mut Rooms,
+) -> Result<(), RestoreErr>
+    requires all { length shares.now ≡ count }
+    requires firsts { place + count ≤ length firsts.now }
+    requires items { place + count ≤ length items.now }
+    requires lens { AreItemsAt firsts.now }
+    requires few { place + count < 2 ^ 32 }
+    requires room { count ≤ length rooms.old }
+    ensures takes { Takes shape cloud firsts.now items.now place count shares.now rooms.old rooms.new result }
+    ensures rooms { length rooms.new ≡ length rooms.old }
+{
+    let mut rest = shares.copied();
+    for j in 0..count {
+        let Some((share, more)) = rest.split_first() else {
+            return Ok(());
+        };
+        let first = firsts[place + j];
+        let item = items[place + j];
+        let secret = (place + j) as u32;
+        check_share(shape, cloud, secret, first.secret_len, item.fp, share)?;
+        rooms.append(j, share)?;
+        rest = more;
+    }
+    Ok(())
+}
