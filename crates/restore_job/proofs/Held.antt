@@ -18,6 +18,7 @@ use Rattle.recipe.specs.declared.recipe.Recipe.{Recipe}
 use Rattle.recipe.specs.Spelling.{IsRecipe}
 use Rattle.recipe.specs.Reading.{recipe_at}
 use Rattle.recipe.proofs.Written.{again as recipe_again}
+use Rattle.cd_edges.specs.Causes.{Rose}
 use Rattle.messages.specs.declared.request.Request.{Request}
 use Rattle.messages.specs.declared.request.Request.TheVariants as requests
 use Rattle.messages.specs.declared.reply.Reply.{Reply}
@@ -44,6 +45,7 @@ use Rattle.restore_job.specs.Steps.{RecipeFrom, RecipeTold, ReadyAt}
 use Rattle.restore_job.specs.declared.error.RestoreErr.{RestoreErr}
 use Rattle.restore_job.specs.declared.error.RestoreErr.TheVariants as errors
 use Rattle.restore_job.proofs.Leading.{Moves, no_pending}
+use Rattle.restore_job.proofs.Causing.{FaultRose, recipe_rose}
 
 -- ---- the recipes of sound lists
 
@@ -142,25 +144,43 @@ loses_may t cloud old p q request none (inl x) = (inl x.0, x.1)
 loses_may t cloud old p q request none (inr x) = exec_may (t.shape old) cloud (t.full old cloud) (t.told old cloud) p q request x.0 none x.1
 
 -- What a lost ask leaves.
-pub lost_moves : {L : Type 0} (t : LinkTelling L) (cloud : ℕ) (old new : L) (request : Request) (content : List ℕ) (e : RestoreErr) (P : Peer → Peer → Type 0)
-    → AddsNone (t.shape old) cloud (t.full old cloud) request → Asks t cloud old request content (Err e) new → ((p q : Peer) → P p q) → Moves t cloud old new P
-lost_moves t cloud old new request content e P none asks any p stands =
+pub lost_moves : {L : Type 0} (t : LinkTelling L) (cloud : ℕ) (old new : L) (request : Request) (content : List ℕ) (e : RestoreErr) (B P : Peer → Peer → Type 0)
+    → AddsNone (t.shape old) cloud (t.full old cloud) request → Asks t cloud old request content (Err e) new → ((p q : Peer) → B p q) → ((p q : Peer) → P p q) → Moves t cloud old new B P
+lost_moves t cloud old new request content e B P none asks always any p stands =
     let a = asks p stands in
-    (a.0, a.1, loses_may t cloud old p a.0 request none a.2, λ told. any p a.0)
+    (a.0, a.1, loses_may t cloud old p a.0 request none a.2, always p a.0, λ told. any p a.0)
+
+-- a request to which no list answers fault
+abbrev pub NeverFaults : Shape → ℕ → (List Command → Command → Option FullRoom) → Request → Type 0
+NeverFaults shape cloud full request = (list : List Command) → (served shape cloud full list request).reply ≡ replies.Fault → ⊥
+
+exec_rose : (shape : Shape) (cloud : ℕ) (full : List Command → Command → Option FullRoom) (told : Bool) (p q : Peer) (request : Request) (reply : Reply) → NeverFaults shape cloud full request
+    → Exec shape told (served shape cloud full) p request reply q → reply ≡ replies.Fault → Rose p.faults q.faults
+exec_rose shape cloud full told p q request reply never exec is = go told exec.does
+  where
+    go : (b : Bool) → MatchBool b (ExecTold (served shape cloud full) p request reply q) (ExecUntold shape p request reply q) → Rose p.faults q.faults
+    go true (inl a) = absurd (never a.before (sym a.served ∙ is))
+    go true (inr f) = f.rose
+    go false u = u.fault is
+
+one_reply : (a b : Reply) → good a ≡ good b → a ≡ b
+one_reply a b e = cc
 
 -- What an answered ask leaves, by the reply's reading.
-pub heard_moves : {L : Type 0} (t : LinkTelling L) (cloud : ℕ) (old new : L) (request : Request) (content : List ℕ) (P : Peer → Peer → Type 0)
-    → AddsNone (t.shape old) cloud (t.full old cloud) request → AreBytes content → Asks {E = RestoreErr} t cloud old request content (Ok tt) new
+pub heard_moves : {L : Type 0} (t : LinkTelling L) (cloud : ℕ) (old new : L) (request : Request) (content : List ℕ) (B P : Peer → Peer → Type 0)
+    → AddsNone (t.shape old) cloud (t.full old cloud) request → NeverFaults (t.shape old) cloud (t.full old cloud) request → AreBytes content → Asks {E = RestoreErr} t cloud old request content (Ok tt) new
+    → ((p q : Peer) → (reply_at content ≡ Ok replies.Fault → Rose p.faults q.faults) → B p q)
     → ((p q : Peer) → t.stands old cloud p → IsTrue (t.told old cloud) → Reads p q → reply_at content ≡ Ok (served (t.shape old) cloud (t.full old cloud) q.list request).reply → P p q)
     → ((p q : Peer) → ReadFails p q → reply_at content ≡ Ok replies.Fault → P p q)
-    → Moves t cloud old new P
-heard_moves t cloud old new request content P none bytes asks answered failed p stands =
+    → Moves t cloud old new B P
+heard_moves t cloud old new request content B P none never bytes asks always answered failed p stands =
     let a = asks p stands in
     let answer = a.2.0 in
     let read = (reply_law content answer bytes).1 a.2.1 in (
       a.0,
       a.1,
       exec_may (t.shape old) cloud (t.full old cloud) (t.told old cloud) p a.0 request answer none a.2.2,
+      always p a.0 (λ fault. exec_rose (t.shape old) cloud (t.full old cloud) (t.told old cloud) p a.0 request answer never a.2.2 (one_reply answer replies.Fault (sym read ∙ fault))),
       λ told. by_answer a.0 answer told read (exec_told (t.shape old) cloud (t.full old cloud) (t.told old cloud) p a.0 request answer none told a.2.2),
     )
   where
@@ -253,11 +273,17 @@ entry_reads shape cloud list user key sound = go (entry_at (user_view shape list
     go None e = tt
     go (Some entry) e = entries_read shape cloud list sound user entry (found_entry (user_view shape list user).files key entry e).1
 
+recipe_no_fault : (o : Option FileEntry) → recipe_reply o ≡ replies.Fault → ⊥
+recipe_no_fault None e = (let f : replies.Missing ≡ replies.Fault = e in cc)
+recipe_no_fault (Some entry) e = (let f : replies.Recipe entry.recipe ≡ replies.Fault = e in cc)
+
 pub recipe_moves : {L : Type 0} (t : LinkTelling L) (shape : Shape) (user : UserId) (tag : Tag) (version : Version) (cloud : CloudNo) (old new : L) (content : List ℕ) (res : Result Recipe RestoreErr)
     → t.shape old ≡ shape → TellsSound t old → AreBytes content → Asks {E = RestoreErr} t cloud.0 old (requests.GetRecipe user tag version) content (Ok tt) new
-    → RecipeFrom shape cloud (reply_at content) res → Moves t cloud.0 old new (RecipeTold shape user (tag, version) cloud res)
+    → RecipeFrom shape cloud (reply_at content) res → Moves t cloud.0 old new (FaultRose res) (RecipeTold shape user (tag, version) cloud res)
 recipe_moves {L} t shape user tag version cloud old new content res same sound bytes asks from =
-    heard_moves t cloud.0 old new (requests.GetRecipe user tag version) content (RecipeTold shape user (tag, version) cloud res) (λ list. refl) bytes asks
+    heard_moves t cloud.0 old new (requests.GetRecipe user tag version) content (FaultRose res) (RecipeTold shape user (tag, version) cloud res) (λ list. refl)
+    (λ list e. recipe_no_fault (entry_at (user_view (t.shape old) list user).files (tag, version)) e) bytes asks
+    (λ p q rose. recipe_rose shape cloud (reply_at content) res p q from rose)
     (λ p q stands told read at. answered p q (subst (λ (s : Shape). StandsSound s cloud.0 p) same (sound cloud.0 p told stands)) read
     (at ∙ ap (λ (s : Shape). good (recipe_reply (entry_at (user_view s q.list user).files (tag, version)))) same))
     (λ p q fails at. by_failing shape user (tag, version) cloud res p q fails (subst (λ (x : Result Reply ℕ). RecipeFrom shape cloud x res) at from))
@@ -312,14 +338,20 @@ owned_hash shape list user fp has =
     let held = owned_is_held shape list user fp has in
     ap (λ (o : Option (List ℕ)). sha256_of (unwrap_or o [])) held.1 ∙ ap (λ (f : Fp). f.0) held.2
 
-pub shares_moves : {L : Type 0} (t : LinkTelling L) (shape : Shape) (user : UserId) (key : Tag × Version) (recipe : Recipe) (cloud : CloudNo) (old new : L) (content : List ℕ) (fps : List Fp) (P : Peer → Peer → Type 0)
+shares_no_fault : (o : Option ℕ) (strings : List (List ℕ)) → shares_reply o strings ≡ replies.Fault → ⊥
+shares_no_fault None strings e = (let f : replies.Shares strings ≡ replies.Fault = e in cc)
+shares_no_fault (Some place) strings e = (let f : replies.NotYours place ≡ replies.Fault = e in cc)
+
+pub shares_moves : {L : Type 0} (t : LinkTelling L) (shape : Shape) (user : UserId) (key : Tag × Version) (recipe : Recipe) (cloud : CloudNo) (old new : L) (content : List ℕ) (fps : List Fp) (B P : Peer → Peer → Type 0)
     → t.shape old ≡ shape → TellsSound t old → AreBytes content → Asks {E = RestoreErr} t cloud.0 old (requests.GetShares user fps) content (Ok tt) new
     → ((own : List Fp) → All (Contains own) (fps_in recipe.items) → All (Contains own) fps)
+    → ((p q : Peer) → (reply_at content ≡ Ok replies.Fault → Rose p.faults q.faults) → B p q)
     → ((p q : Peer) → reply_at content ≡ Ok (replies.Shares (map (held_in p.list) fps)) → AreHeld p.list fps → P p q)
     → ((p q : Peer) → ReadFails p q → reply_at content ≡ Ok replies.Fault → P p q)
-    → Moves t cloud.0 old new (λ p q. ReadyAt shape user key recipe p → P p q)
-shares_moves {L} t shape user key recipe cloud old new content fps P same sound bytes asks part answered failed =
-    heard_moves t cloud.0 old new (requests.GetShares user fps) content (λ p q. ReadyAt shape user key recipe p → P p q) (λ list. refl) bytes asks
+    → Moves t cloud.0 old new B (λ p q. ReadyAt shape user key recipe p → P p q)
+shares_moves {L} t shape user key recipe cloud old new content fps B P same sound bytes asks part always answered failed =
+    heard_moves t cloud.0 old new (requests.GetShares user fps) content B (λ p q. ReadyAt shape user key recipe p → P p q) (λ list. refl)
+    (λ list e. shares_no_fault (first_lacking (user_view (t.shape old) list user).own fps) (map (held_in list) fps) e) bytes asks always
     (λ p q stands told read at ready. by_ready p q (subst (λ (s : Shape). StandsSound s cloud.0 p) same (sound cloud.0 p told stands)) read ready
     (at ∙ ap (λ (s : Shape). good (shares_reply (first_lacking (user_view s q.list user).own fps) (map (held_in q.list) fps))) same))
     (λ p q fails at ready. failed p q fails at)

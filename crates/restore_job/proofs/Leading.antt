@@ -8,7 +8,7 @@ use Rattle.user_dedup.specs.declared.command.Command.{Command}
 use Rattle.user_dedup.specs.Exec.{Peer, MaySettleAs, Settles, Stays, CountsOn}
 use Rattle.user_dedup.specs.Link.{LinkTelling, LeavesOthers}
 use Rattle.user_dedup.proofs.Owned.{contains_here}
-use Rattle.restore_job.specs.Asking.{PeersOf, Reads, MayRead, ReadFails, OnlyRead, Leads, Asked}
+use Rattle.restore_job.specs.Asking.{PeersOf, TellsAll, Reads, MayRead, ReadFails, OnlyRead, Leads, Asked}
 
 -- ---- one cloud
 
@@ -83,39 +83,43 @@ only_on xs ys zs a b c one two xs_in ys_in = record {
 abbrev pub Relation : Type 1
 Relation = (ℕ → Peer) → (ℕ → Peer) → Type 0
 
-pub leads_on : {L : Type 0} (t : LinkTelling L) (xs ys zs : List ℕ) (old mid new : L) (R S T : (ℕ → Peer) → (ℕ → Peer) → Type 0)
-    → Leads t xs old mid R → t.told mid ≡ t.told old → Leads t ys mid new S
+pub leads_on : {L : Type 0} (t : LinkTelling L) (xs ys zs : List ℕ) (old mid new : L) (A B C R S T : (ℕ → Peer) → (ℕ → Peer) → Type 0)
+    → Leads t xs old mid A R → t.told mid ≡ t.told old → Leads t ys mid new B S
     → ((x : ℕ) → Contains xs x → Contains zs x) → ((x : ℕ) → Contains ys x → Contains zs x)
+    → ((a b c : ℕ → Peer) → OnlyRead xs a b → OnlyRead ys b c → A a b → B b c → C a c)
     → ((a b c : ℕ → Peer) → OnlyRead xs a b → OnlyRead ys b c → R a b → S b c → T a c)
-    → Leads t zs old new T
-leads_on {L} t xs ys zs old mid new R S T first same second xs_in ys_in both before peers =
+    → Leads t zs old new C T
+leads_on {L} t xs ys zs old mid new A B C R S T first same second xs_in ys_in always both before peers =
     let x = first before peers in
     let y = second x.0 x.1 in (
       y.0,
       y.1,
       only_on xs ys zs before x.0 y.0 x.2 y.2 xs_in ys_in,
-      λ told. both before x.0 y.0 x.2 y.2 (x.3 (λ c has. told c (xs_in c has)))
-          (y.3 (λ c has. subst (λ (f : ℕ → Bool). IsTrue (f c)) (sym same) (told c (ys_in c has)))),
+      always before x.0 y.0 x.2 y.2 x.3 y.3,
+      λ told. both before x.0 y.0 x.2 y.2 (x.4 (λ c has. told c (xs_in c has)))
+          (y.4 (λ c has. subst (λ (f : ℕ → Bool). IsTrue (f c)) (sym same) (told c (ys_in c has)))),
     )
 
-pub leads_to : {L : Type 0} (t : LinkTelling L) (xs zs : List ℕ) (old new : L) (R T : (ℕ → Peer) → (ℕ → Peer) → Type 0)
-    → Leads t xs old new R → ((x : ℕ) → Contains xs x → Contains zs x) → ((a b : ℕ → Peer) → OnlyRead xs a b → R a b → T a b) → Leads t zs old new T
-leads_to t xs zs old new R T first xs_in then before peers =
+pub leads_to : {L : Type 0} (t : LinkTelling L) (xs zs : List ℕ) (old new : L) (A C R T : (ℕ → Peer) → (ℕ → Peer) → Type 0)
+    → Leads t xs old new A R → ((x : ℕ) → Contains xs x → Contains zs x) → ((a b : ℕ → Peer) → OnlyRead xs a b → A a b → (TellsAll t old xs → R a b) → C a b)
+    → ((a b : ℕ → Peer) → OnlyRead xs a b → R a b → T a b) → Leads t zs old new C T
+leads_to t xs zs old new A C R T first xs_in always then before peers =
     let x = first before peers in (
       x.0,
       x.1,
       record { read = x.2.read; others = λ c no. x.2.others c (λ has. no (xs_in c has)) },
-      λ told. then before x.0 x.2 (x.3 (λ c has. told c (xs_in c has))),
+      always before x.0 x.2 x.3 x.4,
+      λ told. then before x.0 x.2 (x.4 (λ c has. told c (xs_in c has))),
     )
 
-pub leads_none : {L : Type 0} (t : LinkTelling L) (zs : List ℕ) (link : L) (T : (ℕ → Peer) → (ℕ → Peer) → Type 0) → ((a : ℕ → Peer) → T a a) → Leads t zs link link T
-leads_none t zs link T same before peers = (before, peers, none_read zs before, λ told. same before)
+pub leads_none : {L : Type 0} (t : LinkTelling L) (zs : List ℕ) (link : L) (C T : (ℕ → Peer) → (ℕ → Peer) → Type 0) → ((a : ℕ → Peer) → C a a) → ((a : ℕ → Peer) → T a a) → Leads t zs link link C T
+leads_none t zs link C T always same before peers = (before, peers, none_read zs before, always before, λ told. same before)
 
 -- ---- one ask
 
 -- from each state that the cloud stood for it went on to one that it stands for
-abbrev pub Moves : {L : Type 0} → LinkTelling L → ℕ → L → L → (Peer → Peer → Type 0) → Type 0
-Moves t cloud old new P = (p : Peer) → t.stands old cloud p → (q : Peer) × t.stands new cloud q × MayRead p q × (IsTrue (t.told old cloud) → P p q)
+abbrev pub Moves : {L : Type 0} → LinkTelling L → ℕ → L → L → (Peer → Peer → Type 0) → (Peer → Peer → Type 0) → Type 0
+Moves t cloud old new B P = (p : Peer) → t.stands old cloud p → (q : Peer) × t.stands new cloud q × MayRead p q × B p q × (IsTrue (t.told old cloud) → P p q)
 
 abbrev put : (ℕ → Peer) → ℕ → Peer → ℕ → Peer
 put peers cloud q x = cond (x == cloud) q (peers x)
@@ -126,9 +130,9 @@ put_here peers cloud q = ap (λ (b : Bool). cond b q (peers cloud)) (eq-eqb clou
 put_other : (peers : ℕ → Peer) (cloud : ℕ) (q : Peer) (x : ℕ) → (x ≡ cloud → ⊥) → put peers cloud q x ≡ peers x
 put_other peers cloud q x ne = ap (λ (b : Bool). cond b q (peers x)) (ne_eqb x cloud ne)
 
-pub one_step : {L : Type 0} (t : LinkTelling L) (cloud : ℕ) (old new : L) (P : Peer → Peer → Type 0) → IsTrue (t.reaches old cloud)
-    → LeavesOthers t cloud old new → Moves t cloud old new P → Leads t (cloud ∷ []) old new (λ a b. P (a cloud) (b cloud))
-one_step {L} t cloud old new P reached others moves before peers =
+pub one_step : {L : Type 0} (t : LinkTelling L) (cloud : ℕ) (old new : L) (B P : Peer → Peer → Type 0) → IsTrue (t.reaches old cloud)
+    → LeavesOthers t cloud old new → Moves t cloud old new B P → Leads t (cloud ∷ []) old new (λ a b. B (a cloud) (b cloud)) (λ a b. P (a cloud) (b cloud))
+one_step {L} t cloud old new B P reached others moves before peers =
     let m = moves (before cloud) (peers cloud reached) in
     let after : ℕ → Peer = put before cloud m.0 in
     let stands : PeersOf t new after = λ x reach. by_place m.0 m.1 x (subst (λ (f : ℕ → Bool). IsTrue (f x)) others.reaches reach) (cases_eq x cloud) in
@@ -136,7 +140,8 @@ one_step {L} t cloud old new P reached others moves before peers =
       after,
       stands,
       record { read = read; others = λ x no. put_other before cloud m.0 x (λ e. no (subst (λ (y : ℕ). Contains (cloud ∷ []) y) (sym e) (contains_here cloud []))) },
-      λ told. subst (λ (q : Peer). P (before cloud) q) (sym (put_here before cloud m.0)) (m.3 (told cloud (contains_here cloud []))),
+      subst (λ (q : Peer). B (before cloud) q) (sym (put_here before cloud m.0)) m.3,
+      λ told. subst (λ (q : Peer). P (before cloud) q) (sym (put_here before cloud m.0)) (m.4 (told cloud (contains_here cloud []))),
     )
   where
     by_place : (q : Peer) → t.stands new cloud q → (x : ℕ) → IsTrue (t.reaches old x) → (x ≡ cloud) ⊎ (x ≡ cloud → ⊥) → t.stands new x (put before cloud q x)

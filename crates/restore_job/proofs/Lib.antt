@@ -1,5 +1,7 @@
 pub mod Said
 pub mod Leading
+pub mod Causing
+pub mod Bringing
 pub mod Held
 pub mod Taking
 pub mod Asks

@@ -31,11 +31,11 @@ pub record OnlyRead (clouds : List ℕ) (old new : ℕ → Peer) : Type 0 where
   pub read : (cloud : ℕ) → MayRead (old cloud) (new cloud)
   pub others : (cloud : ℕ) → (Contains clouds cloud → ⊥) → new cloud ≡ old cloud
 
--- From all peers that the clouds stood for they went on to others that they stand for now; only these clouds were asked; and where
--- all of these are told, the peers before and after are so related.
-abbrev pub Leads : {L : Type 0} → LinkTelling L → List ℕ → L → L → ((ℕ → Peer) → (ℕ → Peer) → Type 0) → Type 0
-Leads t clouds old new Related =
-    (before : ℕ → Peer) → PeersOf t old before → (after : ℕ → Peer) × PeersOf t new after × OnlyRead clouds before after
+-- From all peers that the clouds stood for they went on to others that they stand for now; only these clouds were asked; the peers
+-- before and after are always so related, and further so where all of these clouds are told.
+abbrev pub Leads : {L : Type 0} → LinkTelling L → List ℕ → L → L → ((ℕ → Peer) → (ℕ → Peer) → Type 0) → ((ℕ → Peer) → (ℕ → Peer) → Type 0) → Type 0
+Leads t clouds old new Always Related =
+    (before : ℕ → Peer) → PeersOf t old before → (after : ℕ → Peer) × PeersOf t new after × OnlyRead clouds before after × Always before after
     × (TellsAll t old clouds → Related before after)
 
 -- these were read

@@ -1,5 +1,5 @@
 -- What the steps of a restore leave.
-use Rattle.std.specs.Prelude.{◌≡◌, ◌≢◌, ℕ, ◌+◌, ◌<◌, ◌≤◌, ◌⊎◌, List, [], ◌∷◌, ◌++◌, length, map, slice_index_or, Option, Some, None, unwrap_or, Result, Ok, Err}
+use Rattle.std.specs.Prelude.{◌≡◌, ◌≢◌, ℕ, ◌+◌, ◌<◌, ◌≤◌, ◌⊎◌, List, [], ◌∷◌, ◌++◌, length, map, slice_index_or, Option, Some, None, unwrap_or, Result, Ok, Err, IsTrue}
 use Rattle.std.specs.List.{Contains, flat_map}
 use Rattle.sha2.specs.Sha256.{sha256 as sha256_of}
 use Rattle.cd_base.specs.Lengths.{share_len_of}
@@ -16,7 +16,9 @@ use Rattle.messages.specs.declared.reply.Reply.{Reply}
 use Rattle.messages.specs.declared.reply.Reply.TheVariants as replies
 use Rattle.user_dedup.specs.Cloud.{held_string}
 use Rattle.user_dedup.specs.Exec.{Peer}
+use Rattle.user_dedup.specs.Link.{LinkTelling}
 use Rattle.restore_job.specs.Asking.{Reads, ReadFails, AreRead, StoppedAt}
+use Rattle.restore_job.specs.Refusals.{Caused, Causes}
 use Rattle.restore_job.specs.Restored
 use Rattle.restore_job.specs.Restored.{Unrestored, Given, no_item, item_of, string_at, recipe_in, missing, wrong_strings, wrong_length, differing}
 use Rattle.restore_job.specs.declared.error.RestoreErr.{RestoreErr}
@@ -188,6 +190,33 @@ pub record ReadyAt (shape : Shape) (user : UserId) (key : Tag × Version) (recip
 pub record Ready (shape : Shape) (user : UserId) (key : Tag × Version) (clouds : List ℕ) (recipes : List Recipe) (peers : ℕ → Peer) : Type 0 where
   pub recipes_are : recipes_in shape user key peers clouds ≡ map Some recipes
   pub settled : (cloud : ℕ) → Contains clouds cloud → (peers cloud).pending ≡ None
+
+-- of these clouds the told ones stand settled, and these are their recipes
+abbrev pub ReadyWhere : {L : Type 0} → LinkTelling L → L → Shape → UserId → Tag × Version → List ℕ → List Recipe → (ℕ → Peer) → Type 0
+ReadyWhere t link shape user key [] recipes peers = Unit {0}
+ReadyWhere t link shape user key (cloud ∷ clouds) [] peers = Unit {0}
+ReadyWhere t link shape user key (cloud ∷ clouds) (recipe ∷ recipes) peers =
+    (IsTrue (t.told link cloud) → ReadyAt shape user key recipe (peers cloud)) × ReadyWhere t link shape user key clouds recipes peers
+
+-- what asking a cloud for a recipe leaves, told or not
+abbrev pub RecipeCaused : {L : Type 0} → LinkTelling L → L → Shape → UserId → Tag × Version → ℕ → Result Recipe RestoreErr → (ℕ → Peer) → (ℕ → Peer) → Type 0
+RecipeCaused t link shape user key cloud (Ok recipe) before after = IsTrue (t.told link cloud) → ReadyAt shape user key recipe (after cloud)
+RecipeCaused t link shape user key cloud (Err e) before after = Caused t link shape user key e before after
+
+-- what asking clouds for recipes leaves, told or not
+abbrev pub RecipesCaused : {L : Type 0} → LinkTelling L → L → Shape → UserId → Tag × Version → List ℕ → Result (List Recipe) RestoreErr → (ℕ → Peer) → (ℕ → Peer) → Type 0
+RecipesCaused t link shape user key clouds (Ok recipes) before after = ReadyWhere t link shape user key clouds recipes after
+RecipesCaused t link shape user key clouds (Err e) before after = Caused t link shape user key e before after
+
+-- what asking a cloud for shares leaves, told or not
+abbrev pub SharesCaused : {L : Type 0} → LinkTelling L → L → Shape → UserId → Tag × Version → ℕ → Recipe → Result (Unit {0}) RestoreErr → (ℕ → Peer) → (ℕ → Peer) → Type 0
+SharesCaused t link shape user key cloud recipe result before after =
+    (IsTrue (t.told link cloud) → ReadyAt shape user key recipe (before cloud)) → Causes t link shape user key result before after
+
+-- what going on with these recipes leaves, told or not
+abbrev pub BatchCaused : {L : Type 0} → LinkTelling L → L → Shape → UserId → Tag × Version → List ℕ → List Recipe → Result (Unit {0}) RestoreErr → (ℕ → Peer) → (ℕ → Peer) → Type 0
+BatchCaused t link shape user key clouds recipes result before after =
+    ReadyWhere t link shape user key clouds recipes before → Causes t link shape user key result before after
 
 -- what a cloud with this list gives
 abbrev pub given_of : Peer → ℕ → Recipe → Given

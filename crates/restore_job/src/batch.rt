@@ -1,6 +1,6 @@
 //! A file's secrets, batch by batch.
 
-ghost use Rattle.std.specs.Prelude.{◌≡◌, ◌+◌, ◌≤◌, ◌<◌, ℕ, length, min, All, IsTrue};
+ghost use Rattle.std.specs.Prelude.{◌≡◌, ◌++◌, ◌+◌, ◌≤◌, ◌<◌, ℕ, length, min, All, IsTrue, IfErr, OnOk, List};
 ghost use Rattle.std.specs.List.{Contains};
 ghost use Rattle.cd_base.specs.Numbers.{numbers_of};
 ghost use Rattle.cd_base.specs.declared.ids.Tag.{Tag};
@@ -8,8 +8,10 @@ ghost use Rattle.cd_base.specs.declared.ids.Version.{Version};
 ghost use Rattle.reed_solomon.specs.Dispersal.{AreChoice};
 ghost use Rattle.restore_job.specs.Asking.{Asked, Leads, is_lost};
 ghost use Rattle.restore_job.specs.Reading.{Ends};
+ghost use Rattle.restore_job.specs.Brought.{AreSecrets, Extends};
+ghost use Rattle.restore_job.specs.Refusals.{Names};
 ghost use Rattle.restore_job.specs.Restored.{batch_opened, items_opened};
-ghost use Rattle.restore_job.specs.Steps.{AreItemsAt, Grows, Ready, givens};
+ghost use Rattle.restore_job.specs.Steps.{AreItemsAt, BatchCaused, Grows, Ready, givens};
 
 use crate::RestoreErr;
 use crate::fetching::fetch_batch;
@@ -61,9 +63,11 @@ fn restore_batch<L: Link>(
     requires few { length firsts.now ≤ 32768 }
     requires room { count ≤ length rooms.old }
     ensures asked { Asked L.tells link.old link.new (is_lost result) }
-    ensures told { (tag : Tag) (version : Version) → Leads L.tells (numbers_of clouds.now) link.old link.new (λ before after.
+    ensures told { (tag : Tag) (version : Version) → Leads L.tells (numbers_of clouds.now) link.old link.new (BatchCaused L.tells link.old shape user (tag, version) (numbers_of clouds.now) recipes.now result) (λ before after.
         Ready shape user (tag, version) (numbers_of clouds.now) recipes.now before
         → Ends (batch_opened shape firsts.now (givens before (numbers_of clouds.now) recipes.now) place count) (numbers_of clouds.now) result out.old out.new before after) }
+    ensures named { IfErr result (Names (Contains (numbers_of clouds.now))) }
+    ensures brought { OnOk result (Extends shape (numbers_of clouds.now) firsts.now recipes.now place (place + count) out.old out.new) }
     ensures grows { Grows out.old out.new }
     ensures rooms { length rooms.new ≡ length rooms.old }
 {
@@ -102,9 +106,11 @@ pub fn restore_items<L: Link>(
     requires items { All (λ recipe. AreItemsAt recipe.items) recipes.now }
     requires few { length firsts.now ≤ 32768 }
     ensures asked { Asked L.tells link.old link.new (is_lost result) }
-    ensures told { (tag : Tag) (version : Version) → Leads L.tells (numbers_of clouds.now) link.old link.new (λ before after.
+    ensures told { (tag : Tag) (version : Version) → Leads L.tells (numbers_of clouds.now) link.old link.new (BatchCaused L.tells link.old shape user (tag, version) (numbers_of clouds.now) recipes.now result) (λ before after.
         Ready shape user (tag, version) (numbers_of clouds.now) recipes.now before
         → Ends (items_opened shape firsts.now (givens before (numbers_of clouds.now) recipes.now)) (numbers_of clouds.now) result out.old out.new before after) }
+    ensures named { IfErr result (Names (Contains (numbers_of clouds.now))) }
+    ensures brought { OnOk result ((file : List ℕ) × (out.new ≡ out.old ++ file) × AreSecrets shape (numbers_of clouds.now) firsts.now recipes.now (length firsts.now) file) }
     ensures grows { Grows out.old out.new }
 {
     let mut rooms = match Rooms::make(alloc, BATCH) {

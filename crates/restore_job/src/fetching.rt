@@ -1,6 +1,6 @@
 //! Asking clouds for recipes and shares.
 
-ghost use Rattle.std.specs.Prelude.{◌≡◌, ◌+◌, ◌≤◌, ◌<◌, ◌*◌, ℕ, [], ◌∷◌, ◌++◌, List, length, map, IsTrue, Ok, Err, All, MatchOption, IfOk, OnOk, OnErr};
+ghost use Rattle.std.specs.Prelude.{◌≡◌, ◌+◌, ◌≤◌, ◌<◌, ◌*◌, ℕ, [], ◌∷◌, ◌++◌, List, length, map, IsTrue, Ok, Err, All, MatchOption, IfOk, IfErr, OnOk, OnErr};
 ghost use Rattle.std.specs.List.{Contains};
 ghost use Rattle.cd_base.specs.Lengths.{share_len_of};
 ghost use Rattle.cd_base.specs.Numbers.{numbers_of};
@@ -10,12 +10,15 @@ ghost use Rattle.messages.specs.declared.request.Request.{Request};
 ghost use Rattle.messages.specs.declared.request.Request.TheVariants as requests;
 ghost use Rattle.messages.specs.Requests.{IsRequest};
 ghost use Rattle.recipe.specs.Spelling.{Fits};
+ghost use Rattle.sha2.specs.Sha256.{sha256 as sha256_of};
 ghost use Rattle.user_dedup.specs.Link.{Asks, LeavesOthers};
 ghost use Rattle.user_dedup.specs.Owning.{fps_in};
 ghost use Rattle.user_dedup.specs.Requests.{IsAsked};
 ghost use Rattle.restore_job.specs.Asking.{Asked, Leads, is_lost};
+ghost use Rattle.restore_job.specs.Brought.{HasShares};
+ghost use Rattle.restore_job.specs.Refusals.{Names};
 ghost use Rattle.restore_job.specs.Restored.{item_of};
-ghost use Rattle.restore_job.specs.Steps.{AreItemsAt, BatchTold, Ready, ReadyAt, RecipeTold, RecipesTold, SharesTold, given_of, givens, room_of};
+ghost use Rattle.restore_job.specs.Steps.{AreItemsAt, BatchCaused, BatchTold, Ready, ReadyAt, RecipeCaused, RecipeTold, RecipesCaused, RecipesTold, SharesCaused, SharesTold, given_of, givens, room_of};
 
 use crate::RestoreErr;
 use crate::recipes::Recipes;
@@ -65,7 +68,8 @@ fn fetch_recipe<L: Link>(
     requires framed { length request.now ≤ 4194304 }
     ensures asked { Asked L.tells link.old link.new (is_lost result) }
     ensures told { (user : UserId) (tag : Tag) (version : Version) → IsRequest request.now (requests.GetRecipe user tag version)
-        → Leads L.tells (cloud.0 ∷ []) link.old link.new (λ before after. RecipeTold shape user (tag, version) cloud result (before cloud.0) (after cloud.0)) }
+        → Leads L.tells (cloud.0 ∷ []) link.old link.new (RecipeCaused L.tells link.old shape user (tag, version) cloud.0 result) (λ before after. RecipeTold shape user (tag, version) cloud result (before cloud.0) (after cloud.0)) }
+    ensures named { IfErr result (Names (λ c. c ≡ cloud.0)) }
     ensures fits { IfOk result (Fits shape) }
 {
     match ask(link, cloud, request, reply) {
@@ -99,7 +103,8 @@ pub fn fetch_recipes<L: Link>(
     requires framed { length request.now ≤ 4194304 }
     ensures asked { Asked L.tells link.old link.new (is_lost result) }
     ensures told { (user : UserId) (tag : Tag) (version : Version) → IsRequest request.now (requests.GetRecipe user tag version)
-        → Leads L.tells (numbers_of clouds.now) link.old link.new (λ before after. RecipesTold shape user (tag, version) (numbers_of clouds.now) result before after) }
+        → Leads L.tells (numbers_of clouds.now) link.old link.new (RecipesCaused L.tells link.old shape user (tag, version) (numbers_of clouds.now) result) (λ before after. RecipesTold shape user (tag, version) (numbers_of clouds.now) result before after) }
+    ensures named { IfErr result (Names (Contains (numbers_of clouds.now))) }
     ensures fits { IfOk result (All (Fits shape)) }
     ensures pairs { IfOk result (λ recipes. length recipes ≡ length clouds.now) }
 {
@@ -177,9 +182,11 @@ fn fetch_shares<L: Link>(
     requires few { length firsts.now ≤ 32768 }
     requires room { count ≤ length rooms.old }
     ensures asked { Asked L.tells link.old link.new (is_lost result) }
-    ensures told { (tag : Tag) (version : Version) → Leads L.tells (cloud.0 ∷ []) link.old link.new (λ before after.
+    ensures told { (tag : Tag) (version : Version) → Leads L.tells (cloud.0 ∷ []) link.old link.new (SharesCaused L.tells link.old shape user (tag, version) cloud.0 recipe.now result) (λ before after.
         ReadyAt shape user (tag, version) recipe.now (before cloud.0)
         → SharesTold shape cloud firsts.now (given_of (before cloud.0) cloud.0 recipe.now) place count result rooms.old rooms.new (before cloud.0) (after cloud.0)) }
+    ensures named { IfErr result (Names (λ c. c ≡ cloud.0)) }
+    ensures came { OnOk result ((j : ℕ) → j < count → (s : List ℕ) × (sha256_of s ≡ (item_of recipe.now.items (place + j)).fp.0) × (room_of rooms.new j ≡ room_of rooms.old j ++ s)) }
     ensures lens { OnOk result ((j : ℕ) → j < count → length (room_of rooms.new j) ≡ length (room_of rooms.old j) + share_len_of shape.k (item_of firsts.now (place + j)).secret_len) }
     ensures rooms { length rooms.new ≡ length rooms.old }
 {
@@ -241,9 +248,11 @@ pub fn fetch_batch<L: Link>(
     requires few { length firsts.now ≤ 32768 }
     requires room { count ≤ length rooms.old }
     ensures asked { Asked L.tells link.old link.new (is_lost result) }
-    ensures told { (tag : Tag) (version : Version) → Leads L.tells (numbers_of clouds.now) link.old link.new (λ before after.
+    ensures told { (tag : Tag) (version : Version) → Leads L.tells (numbers_of clouds.now) link.old link.new (BatchCaused L.tells link.old shape user (tag, version) (numbers_of clouds.now) recipes.now result) (λ before after.
         Ready shape user (tag, version) (numbers_of clouds.now) recipes.now before
         → BatchTold shape (numbers_of clouds.now) firsts.now (givens before (numbers_of clouds.now) recipes.now) place count result rooms.old rooms.new before after) }
+    ensures named { IfErr result (Names (Contains (numbers_of clouds.now))) }
+    ensures came { OnOk result ((j : ℕ) → j < count → HasShares recipes.now (place + j) (room_of rooms.old j) (room_of rooms.new j)) }
     ensures lens { OnOk result ((j : ℕ) → j < count → length (room_of rooms.new j) ≡ length (room_of rooms.old j) + length clouds.now * share_len_of shape.k (item_of firsts.now (place + j)).secret_len) }
     ensures rooms { length rooms.new ≡ length rooms.old }
 {

@@ -1,11 +1,14 @@
 //! Opening the secrets of a batch.
 
-ghost use Rattle.std.specs.Prelude.{◌≡◌, ◌+◌, ◌*◌, ◌≤◌, ◌<◌, ◌^◌, ℕ, List, length, map, false};
+ghost use Rattle.std.specs.Prelude.{◌≡◌, ◌+◌, ◌*◌, ◌≤◌, ◌<◌, ◌^◌, ℕ, List, [], length, map, false, IfErr, OnOk};
 ghost use Rattle.std.specs.List.{flat_map};
 ghost use Rattle.cd_base.specs.Lengths.{share_len_of};
 ghost use Rattle.caont_rs.specs.Opening.{opened};
+ghost use Rattle.recipe.specs.declared.recipe.Recipe.{Recipe};
 ghost use Rattle.reed_solomon.specs.Dispersal.{AreChoice};
 ghost use Rattle.restore_job.specs.Asking.{is_lost};
+ghost use Rattle.restore_job.specs.Brought.{Extends, HasShares};
+ghost use Rattle.restore_job.specs.Refusals.{Names};
 ghost use Rattle.restore_job.specs.Restored.{Given, item_of, of_secret, secrets_opened, string_at};
 ghost use Rattle.restore_job.specs.Steps.{AreItemsAt, Grows, OpensTo, room_of};
 
@@ -30,6 +33,7 @@ fn open_secret(
     requires whole { length shares.now ≡ shape.k * share_len_of shape.k secret_len }
     ensures opens { OpensTo (of_secret secret (opened shape secret_len points.now shares.now)) result out.old out.new }
     ensures grows { Grows out.old out.new }
+    ensures alone { IfErr result (Names (λ c. ⊥)) }
     ensures found { is_lost result ≡ false }
 {
     match recover(shape, secret_len, points, shares, out) {
@@ -63,7 +67,10 @@ pub fn open_batch(
     ensures opens { (all : List Given) → points.now ≡ map (λ given. given.cloud) all
         → ((j : ℕ) → j < count → room_of rooms.now j ≡ flat_map (λ given. string_at given (place + j)) all)
         → OpensTo (secrets_opened shape firsts.now all place count) result out.old out.new }
+    ensures brought { (recipes : List Recipe) → ((j : ℕ) → j < count → HasShares recipes (place + j) [] (room_of rooms.now j))
+        → OnOk result (Extends shape points.now firsts.now recipes place (place + count) out.old out.new) }
     ensures grows { Grows out.old out.new }
+    ensures alone { IfErr result (Names (λ c. ⊥)) }
     ensures found { is_lost result ≡ false }
 {
     for j in 0..count {

@@ -1,6 +1,6 @@
 //! Restoring a version of a file.
 
-ghost use Rattle.std.specs.Prelude.{◌≡◌, ◌+◌, ◌≤◌, ◌<◌, ℕ, length, take, All, IsTrue, IfOk, OnErr};
+ghost use Rattle.std.specs.Prelude.{◌≡◌, ◌+◌, ◌≤◌, ◌<◌, ℕ, length, take, All, IsTrue, IfOk, IfErr, OnOk, OnErr};
 ghost use Rattle.std.specs.List.{Contains};
 ghost use Rattle.cd_base.specs.Limits.{IsPath};
 ghost use Rattle.cd_base.specs.Numbers.{numbers_of};
@@ -13,8 +13,10 @@ ghost use Rattle.recipe.specs.Spelling.{Fits};
 ghost use Rattle.reed_solomon.specs.Dispersal.{AreChoice};
 ghost use Rattle.restore_job.specs.Asking.{Asked, Leads, is_lost};
 ghost use Rattle.restore_job.specs.Reading.{Ends, Restores};
+ghost use Rattle.restore_job.specs.Brought.{Agree, Appends, Brought};
+ghost use Rattle.restore_job.specs.Refusals.{Causes, Names};
 ghost use Rattle.restore_job.specs.Restored.{agreed};
-ghost use Rattle.restore_job.specs.Steps.{Grows, Ready, givens};
+ghost use Rattle.restore_job.specs.Steps.{BatchCaused, Grows, Ready, givens};
 
 use crate::RestoreErr;
 use crate::batch::restore_items;
@@ -70,9 +72,11 @@ fn restore_agreed<L: Link>(
     requires pairs { length clouds.now ≡ length recipes.now }
     requires fits { All (Fits shape) recipes.now }
     ensures asked { Asked L.tells link.old link.new (is_lost result) }
-    ensures told { (tag : Tag) (version : Version) → Leads L.tells (numbers_of clouds.now) link.old link.new (λ before after.
+    ensures told { (tag : Tag) (version : Version) → Leads L.tells (numbers_of clouds.now) link.old link.new (BatchCaused L.tells link.old shape user (tag, version) (numbers_of clouds.now) recipes.now result) (λ before after.
         Ready shape user (tag, version) (numbers_of clouds.now) recipes.now before
         → Ends (agreed shape (givens before (numbers_of clouds.now) recipes.now)) (numbers_of clouds.now) result out.old out.new before after) }
+    ensures named { IfErr result (Names (Contains (numbers_of clouds.now))) }
+    ensures brought { OnOk result (Agree recipes.now × Appends shape (numbers_of clouds.now) recipes.now out.old out.new) }
     ensures grows { Grows out.old out.new }
 {
     let Some((first, recipe, others, rest)) = next_pair(clouds, recipes) else {
@@ -112,7 +116,10 @@ fn restore_into<L: Link>(
     requires path { IsPath path.now }
     ensures asked { Asked L.tells link.old link.new (is_lost result) }
     ensures restored { Leads L.tells (numbers_of clouds.now) link.old link.new
+        (Causes L.tells link.old shape user (record { 0 = tag_at shape path.now }, version) result)
         (Restores shape user (record { 0 = tag_at shape path.now }, version) (numbers_of clouds.now) result out.old out.new) }
+    ensures named { IfErr result (Names (Contains (numbers_of clouds.now))) }
+    ensures brought { OnOk result (Brought shape (numbers_of clouds.now) out.old out.new) }
     ensures grows { Grows out.old out.new }
 {
     let request = match recipe_request(alloc, shape, user, path, version) {
@@ -165,13 +172,21 @@ pub fn restore<L: Link>(
     requires within { All (λ cloud. cloud < shape.n) clouds.now }
     requires path { IsPath path.now }
 
-    // From all that the clouds stood for they went on: only the named clouds were read. Where the link tells all of these, the result
-    // is that of their lists as they stand after it, or a failed device's, a lost ask's or want of memory.
+    // From all that the clouds stood for they went on: only the named clouds were read, and a refusal is what it says at the cloud
+    // that it names (`Causes`), each told or not. Where the link tells all of these, the result is that of their lists as they
+    // stand after it, or a failed device's, a lost ask's or want of memory.
     ensures restored { Leads L.tells clouds.now link.old link.new
+        (Causes L.tells link.old shape user (record { 0 = tag_at shape path.now }, version) result)
         (Restores shape user (record { 0 = tag_at shape path.now }, version) clouds.now result out.old out.new) }
 
     // An ask is lost only where the link's count of losses rose, and never where it tells that it loses nothing.
     ensures asked { Asked L.tells link.old link.new (is_lost result) }
+
+    // A refusal names no other clouds.
+    ensures named { IfErr result (Names (Contains clouds.now)) }
+
+    // The appended bytes are what strings open to that have the fingerprints which recipes name that agree, told or not.
+    ensures brought { OnOk result (Brought shape clouds.now out.old out.new) }
     ensures kept { OnErr result (out.new ≡ out.old) }
 {
     clouds.rises();

@@ -1,8 +1,12 @@
-use Rattle.std.proofs.Common.{Ok, Err, sym, ◌∙◌, arith}
+use Rattle.std.proofs.Common.{ℕ, List, ◌+◌, Ok, Err, sym, subst, ◌∙◌, arith}
+use Rattle.std.specs.List.{Contains}
 use Rattle.std.proofs.lemmas.List.{length-map}
 use Rattle.cd_base.specs.Numbers.{numbers_of}
 use Rattle.cd_base.specs.declared.ids.CloudNo.{CloudNo}
 use Rattle.restore_job.specs.Asking.{is_loss}
+use Rattle.restore_job.specs.Brought.{Extends, HasShares}
+use Rattle.restore_job.specs.Steps.{room_of}
+use Rattle.restore_job.proofs.Causing.{names_to}
 use Rattle.restore_job.proofs.Leading.{asked_as}
 use Rattle.restore_job.proofs.Ending.{refused_batch, opened_batch}
 use Rattle.restore_job.proofs.batch.restore_batch.Goals as goal
@@ -10,7 +14,7 @@ use Rattle.restore_job.proofs.batch.restore_batch.Goals as goal
 pub returns-in-Ok-open_batch-clause-told : goal.returns-in-Ok-open_batch-clause-told
 returns-in-Ok-open_batch-clause-told g c tag version =
     opened_batch g.L.Link.tells c.args.shape c.args.user (tag, version) (numbers_of c.args.clouds.now) c.args.points.now c.args.firsts.now c.args.recipes.now c.args.place c.args.count c.args.link.now c.fetch_batch.new.link c.clear.new.self c.fetch_batch.new.rooms c.args.out.now c.open_batch.new.out (Ok tt)
-    c.requires.points (length-map c.args.clouds.now (λ (cloud : CloudNo). cloud.0) ∙ c.requires.pairs) (λ j lt. c.clear.ensures.empty j (let room = c.requires.room in omega arith)) (c.in-Ok.ensures.told tag version) c.in-Ok-open_batch.ensures.opens
+    c.requires.points (length-map c.args.clouds.now (λ (cloud : CloudNo). cloud.0) ∙ c.requires.pairs) (λ j lt. c.clear.ensures.empty j (let room = c.requires.room in omega arith)) (c.in-Ok.ensures.told tag version) c.in-Ok-open_batch.ensures.opens tt
 
 pub returns-in-Err-open_batch-clause-asked : goal.returns-in-Err-open_batch-clause-asked
 returns-in-Err-open_batch-clause-asked g c = asked_as g.L.Link.tells c.args.link.now c.fetch_batch.new.link _ (is_loss c.in-Err-open_batch.e) (sym c.in-Err-open_batch.ensures.found) c.in-Ok.ensures.asked
@@ -18,8 +22,17 @@ returns-in-Err-open_batch-clause-asked g c = asked_as g.L.Link.tells c.args.link
 pub returns-in-Err-open_batch-clause-told : goal.returns-in-Err-open_batch-clause-told
 returns-in-Err-open_batch-clause-told g c tag version =
     opened_batch g.L.Link.tells c.args.shape c.args.user (tag, version) (numbers_of c.args.clouds.now) c.args.points.now c.args.firsts.now c.args.recipes.now c.args.place c.args.count c.args.link.now c.fetch_batch.new.link c.clear.new.self c.fetch_batch.new.rooms c.args.out.now c.open_batch.new.out (Err c.in-Err-open_batch.e)
-    c.requires.points (length-map c.args.clouds.now (λ (cloud : CloudNo). cloud.0) ∙ c.requires.pairs) (λ j lt. c.clear.ensures.empty j (let room = c.requires.room in omega arith)) (c.in-Ok.ensures.told tag version) c.in-Err-open_batch.ensures.opens
+    c.requires.points (length-map c.args.clouds.now (λ (cloud : CloudNo). cloud.0) ∙ c.requires.pairs) (λ j lt. c.clear.ensures.empty j (let room = c.requires.room in omega arith)) (c.in-Ok.ensures.told tag version) c.in-Err-open_batch.ensures.opens c.in-Err-open_batch.ensures.alone
 
 pub returns-in-Err-clause-told : goal.returns-in-Err-clause-told
 returns-in-Err-clause-told g c tag version =
     refused_batch g.L.Link.tells c.args.shape c.args.user (tag, version) (numbers_of c.args.clouds.now) c.args.firsts.now c.args.recipes.now c.args.place c.args.count c.args.link.now c.fetch_batch.new.link c.clear.new.self c.fetch_batch.new.rooms c.args.out.now c.in-Err.e (c.in-Err.ensures.told tag version)
+
+pub returns-in-Err-open_batch-clause-named : goal.returns-in-Err-open_batch-clause-named
+returns-in-Err-open_batch-clause-named g c = names_to (λ x. ⊥) (Contains (numbers_of c.args.clouds.now)) c.in-Err-open_batch.e (λ x none. absurd none) c.in-Err-open_batch.ensures.alone
+
+pub returns-in-Ok-open_batch-clause-brought : goal.returns-in-Ok-open_batch-clause-brought
+returns-in-Ok-open_batch-clause-brought g c =
+    subst (λ (l : List ℕ). Extends c.args.shape l c.args.firsts.now c.args.recipes.now c.args.place (c.args.place + c.args.count) c.args.out.now c.open_batch.new.out) c.requires.points
+    (c.in-Ok-open_batch.ensures.brought c.args.recipes.now
+    (λ j lt. subst (λ (l : List ℕ). HasShares c.args.recipes.now (c.args.place + j) l (room_of c.fetch_batch.new.rooms j)) (c.clear.ensures.empty j (let room = c.requires.room in omega arith)) (c.in-Ok.ensures.came j lt)))

@@ -1,17 +1,22 @@
-use Rattle.std.proofs.Common.{◌∙◌}
+use Rattle.std.proofs.Common.{◌≡◌, ◌≤◌, ◌<◌, ◌+◌, ◌-◌, ◌∙◌, ℕ, [], length, refl, subst, arith}
+use Rattle.std.specs.Prelude.{min}
 use Rattle.cd_base.specs.Numbers.{numbers_of}
 use Rattle.restore_job.proofs.Leading.{leads_none}
+use Rattle.restore_job.specs.Brought.{AreSecrets}
+use Rattle.restore_job.proofs.Bringing.{extends_none, extends_on}
 use Rattle.restore_job.proofs.Taking.{grows_on, grows_none}
 use Rattle.restore_job.proofs.Ending.{restoring_none, restoring_more, restoring_stops, restoring_all}
 use Rattle.restore_job.proofs.batch.restore_items.Goals as goal
 
 pub returns-in-Err-clause-told : goal.returns-in-Err-clause-told
-returns-in-Err-clause-told g c tag version = leads_none g.L.Link.tells (numbers_of c.args.clouds.now) c.args.link.now _ (λ a ready. tt)
+returns-in-Err-clause-told g c tag version = leads_none g.L.Link.tells (numbers_of c.args.clouds.now) c.args.link.now _ _ (λ a ready. tt) (λ a ready. tt)
 
 pub loop-place-init : goal.loop-place-init
 loop-place-init g c = record {
   restoring = restoring_none g.L.Link.tells c.args.shape c.args.user (numbers_of c.args.clouds.now) c.args.firsts.now c.args.recipes.now c.args.link.now c.args.out.now;
   grows = grows_none c.args.out.now;
+  within = omega arith;
+  extends = extends_none c.args.shape (numbers_of c.args.clouds.now) c.args.firsts.now c.args.recipes.now 0 0 c.args.out.now refl;
   rooms = c.in-Ok.ensures;
 }
 
@@ -25,9 +30,20 @@ loop-place-preserved g c = record {
   restoring = restoring_more g.L.Link.tells c.args.shape c.args.user (numbers_of c.args.clouds.now) c.args.firsts.now c.args.recipes.now c.args.link.now c.loop-place.link c.restore_batch.new.link c.loop-place.place c.size_of-count.result
       c.args.out.now c.loop-place.out c.restore_batch.new.out c.loop-place.invariant.restoring c.loop-place-test.true c.size_of-count.ensures c.in-Ok-restore_batch.ensures.asked c.in-Ok-restore_batch.ensures.told;
   grows = grows_on c.args.out.now c.loop-place.out c.restore_batch.new.out c.loop-place.invariant.grows c.in-Ok-restore_batch.ensures.grows;
+  within = (let lt : c.loop-place.place < length c.args.firsts.now = c.loop-place-test.true in let size : c.size_of-count.result ≡ min 256 (length c.args.firsts.now - c.loop-place.place) = c.size_of-count.ensures in omega arith);
+  extends = extends_on c.args.shape (numbers_of c.args.clouds.now) c.args.firsts.now c.args.recipes.now 0 c.loop-place.place (c.loop-place.place + c.size_of-count.result) c.args.out.now c.loop-place.out c.restore_batch.new.out
+      c.loop-place.invariant.extends c.in-Ok-restore_batch.ensures.brought;
   rooms = c.in-Ok-restore_batch.ensures.rooms ∙ c.loop-place.invariant.rooms;
 }
 
 pub returns-clause-told : goal.returns-clause-told
 returns-clause-told g c =
     restoring_all g.L.Link.tells c.args.shape c.args.user (numbers_of c.args.clouds.now) c.args.firsts.now c.args.recipes.now c.args.link.now c.loop-place.link c.loop-place.place c.args.out.now c.loop-place.out c.loop-place.invariant.restoring c.loop-place-test.false
+
+pub returns-clause-brought : goal.returns-clause-brought
+returns-clause-brought g c =
+    let within : c.loop-place.place ≤ length c.args.firsts.now = c.loop-place.invariant.within in
+    let past : length c.args.firsts.now ≤ c.loop-place.place = c.loop-place-test.false in
+    let all : c.loop-place.place ≡ length c.args.firsts.now = omega arith in
+    let e = c.loop-place.invariant.extends in
+    (e.0, e.1, subst (λ (n : ℕ). AreSecrets c.args.shape (numbers_of c.args.clouds.now) c.args.firsts.now c.args.recipes.now n e.0) all (e.2 [] refl))

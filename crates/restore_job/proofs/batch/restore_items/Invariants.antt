@@ -1,5 +1,6 @@
-use Rattle.std.proofs.Common.{◌≡◌, ◌-◌, length}
+use Rattle.std.proofs.Common.{◌≡◌, ◌≤◌, ◌-◌, length}
 use Rattle.cd_base.specs.Numbers.{numbers_of}
+use Rattle.restore_job.specs.Brought.{Extends}
 use Rattle.restore_job.specs.Steps.{Grows}
 use Rattle.restore_job.proofs.Ending.{Restoring}
 use Rattle.restore_job.proofs.batch.restore_items.Given as goal
@@ -8,6 +9,8 @@ abbrev pub invariant-loop-place : goal.invariant-loop-place
 invariant-loop-place g l = record {
   restoring : Restoring g.L.Link.tells l.shape l.user (numbers_of l.clouds) l.firsts l.recipes l.fn.link l.link l.place l.fn.out l.out;
   grows : Grows l.fn.out l.out;
+  within : l.place ≤ length l.firsts;
+  extends : Extends l.shape (numbers_of l.clouds) l.firsts l.recipes 0 l.place l.fn.out l.out;
   rooms : length l.rooms ≡ 256;
 }
 

@@ -1,11 +1,15 @@
-use Rattle.std.proofs.Common.{◌≡◌, ◌∷◌, ℕ, Bool, List, [], length, Ok, Err, sym, ap, subst, arith, rules, ◌∙◌}
+use Rattle.std.proofs.Common.{◌≡◌, ◌∷◌, ◌+◌, ℕ, Bool, List, [], length, Ok, Err, sym, ap, subst, arith, rules, ◌∙◌}
 use Rattle.std.specs.Prelude.{All, IsTrue}
 use Rattle.std.specs.List.{Contains}
 use Rattle.std.proofs.lemmas.List.Elements.{All-tail}
 use Rattle.cd_base.specs.Numbers.{numbers_of}
 use Rattle.recipe.specs.declared.recipe.Recipe.{Recipe}
-use Rattle.user_dedup.proofs.Owned.{contains_later}
-use Rattle.restore_job.specs.Steps.{AreItemsAt}
+use Rattle.user_dedup.proofs.Owned.{contains_here, contains_later}
+use Rattle.restore_job.specs.Refusals.{Names}
+use Rattle.restore_job.specs.Brought.{HasShares}
+use Rattle.restore_job.specs.Steps.{AreItemsAt, room_of}
+use Rattle.restore_job.proofs.Bringing.{has_none, has_more}
+use Rattle.restore_job.proofs.Causing.{names_to}
 use Rattle.restore_job.proofs.Batches.{batch_none, batch_more, batch_stops, batch_as}
 use Rattle.restore_job.proofs.fetching.+fetch_batch.Goals as goal
 
@@ -54,3 +58,25 @@ returns-in-Err-fetch_batch-clause-told g t c tag version =
     (c.in-Some.cloud.0 ∷ numbers_of c.in-Some.more.now) (numbers_of c.args.clouds.now) (c.in-Some.recipe.now ∷ c.in-Some.rest.now) c.args.recipes.now (ap numbers_of c.in-Some.ensures.clouds) c.in-Some.ensures.recipes
     (batch_more tells c.args.shape c.args.user (tag, version) c.in-Some.cloud (numbers_of c.in-Some.more.now) c.args.firsts.now c.in-Some.recipe.now c.in-Some.rest.now c.args.place c.args.count
     c.args.link.now c.fetch_shares.new.link c.fetch_batch.new.link c.args.rooms.now c.fetch_shares.new.rooms c.fetch_batch.new.rooms (Err c.in-Err-fetch_batch.e) c.in-Ok.ensures.asked.told (c.in-Ok.ensures.told tag version) (c.in-Err-fetch_batch.ensures.told tag version))
+
+pub returns-in-Err-clause-named : goal.returns-in-Err-clause-named
+returns-in-Err-clause-named g t c =
+    subst (λ (l : List ℕ). Names (Contains l) c.in-Err.e) (sym (ap numbers_of c.in-Some.ensures.clouds))
+    (names_to (λ x. x ≡ c.in-Some.cloud.0) (Contains (c.in-Some.cloud.0 ∷ numbers_of c.in-Some.more.now)) c.in-Err.e
+    (λ x is. subst (Contains (c.in-Some.cloud.0 ∷ numbers_of c.in-Some.more.now)) (sym is) (contains_here c.in-Some.cloud.0 (numbers_of c.in-Some.more.now))) c.in-Err.ensures.named)
+
+pub returns-in-Err-fetch_batch-clause-named : goal.returns-in-Err-fetch_batch-clause-named
+returns-in-Err-fetch_batch-clause-named g t c =
+    subst (λ (l : List ℕ). Names (Contains l) c.in-Err-fetch_batch.e) (sym (ap numbers_of c.in-Some.ensures.clouds))
+    (names_to (Contains (numbers_of c.in-Some.more.now)) (Contains (c.in-Some.cloud.0 ∷ numbers_of c.in-Some.more.now)) c.in-Err-fetch_batch.e
+    (contains_later c.in-Some.cloud.0 (numbers_of c.in-Some.more.now)) c.in-Err-fetch_batch.ensures.named)
+
+pub returns-in_default-clause-came : goal.returns-in_default-clause-came
+returns-in_default-clause-came g t c j lt =
+    subst (λ (l : List Recipe). HasShares l (c.args.place + j) (room_of c.args.rooms.now j) (room_of c.args.rooms.now j)) (sym c.in_default.ensures.recipes) (has_none (c.args.place + j) (room_of c.args.rooms.now j))
+
+pub returns-in-Ok-fetch_batch-clause-came : goal.returns-in-Ok-fetch_batch-clause-came
+returns-in-Ok-fetch_batch-clause-came g t c j lt =
+    let first = c.in-Ok.ensures.came j lt in
+    subst (λ (l : List Recipe). HasShares l (c.args.place + j) (room_of c.args.rooms.now j) (room_of c.fetch_batch.new.rooms j)) (sym c.in-Some.ensures.recipes)
+    (has_more c.in-Some.recipe.now c.in-Some.rest.now (c.args.place + j) (room_of c.args.rooms.now j) (room_of c.fetch_shares.new.rooms j) (room_of c.fetch_batch.new.rooms j) first.0 first.1 first.2 (c.in-Ok-fetch_batch.ensures.came j lt))

@@ -1,6 +1,8 @@
-use Rattle.std.proofs.Common.{ℕ, Bool, List, [], subst, sym}
+use Rattle.std.proofs.Common.{◌≡◌, ℕ, Bool, List, [], subst, sym}
 use Rattle.std.specs.Prelude.{IsTrue}
+use Rattle.std.specs.List.{Contains}
 use Rattle.recipe.specs.declared.recipe.Recipe.{Recipe}
+use Rattle.restore_job.proofs.Causing.{names_to}
 use Rattle.restore_job.proofs.Asks.{Fetched, fetched_none, fetched_more, fetched_all, fetched_stops, fetched_unkept, numbers_next, numbers_none, rest_is, next_named}
 use Rattle.restore_job.proofs.fetching.fetch_recipes.Goals as goal
 use Rattle.cd_base.specs.Numbers.{numbers_of}
@@ -40,3 +42,10 @@ clouds-preserved g c =
     let f = rest_is t c.args.shape c.args.link.now c.clouds.link c.args.request.now (numbers_of c.args.clouds.now) (numbers_of c.clouds.rest.now) _ c.clouds.recipes (numbers_next c.clouds.rest.now c.in-Some.cloud c.in-Some.more.now c.in-Some.ensures) c.clouds.invariant in
     subst (λ (l : List Recipe). Fetched t c.args.shape c.args.link.now c.fetch_recipe.new.link c.args.request.now (numbers_of c.args.clouds.now) (numbers_of c.in-Some.more.now) l) (sym c.in-Ok-push.ensures.ok)
     (fetched_more t c.args.shape c.args.link.now c.clouds.link c.fetch_recipe.new.link c.args.request.now (numbers_of c.args.clouds.now) c.in-Some.cloud (numbers_of c.in-Some.more.now) c.clouds.recipes c.in-Ok.recipe f c.in-Ok.ensures.asked c.in-Ok.ensures.fits c.in-Ok.ensures.told)
+
+pub returns-in-Err-clause-named : goal.returns-in-Err-clause-named
+returns-in-Err-clause-named g c =
+    let t = g.L.Link.tells in
+    let f = rest_is t c.args.shape c.args.link.now c.clouds.link c.args.request.now (numbers_of c.args.clouds.now) (numbers_of c.clouds.rest.now) _ c.clouds.recipes (numbers_next c.clouds.rest.now c.in-Some.cloud c.in-Some.more.now c.in-Some.ensures) c.clouds.invariant in
+    let here = next_named t c.args.shape c.args.link.now c.clouds.link c.args.request.now (numbers_of c.args.clouds.now) c.in-Some.cloud.0 (numbers_of c.in-Some.more.now) c.clouds.recipes f in
+    names_to (λ x. x ≡ c.in-Some.cloud.0) (Contains (numbers_of c.args.clouds.now)) c.in-Err.e (λ x is. subst (Contains (numbers_of c.args.clouds.now)) (sym is) here) c.in-Err.ensures.named

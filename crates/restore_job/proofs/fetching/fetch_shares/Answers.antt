@@ -1,11 +1,20 @@
-use Rattle.std.proofs.Common.{◌+◌, ◌≤◌, ℕ, List, length, Ok, sym, subst, arith}
+use Rattle.std.proofs.Common.{◌≡◌, ◌+◌, ◌≤◌, ℕ, List, length, Result, Ok, Err, refl, sym, subst, arith}
+use Rattle.std.specs.Prelude.{IfErr}
+use Rattle.cd_base.specs.declared.ids.CloudNo.{CloudNo}
+use Rattle.cd_base.specs.declared.shape.Shape.{Shape}
+use Rattle.messages.specs.ReplyReading.{reply_at}
 use Rattle.messages.specs.declared.request.Request.TheVariants as requests
 use Rattle.messages.specs.Requests.{IsRequest}
 use Rattle.recipe.specs.declared.items.Item.{Item}
 use Rattle.user_dedup.specs.Link.{Asks}
 use Rattle.user_dedup.specs.Owning.{fps_in}
-use Rattle.restore_job.specs.Steps.{Takes}
+use Rattle.restore_job.specs.Refusals.{Names}
+use Rattle.restore_job.specs.Steps.{NoShares, Takes}
 use Rattle.restore_job.specs.declared.error.RestoreErr.{RestoreErr}
+use Rattle.restore_job.specs.declared.error.RestoreErr.TheVariants as errors
+use Rattle.restore_job.proofs.Bringing.{taken_came}
+use Rattle.restore_job.proofs.Causing.{shares_names, takes_names}
+use Rattle.restore_job.proofs.Held.{error_is}
 use Rattle.restore_job.proofs.Sharing.{part, shares_taken, shares_unread, shares_lost, shares_unasked}
 use Rattle.restore_job.proofs.fetching.fetch_shares.Goals as goal
 
@@ -47,3 +56,22 @@ returns-clause-told g c tag version =
     shares_lost t c.args.shape c.args.user (tag, version) c.args.cloud c.args.firsts.now c.args.recipe.now place n c.args.link.now c.ask.new.link c.ask.new.reply c.args.rooms.now c.args.rooms.now c.in-Err-ask.e
     c.requires.reached c.in-Err-ask.ensures.others
     (c.in-Err-ask.ensures.exec (requests.GetShares c.args.user (fps_in (part place n items))) (record { asked = asked; recipe = tt })) c.in-Err-ask.ensures.lost
+
+taken_names : (shape : Shape) (cloud : CloudNo) (firsts items : List Item) (place n : ℕ) (shares rooms filled : List (List ℕ)) (res : Result (Unit {0}) RestoreErr) → Takes shape cloud firsts items place n shares rooms filled res
+    → IfErr res (Names (λ x. x ≡ cloud.0))
+taken_names shape cloud firsts items place n shares rooms filled (Ok u) takes = tt
+taken_names shape cloud firsts items place n shares rooms filled (Err e) takes = takes_names shape cloud firsts items place n shares rooms filled e takes
+
+pub returns-in-Ok-shares_from-clause-named : goal.returns-in-Ok-shares_from-clause-named
+returns-in-Ok-shares_from-clause-named g c =
+    taken_names c.args.shape c.args.cloud c.args.firsts.now c.as_slice-items.result.now c.args.place c.args.count c.in-Ok-shares_from.shares c.args.rooms.now c.take_shares.new.rooms c.take_shares.result c.take_shares.ensures.takes
+
+pub returns-in-Ok-ask-clause-named : goal.returns-in-Ok-ask-clause-named
+returns-in-Ok-ask-clause-named g c = shares_names c.args.cloud (reply_at c.content.result.now) (NoShares c.args.count) c.in-Err-shares_from.e c.in-Err-shares_from.ensures.from
+
+pub returns-clause-named : goal.returns-clause-named
+returns-clause-named g c = subst (Names (λ x. x ≡ c.args.cloud.0)) (sym (error_is c.in-Err-ask.e (errors.Lost c.args.cloud) c.in-Err-ask.ensures.lost)) refl
+
+pub returns-in-Ok-shares_from-clause-came : goal.returns-in-Ok-shares_from-clause-came
+returns-in-Ok-shares_from-clause-came g c =
+    taken_came c.args.shape c.args.cloud c.args.firsts.now c.as_slice-items.result.now c.args.recipe.now c.args.place c.args.count c.in-Ok-shares_from.shares c.args.rooms.now c.take_shares.new.rooms c.take_shares.result c.as_slice-items.ensures c.take_shares.ensures.takes

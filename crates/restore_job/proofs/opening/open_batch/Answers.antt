@@ -1,8 +1,10 @@
-use Rattle.std.proofs.Common.{◌≡◌, ◌+◌, ◌-◌, ℕ, List, [], Ok, Err, Result, subst, sym, ap, arith, ◌∙◌}
+use Rattle.std.proofs.Common.{◌≡◌, ◌+◌, ◌-◌, ◌<◌, ◌≤◌, ℕ, List, [], Ok, Err, Result, subst, sym, ap, arith, ◌∙◌}
 use Rattle.cd_base.specs.declared.shape.Shape.{Shape}
 use Rattle.recipe.specs.declared.items.Item.{Item}
 use Rattle.restore_job.specs.Restored.{Unrestored, Given, of_secret, secret_opened, secrets_opened}
 use Rattle.restore_job.specs.Steps.{OpensTo}
+use Rattle.restore_job.specs.Brought.{Extends, HasShares}
+use Rattle.restore_job.proofs.Bringing.{extends_none, extends_more, opened_here}
 use Rattle.restore_job.proofs.Taking.{opening_none, opening_is, opening_more, opening_stops, opening_all, secrets_next, secrets_done, secret_is, grows_on, grows_none}
 use Rattle.restore_job.proofs.opening.open_batch.Goals as goal
 
@@ -18,6 +20,8 @@ loop-j-init c = record {
       let due = secrets_opened c.args.shape c.args.firsts.now all c.args.place c.args.count in
       opening_is due due _ c.args.out.now c.args.out.now (from_none c.args.shape c.args.firsts.now all c.args.place c.args.count) (opening_none due c.args.out.now);
   grows = grows_none c.args.out.now;
+  within = omega arith;
+  extends = λ recipes has. extends_none c.args.shape c.args.points.now c.args.firsts.now recipes c.args.place (c.args.place + 0) c.args.out.now (omega arith);
 }
 
 pub loop-j-preserved : goal.loop-j-preserved
@@ -29,6 +33,14 @@ loop-j-preserved c = record {
       (opening_is due _ _ c.args.out.now c.loop-j.out (secrets_next c.args.shape c.args.firsts.now all c.args.place c.args.count c.loop-j.j c.loop-j-test.true) (c.loop-j.invariant.opening all points rooms))
       (let opens = c.in-Ok.ensures.opens in (opens.0, opens.1, ap (of_secret (c.args.place + c.loop-j.j)) (sym secret) ∙ opens.2));
   grows = grows_on c.args.out.now c.loop-j.out c.open_secret.new.out c.loop-j.invariant.grows c.in-Ok.ensures.grows;
+  within = (let lt : c.loop-j.j < c.args.count = c.loop-j-test.true in omega arith);
+  extends = λ recipes has.
+      let i = c.args.place + c.loop-j.j in
+      let opens = c.in-Ok.ensures.opens in
+      let room = subst (HasShares recipes i []) (sym c.get.ensures) (has c.loop-j.j c.loop-j-test.true) in
+      extends_more c.args.shape c.args.points.now c.args.firsts.now recipes c.args.place i (c.args.place + (c.loop-j.j + 1)) c.args.out.now c.loop-j.out c.open_secret.new.out opens.0 (omega arith)
+      (c.loop-j.invariant.extends recipes has) opens.1
+      (opened_here c.args.shape c.args.points.now c.args.firsts.now recipes i c.get.result.now opens.0 c.loop-j.out c.open_secret.new.out room opens.2);
 }
 
 pub returns-in-Err-clause-opens : goal.returns-in-Err-clause-opens
@@ -48,3 +60,10 @@ returns-clause-opens c all points rooms =
     let due = secrets_opened c.args.shape c.args.firsts.now all c.args.place c.args.count in
     opening_all due c.args.out.now c.loop-j.out
     (opening_is due _ (Ok []) c.args.out.now c.loop-j.out (secrets_done c.args.shape c.args.firsts.now all c.args.place c.args.count c.loop-j.j c.loop-j-test.false) (c.loop-j.invariant.opening all points rooms))
+
+pub returns-clause-brought : goal.returns-clause-brought
+returns-clause-brought c recipes has =
+    let within : c.loop-j.j ≤ c.args.count = c.loop-j.invariant.within in
+    let past : c.args.count ≤ c.loop-j.j = c.loop-j-test.false in
+    let all : c.loop-j.j ≡ c.args.count = omega arith in
+    subst (λ (n : ℕ). Extends c.args.shape c.args.points.now c.args.firsts.now recipes c.args.place (c.args.place + n) c.args.out.now c.loop-j.out) all (c.loop-j.invariant.extends recipes has)

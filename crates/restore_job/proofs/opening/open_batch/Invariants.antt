@@ -1,4 +1,6 @@
-use Rattle.std.proofs.Common.{◌≡◌, ◌+◌, ◌-◌, ◌<◌, ℕ, List, map}
+use Rattle.std.proofs.Common.{◌≡◌, ◌+◌, ◌-◌, ◌<◌, ◌≤◌, ℕ, List, [], map}
+use Rattle.recipe.specs.declared.recipe.Recipe.{Recipe}
+use Rattle.restore_job.specs.Brought.{Extends, HasShares}
 use Rattle.std.specs.List.{flat_map}
 use Rattle.restore_job.specs.Restored.{Given, secrets_opened, string_at}
 use Rattle.restore_job.specs.Steps.{Grows, room_of}
@@ -11,4 +13,6 @@ invariant-loop-j l = record {
       → ((j : ℕ) → j < l.count → room_of l.rooms j ≡ flat_map (λ given. string_at given (l.place + j)) all)
       → Opening (secrets_opened l.shape l.firsts all l.place l.count) (secrets_opened l.shape l.firsts all (l.place + l.j) (l.count - l.j)) l.fn.out l.out;
   grows : Grows l.fn.out l.out;
+  within : l.j ≤ l.count;
+  extends : (recipes : List Recipe) → ((j : ℕ) → j < l.count → HasShares recipes (l.place + j) [] (room_of l.rooms j)) → Extends l.shape l.points l.firsts recipes l.place (l.place + l.j) l.fn.out l.out;
 }

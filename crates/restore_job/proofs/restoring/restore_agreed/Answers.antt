@@ -1,12 +1,18 @@
-use Rattle.std.proofs.Common.{◌≡◌, ◌∷◌, List, length, Ok, Err, sym, ap, subst, arith}
+use Rattle.std.proofs.Common.{◌≡◌, ◌∷◌, ℕ, [], refl, append-nil, List, length, Ok, Err, sym, ap, subst, arith}
 use Rattle.std.specs.Prelude.{All}
+use Rattle.std.specs.List.{Contains}
 use Rattle.std.proofs.lemmas.List.{length-map}
 use Rattle.std.proofs.lemmas.List.Elements.{All-weaker}
 use Rattle.cd_base.specs.Numbers.{numbers_of}
 use Rattle.cd_base.specs.declared.ids.CloudNo.{CloudNo}
 use Rattle.recipe.specs.Spelling.{Fits}
+use Rattle.recipe.specs.declared.items.Item.{Item}
 use Rattle.recipe.specs.declared.recipe.Recipe.{Recipe}
+use Rattle.restore_job.specs.Refusals.{Names}
 use Rattle.restore_job.specs.Steps.{AreItemsAt}
+use Rattle.restore_job.specs.Brought.{AreSecrets, Agree, Appends}
+use Rattle.restore_job.proofs.Bringing.{none_differs}
+use Rattle.restore_job.proofs.Causing.{compared_names}
 use Rattle.restore_job.proofs.Ending.{agreed_as, agreed_differs, agreed_items, agreed_unmade, items_as, fits_items}
 use Rattle.restore_job.proofs.restoring.restore_agreed.Goals as goal
 
@@ -55,3 +61,28 @@ returns-clause-told g c =
     (others_long c.args.clouds.now c.in-Some.others.now c.args.recipes.now c.in-Some.rest.now c.in-Some.first c.in-Some.recipe.now c.in-Some.ensures.clouds c.in-Some.ensures.recipes c.requires.pairs) c.in-Ok.ensures.compares
     (items_as t c.args.shape c.args.user c.args.link.now c.restore_items.new.link c.args.out.now c.restore_items.new.out (Err c.in-Err-restore_items.e) (c.in-Some.first.0 ∷ numbers_of c.in-Some.others.now) (numbers_of c.args.clouds.now) (c.in-Some.recipe.now ∷ c.in-Some.rest.now) c.args.recipes.now
     c.in-Some.recipe.now.items c.as_slice-firsts.result.now (ap numbers_of c.in-Some.ensures.clouds) c.in-Some.ensures.recipes c.as_slice-firsts.ensures c.in-Err-restore_items.ensures.told))
+
+pub returns-in-Err-clause-named : goal.returns-in-Err-clause-named
+returns-in-Err-clause-named g c =
+    subst (λ (l : List ℕ). Names (Contains l) c.in-Err.e) (sym (ap numbers_of c.in-Some.ensures.clouds))
+    (compared_names c.in-Some.first.0 c.in-Some.recipe.now (numbers_of c.in-Some.others.now) c.in-Some.rest.now c.in-Err.e c.in-Err.ensures.compares)
+
+pub returns-in_default-clause-brought : goal.returns-in_default-clause-brought
+returns-in_default-clause-brought g c =
+    subst (λ (l : List Recipe). Agree l × Appends c.args.shape (numbers_of c.args.clouds.now) l c.args.out.now c.args.out.now) (sym c.in_default.ensures.recipes) (tt, ([], sym (append-nil c.args.out.now), refl))
+
+pub returns-in-Ok-restore_items-clause-brought : goal.returns-in-Ok-restore_items-clause-brought
+returns-in-Ok-restore_items-clause-brought g c =
+    let items = c.in-Ok-restore_items.ensures.brought in
+    let firsts = c.as_slice-firsts.ensures in
+    let appends : Appends c.args.shape (numbers_of c.args.clouds.now) (c.in-Some.recipe.now ∷ c.in-Some.rest.now) c.args.out.now c.restore_items.new.out = (
+      items.0,
+      items.1,
+      subst (λ (l : List Recipe). AreSecrets c.args.shape (numbers_of c.args.clouds.now) c.in-Some.recipe.now.items l (length c.in-Some.recipe.now.items) items.0) c.in-Some.ensures.recipes
+          (subst (λ (l : List Item). AreSecrets c.args.shape (numbers_of c.args.clouds.now) l c.args.recipes.now (length l) items.0) firsts items.2),
+    ) in
+    subst (λ (l : List Recipe). Agree l × Appends c.args.shape (numbers_of c.args.clouds.now) l c.args.out.now c.restore_items.new.out) (sym c.in-Some.ensures.recipes) (
+      none_differs c.in-Some.first.0 c.in-Some.recipe.now (numbers_of c.in-Some.others.now) c.in-Some.rest.now
+          (others_long c.args.clouds.now c.in-Some.others.now c.args.recipes.now c.in-Some.rest.now c.in-Some.first c.in-Some.recipe.now c.in-Some.ensures.clouds c.in-Some.ensures.recipes c.requires.pairs) c.in-Ok.ensures.compares,
+      appends,
+    )

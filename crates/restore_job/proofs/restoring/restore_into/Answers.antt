@@ -1,4 +1,7 @@
-use Rattle.std.proofs.Common.{List, ℕ, Ok, Err, sym, subst}
+use Rattle.std.proofs.Common.{List, ℕ, Ok, Err, sym, subst, ◌∙◌}
+use Rattle.std.proofs.lemmas.List.{length-map}
+use Rattle.cd_base.specs.declared.ids.CloudNo.{CloudNo}
+use Rattle.restore_job.specs.Brought.{Agree, Appends}
 use Rattle.cd_base.specs.Numbers.{numbers_of}
 use Rattle.caont_rs.specs.Package.{tag as tag_at}
 use Rattle.messages.specs.declared.request.Request.TheVariants as requests
@@ -35,3 +38,16 @@ returns-clause-restored g c =
     let asks = subst (λ (l : List ℕ). IsRequest l (requests.GetRecipe c.args.user (record { 0 = tag_at c.args.shape c.args.path.now }) c.args.version)) (sym c.as_slice.ensures) c.in-Ok.ensures.asks in
     first_refused t c.args.shape c.args.user (record { 0 = tag_at c.args.shape c.args.path.now }, c.args.version) (numbers_of c.args.clouds.now) c.args.link.now c.fetch_recipes.new.link c.in-Err-fetch_recipes.e c.args.out.now
     (c.in-Err-fetch_recipes.ensures.told c.args.user (record { 0 = tag_at c.args.shape c.args.path.now }) c.args.version asks)
+
+pub returns-in-Ok-restore_agreed-clause-brought : goal.returns-in-Ok-restore_agreed-clause-brought
+returns-in-Ok-restore_agreed-clause-brought g c =
+    let recipes = c.in-Ok-fetch_recipes.recipes in
+    let same = c.as_slice-in-Ok-fetch_recipes.ensures in
+    let agreed = subst (λ (l : List Recipe). Agree l × Appends c.args.shape (numbers_of c.args.clouds.now) l c.args.out.now c.restore_agreed.new.out) same c.in-Ok-restore_agreed.ensures.brought in
+    record {
+      recipes = recipes;
+      count = c.in-Ok-fetch_recipes.ensures.pairs ∙ sym (length-map c.args.clouds.now (λ (cloud : CloudNo). cloud.0));
+      fits = c.in-Ok-fetch_recipes.ensures.fits;
+      agree = agreed.0;
+      appends = agreed.1;
+    }
