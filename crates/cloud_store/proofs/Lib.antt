@@ -1,0 +1,6 @@
+pub mod Distinct
+pub mod Lists
+pub mod Entries
+pub mod Laying
+pub mod Full
+mod Rows
