@@ -15,7 +15,7 @@ use Rattle.cloud_store.specs.Contents.{strings_in, distinct, place_in, recipes_i
 
 -- each fingerprint that is laid has its place, and each user's own are those of the user's view
 pub record IndexesShares (shape : Shape) (list : List Command) (index : Shares) : Type 0 where
-  pub places : (fp : Fp) → length fp.0 ≡ 32 → get index.places fp.0 ≡ place_in (strings_in list) fp
+  pub places : (fp : Fp) → get index.places fp.0 ≡ place_in (strings_in list) fp
   pub owners : (user : UserId) (fp : Fp) → IsSome (get index.owners (owner_of user.0 fp.0)) ↔ IsTrue (is_among (user_view shape list user).own fp)
   pub fps : len index.places ≡ length (distinct (strings_in list))
   pub owned : len index.owners ≡ length (strings_in list)

@@ -1,0 +1,6 @@
+pub mod Shares
+pub mod Files
+pub mod Next
+pub mod Empty
+pub mod Reaching
+pub mod Fullness
