@@ -87,6 +87,35 @@ impl Journal {
         })
     }
 
+    /// How far the journal is read.
+    pub fn stage(&self) -> Stage
+        ensures { result ≡ (state_of self.now).stage }
+    {
+        self.stage
+    }
+
+    /// The bytes that are used, up to and with the gate, once records may be added.
+    pub fn used(&self) -> u64
+        requires { (state_of self.now).stage ≡ Stage.AtEnd }
+        ensures { result ≡ (state_of self.now).gate + 1 }
+    {
+        self.gate + 1
+    }
+
+    /// The bytes that the journal may have.
+    pub fn limit(&self) -> u64
+        ensures { result ≡ (state_of self.now).limit }
+    {
+        self.limit
+    }
+
+    /// Shuts the journal: only `reopen` may be called from then on.
+    pub fn shut(&mut self)
+        ensures { state_of self.new ≡ record (state_of self.old) { stage = Stage.Shut } }
+    {
+        self.stage = Stage::Shut;
+    }
+
     /// The body of the record that was read last.
     pub fn body(&self) -> &[u8]
         ensures { result.now ≡ (state_of self.now).body }

@@ -1,0 +1,4 @@
+pub mod Holding
+pub mod Both
+pub mod Adding
+pub mod Standing
