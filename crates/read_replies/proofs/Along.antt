@@ -1,0 +1,205 @@
+-- Shares that are put one after another.
+use Rattle.std.proofs.Common.{◌≡◌, ℕ, ◌+◌, ◌*◌, ◌<◌, ◌≤◌, List, [], ◌∷◌, ◌++◌, length, map, take, Option, Some, None, Ok, Err, OnOk, IsTrue, refl, sym, ap, ◌∙◌, subst, arith, append-nil, append_assoc, length-append}
+use Rattle.std.specs.Prelude.{All, unwrap_or, slice_get}
+use Rattle.std.specs.List.{Contains, flat_map}
+use Rattle.std.proofs.lemmas.List.{map_push, length-map}
+use Rattle.std.proofs.lemmas.Option.{slice_get_within, get_or_from_slice_get}
+use Rattle.std.proofs.lemmas.List.Elements.{All-nil, All-push, All-contains, Contains-get_or}
+use Rattle.std.proofs.lemmas.Grind.{flat_map-append}
+use Rattle.std.specs.Int.{w16, w32, to_be_bytes}
+use Rattle.cd_base.specs.declared.ids.Fp.{Fp}
+use Rattle.cd_base.specs.declared.ids.UserId.{UserId}
+use Rattle.cd_edges.specs.declared.area.Area.{Area}
+use Rattle.cd_edges.specs.declared.area.Area.TheVariants.{Shares}
+use Rattle.cd_edges.specs.Disk.{Cloud, Areas, reads}
+use Rattle.commit_journal.specs.declared.header.Header.{Header}
+use Rattle.container_log.specs.Laying.{Placed, IsAt}
+use Rattle.container_log.specs.States.{State}
+use Rattle.message_fields.specs.Shares.{IsShare, share_bytes}
+use Rattle.message_fields.specs.Fingerprints.{IsBatch}
+use Rattle.messages.specs.declared.reply.Reply.TheVariants as replies
+use Rattle.messages.specs.Replies.{reply_bytes}
+use Rattle.user_dedup.specs.Owning.{first_lacking, FindsLacking}
+use Rattle.user_dedup.proofs.Owned.{finds}
+use Rattle.read_replies.specs.Allowed.{Replies, SharesReply}
+use Rattle.share_index.specs.declared.key.Place.{Place}
+use Rattle.user_dedup.specs.declared.command.Command.{Command}
+use Rattle.user_dedup.specs.Cloud.{fingerprint, user_view, held_string}
+use Rattle.cd_base.specs.declared.shape.Shape.{Shape}
+use Rattle.cloud_store.specs.Contents.{strings_in, place_in}
+use Rattle.cloud_index.specs.declared.index.CloudIndex.{CloudIndex}
+use Rattle.cloud_index.specs.Memory.{Remembers}
+use Rattle.read_replies.specs.declared.blobs.Stop.{Stop}
+use Rattle.read_replies.specs.declared.blobs.Stop.TheVariants as stops
+use Rattle.read_replies.specs.Keeping.{Keeps, found_at, IsFoundShare}
+use Rattle.read_replies.specs.Steps.{IfRotten, OnlyRead, HasRead, SentOne, Sent}
+use Rattle.read_replies.proofs.Marks.{one_more}
+use Rattle.read_replies.proofs.Held.{held_at, placed_range}
+use Rattle.read_replies.proofs.Calling.{Answer, ok_answer, nothing_read, only_then, ok_read}
+
+-- the strings held for some fingerprints
+abbrev pub strings_for : List Command → List Fp → List (List ℕ)
+strings_for list fps = map (λ (fp : Fp). unwrap_or (held_string list fp) []) fps
+
+-- a told cloud keeps the list in which the user owns each
+abbrev pub WhenHeld : (a : Cloud) (index : CloudIndex) (all : List Fp) (P : List Command → Type 0) → Type 0
+WhenHeld a index all P = IsTrue a.told → (header : Header) (list : List Command) (user : UserId) → Keeps (reads a.now) header list index
+    → All (Contains (user_view header.shape list user).own) all → P list
+
+-- the first n shares stand there
+pub record Along (a b : ℕ → Cloud) (number before mid : ℕ) (log0 log : State) (index : CloudIndex) (all : List Fp) (n : ℕ) (old out : List ℕ) : Type 0 where
+  pub only : OnlyRead a b number before mid
+  pub log_is : log ≡ log0
+  pub sent : Sent (take n all) old out
+  pub held : WhenHeld (a number) index all (λ list. out ≡ old ++ flat_map share_bytes (strings_for list (take n all)))
+  pub few : length out ≤ length old + n * 8212
+
+pub begun : (a : ℕ → Cloud) (number now : ℕ) (log : State) (index : CloudIndex) (all : List Fp) (out : List ℕ) → Along a a number now now log log index all 0 out out
+begun a number now log index all out = record {
+  only = nothing_read a number now;
+  log_is = refl;
+  sent = record { shares = []; bytes = sym (append-nil out); ranges = All-nil IsShare; named = refl };
+  held = λ told header list user k own. sym (append-nil out);
+  few = omega arith;
+}
+
+flat_push : (ss : List (List ℕ)) (s : List ℕ) → flat_map share_bytes (ss ++ s ∷ []) ≡ flat_map share_bytes ss ++ share_bytes s
+flat_push ss s = flat_map-append share_bytes ss (s ∷ []) ∙ ap (λ l. flat_map share_bytes ss ++ l) (append-nil (share_bytes s))
+
+one_behind : (old out out' : List ℕ) (ss : List (List ℕ)) (s : List ℕ) → out ≡ old ++ flat_map share_bytes ss → out' ≡ out ++ share_bytes s → out' ≡ old ++ flat_map share_bytes (ss ++ s ∷ [])
+one_behind old out out' ss s first next =
+    next ∙ ap (λ l. l ++ share_bytes s) first ∙ append_assoc old (flat_map share_bytes ss) (share_bytes s) ∙ ap (λ l. old ++ l) (sym (flat_push ss s))
+
+sent_more : (fps : List Fp) (fp : Fp) (old out out' : List ℕ) → Sent fps old out → SentOne fp out out' → Sent (fps ++ fp ∷ []) old out'
+sent_more fps fp old out out' sent one = record {
+  shares = sent.shares ++ one.share ∷ [];
+  bytes = one_behind old out out' sent.shares one.share sent.bytes one.bytes;
+  ranges = All-push IsShare sent.shares one.share sent.ranges one.range;
+  named = map_push fingerprint sent.shares one.share ∙ ap (λ l. l ++ fingerprint one.share ∷ []) sent.named ∙ ap (λ f. fps ++ f ∷ []) one.named;
+}
+
+-- the area that is read is that of the beginning
+pub same_area : (a b : ℕ → Cloud) (number before mid : ℕ) (log0 log : State) → OnlyRead a b number before mid → log ≡ log0 → log0.area ≡ Shares
+    → ((b number).now log.area).read ≡ reads (a number).now Shares
+same_area a b number before mid log0 log only log_is area =
+    ap (λ (x : Area). ((b number).now x).read) (ap (λ (s : State). s.area) log_is ∙ area) ∙ ap (λ (f : Areas). (f Shares).read) only.stays.now
+
+-- what one step says of a blob that lies at its place
+abbrev pub AtPlace : Cloud → State → Option Place → Fp → (Placed → Type 0) → Type 0
+AtPlace b log at fp P = IsTrue b.told → (p : Place) → at ≡ Some p → (blob : Placed) → blob.place ≡ p.at → length blob.blob ≡ p.len → IsShare blob.blob
+    → fingerprint blob.blob ≡ fp → IsAt (b.now log.area).read blob → P blob
+
+-- what the index says of the place
+abbrev pub IsPlaceOf : CloudIndex → Fp → Option Place → Type 0
+IsPlaceOf index fp at = (shape : Shape) (list : List Command) → Remembers shape list index → at ≡ place_in (strings_in list) fp
+
+held_by_step : (a b : ℕ → Cloud) (number before mid : ℕ) (log0 log : State) (index : CloudIndex) (all : List Fp) (n : ℕ) (fp : Fp) (at : Option Place) (P : List ℕ → Type 0)
+    → OnlyRead a b number before mid → log ≡ log0 → log0.area ≡ Shares → Contains all fp → IsPlaceOf index fp at
+    → AtPlace (b number) log at fp (λ blob. P blob.blob)
+    → WhenHeld (a number) index all (λ list. (s : List ℕ) × (held_string list fp ≡ Some s) × P s)
+held_by_step a b number before mid log0 log index all n fp at P only log_is area among place step told header list user k own =
+    let h = held_at (reads (a number).now) header list index user fp k (All-contains (Contains (user_view header.shape list user).own) all fp own among) in (
+      h.string,
+      h.held,
+      step
+          (subst IsTrue (sym only.call.told) told) h.place (place header.shape list k.remembers ∙ h.found) (record { place = h.place.at; blob = h.string }) refl h.long h.share h.named
+          (subst (λ (l : List ℕ). IsAt l (record { place = h.place.at; blob = h.string })) (sym (same_area a b number before mid log0 log only log_is area)) h.lies),
+    )
+
+few_more : (old out out' : List ℕ) (fp : Fp) (n : ℕ) → length out ≤ length old + n * 8212 → SentOne fp out out' → length out' ≤ length old + (n + 1) * 8212
+few_more old out out' fp n few one =
+    let head : List ℕ = to_be_bytes w32 (length one.share) in
+    let four : length head ≡ 4 = refl in
+    let most : length one.share ≤ 8208 = one.range.1 in
+    omega (arith, ap length one.bytes, length-append out (share_bytes one.share), length-append head one.share)
+
+-- a share's length and bytes, put behind one another
+pub put_one : (fp : Fp) (old mid out bytes share : List ℕ) (len : ℕ) → mid ≡ old ++ bytes → out ≡ mid ++ share → bytes ≡ to_be_bytes w32 len → length share ≡ len
+    → out ≡ old ++ share_bytes share
+put_one fp old mid out bytes share len mid_is out_is bytes_is long =
+    out_is ∙ ap (λ (l : List ℕ). l ++ share) (mid_is ∙ ap (λ (l : List ℕ). old ++ l) (bytes_is ∙ ap (to_be_bytes w32) (sym long)))
+    ∙ append_assoc old (to_be_bytes w32 (length share)) share
+
+pub sent_one : (fp : Fp) (old mid out bytes share : List ℕ) (len : ℕ) → mid ≡ old ++ bytes → out ≡ mid ++ share → bytes ≡ to_be_bytes w32 len → length share ≡ len
+    → 1 ≤ len → len ≤ 8208 → fingerprint share ≡ fp → SentOne fp old out
+sent_one fp old mid out bytes share len mid_is out_is bytes_is long some few named = record {
+  share = share;
+  bytes = put_one fp old mid out bytes share len mid_is out_is bytes_is long;
+  range = (omega arith, omega arith);
+  named = named;
+}
+
+pub more : (a b c : ℕ → Cloud) (number before mid now : ℕ) (log0 log log' : State) (index : CloudIndex) (all : List Fp) (n : ℕ) (old out out' : List ℕ) (fp : Fp) (at : Option Place)
+    → log0.area ≡ Shares → slice_get all n ≡ Some fp → Contains all fp → IsPlaceOf index fp at
+    → Along a b number before mid log0 log index all n old out
+    → HasRead b c number mid now ok_answer → log' ≡ log → SentOne fp out out'
+    → AtPlace (b number) log at fp (λ blob. out' ≡ out ++ share_bytes blob.blob)
+    → Along a c number before now log0 log' index all (n + 1) old out'
+more a b c number before mid now log0 log log' index all n old out out' fp at area get among place along read log_same one step = record {
+  only = only_then a b c number before mid now along.only (ok_read b c number mid now read);
+  log_is = log_same ∙ along.log_is;
+  sent = subst (λ l. Sent l old out') (sym (one_more all n fp get)) (sent_more (take n all) fp old out out' along.sent one);
+  held = λ told header list user k own.
+      let h = held_by_step a b number before mid log0 log index all n fp at (λ s. out' ≡ out ++ share_bytes s) along.only along.log_is area among place step told header list user k own in
+      let strings = strings_for list (take n all) in
+      one_behind old out out' strings h.0 (along.held told header list user k own) h.2
+      ∙ ap (λ s. old ++ flat_map share_bytes (strings ++ s ∷ [])) (sym (ap (λ (o : Option (List ℕ)). unwrap_or o []) h.1))
+      ∙ ap (λ l. old ++ flat_map share_bytes l) (sym (map_push (λ (f : Fp). unwrap_or (held_string list f) []) (take n all) fp) ∙ ap (strings_for list) (sym (one_more all n fp get)));
+  few = few_more old out out' fp n along.few one;
+}
+
+-- ---- the exits
+
+pub rotten_exit : (a b : ℕ → Cloud) (number before mid : ℕ) (log0 log : State) (index : CloudIndex) (all : List Fp) (fp : Fp) (at : Option Place) (r : Answer)
+    → log0.area ≡ Shares → OnlyRead a b number before mid → log ≡ log0 → Contains all fp → IsPlaceOf index fp at
+    → IfRotten r (λ named found. named ≡ fp)
+    → (IsTrue (b number).told → (p : Place) → at ≡ Some p → 1 ≤ p.len → p.len ≤ 8208 → IfRotten r (λ named found. found ≡ found_at ((b number).now log.area).read p.at p.len))
+    → IfRotten r (λ named found. Contains all named × IsFoundShare (a number) index named found)
+rotten_exit a b number before mid log0 log index all fp at (Ok x) area only log_is among place named found = tt
+rotten_exit a b number before mid log0 log index all fp at (Err stops.Failed) area only log_is among place named found = tt
+rotten_exit a b number before mid log0 log index all fp at (Err (stops.Rotten n f)) area only log_is among place named found = (
+  subst (Contains all) (sym named) among,
+  λ told shape number' list sound remembers p e.
+      let here : place_in (strings_in list) fp ≡ Some p = ap (place_in (strings_in list)) (sym named) ∙ e in
+      let range = placed_range shape number' list fp p sound here in
+      found (subst IsTrue (sym only.call.told) told) p (place shape list remembers ∙ here) range.some range.few
+      ∙ ap (λ (l : List ℕ). found_at l p.at p.len) (same_area a b number before mid log0 log only log_is area),
+)
+
+pub whole_exit : (a b : ℕ → Cloud) (number before mid : ℕ) (log0 log : State) (index : CloudIndex) (all : List Fp) (n : ℕ) (fp : Fp) (at : Option Place) (r : Answer)
+    → log0.area ≡ Shares → OnlyRead a b number before mid → log ≡ log0 → Contains all fp → IsPlaceOf index fp at
+    → AtPlace (b number) log at fp (λ blob. IfRotten r (λ named found. ⊥))
+    → WhenHeld (a number) index all (λ list. IfRotten r (λ named found. ⊥))
+whole_exit a b number before mid log0 log index all n fp at r area only log_is among place step told header list user k own =
+    (held_by_step a b number before mid log0 log index all n fp at (λ s. IfRotten r (λ named found. ⊥)) only log_is area among place step told header list user k own).2
+
+-- ---- the reply
+
+pub among_at : (xs : List Fp) (i : ℕ) (x : Fp) → slice_get xs i ≡ Some x → Contains xs x
+among_at xs i x e = subst (Contains xs) (get_or_from_slice_get xs i x x e) (Contains-get_or xs i x (slice_get_within xs i x e))
+
+pub shares_spelled : (strings : List (List ℕ)) (head out : List ℕ) (n : ℕ) → out ≡ head ++ flat_map share_bytes strings → head ≡ 137 ∷ to_be_bytes w16 n → n ≡ length strings
+    → out ≡ reply_bytes (replies.Shares strings)
+shares_spelled strings head out n out_is head_is n_is =
+    out_is ∙ ap (λ (h : List ℕ). h ++ flat_map share_bytes strings) (head_is ∙ ap (λ (k : ℕ). 137 ∷ to_be_bytes w16 k) n_is)
+
+pub shares_kind : (fps : List Fp) (head out : List ℕ) (n : ℕ) (Found : Fp → Fp → Type 0) → Sent fps head out → head ≡ 137 ∷ to_be_bytes w16 n → n ≡ length fps → IsBatch fps
+    → Replies out (SharesReply fps Found)
+shares_kind fps head out n Found sent head_is n_is batch =
+    let same : length sent.shares ≡ length fps = sym (length-map sent.shares fingerprint) ∙ ap length sent.named in
+    let some : 1 ≤ length fps = batch.0 in
+    let few : length fps ≤ 256 = batch.1 in
+    record {
+      reply = replies.Shares sent.shares;
+      is = record { fits = ((omega arith, omega arith), sent.ranges); spelled = shares_spelled sent.shares head out n sent.bytes head_is (n_is ∙ sym same) };
+      said = sent.named;
+    }
+
+pub held_spelled : (list : List Command) (fps : List Fp) (head out : List ℕ) (n : ℕ) → out ≡ head ++ flat_map share_bytes (strings_for list fps) → head ≡ 137 ∷ to_be_bytes w16 n → n ≡ length fps
+    → out ≡ reply_bytes (replies.Shares (strings_for list fps))
+held_spelled list fps head out n out_is head_is n_is =
+    shares_spelled (strings_for list fps) head out n out_is head_is (n_is ∙ sym (length-map fps (λ (fp : Fp). unwrap_or (held_string list fp) [])))
+
+-- where nothing is lacking all are owned
+pub all_owned : (own fps : List Fp) → None ≡ first_lacking own fps → All (Contains own) fps
+all_owned own fps e = subst (FindsLacking own fps) (sym e) (finds own fps)

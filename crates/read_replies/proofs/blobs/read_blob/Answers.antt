@@ -1,0 +1,46 @@
+use Rattle.std.proofs.Common.{◌≡◌, ℕ, ◌≤◌, List, length, take, drop, OnOk, refl, sym, ap, ◌∙◌, subst, arith, length-take}
+use Rattle.std.proofs.lemmas.List.{take_all}
+use Rattle.cd_base.specs.declared.ids.Fp.{Fp}
+use Rattle.user_dedup.specs.Cloud.{fingerprint}
+use Rattle.read_replies.specs.Keeping.{found_at}
+use Rattle.read_replies.proofs.Calling.{rotten_as, not_rotten, when_ok, ok_both, compared, there_is, blob_there}
+use Rattle.read_replies.proofs.blobs.read_blob.Goals as goal
+
+pub returns-in-Ok-clause-hashed : goal.returns-in-Ok-clause-hashed
+returns-in-Ok-clause-hashed g c =
+    let there = c.split_at.result.0.now in
+    let out = c.read.new.out in
+    ok_both c.compare.result (length there ≡ length c.args.out.now) (fingerprint there ≡ c.args.fp.now) (fingerprint out ≡ c.args.fp.now) c.compare.ensures.ok c.compare.ensures.hashed
+    (λ long same.
+    let past : length out ≤ c.in-Ok.count = omega (arith, long, ap length c.split_at.ensures.front, length-take c.in-Ok.count out, c.read.auto.out) in
+    ap fingerprint (sym (take_all c.in-Ok.count out past) ∙ sym c.split_at.ensures.front) ∙ same)
+
+pub returns-in-Ok-clause-named : goal.returns-in-Ok-clause-named
+returns-in-Ok-clause-named g c =
+    rotten_as c.compare.result c.args.fp.now (fingerprint c.split_at.result.0.now) (λ (named found : Fp). named ≡ c.args.fp.now) c.compare.ensures.err refl
+
+pub returns-in-Ok-clause-found : goal.returns-in-Ok-clause-found
+returns-in-Ok-clause-found g c = λ told.
+    let area = ((g.V.Shelf.cloud_at c.args.shelf.now c.args.cloud.0).now c.args.log.now.area).read in
+    rotten_as c.compare.result c.args.fp.now (fingerprint c.split_at.result.0.now) (λ (named found : Fp). found ≡ found_at area c.args.at (length c.args.out.now)) c.compare.ensures.err
+    (ap fingerprint (c.split_at.ensures.front ∙ there_is area c.args.at c.in-Ok.count c.read.new.out (c.in-Ok.ensures.bytes told)
+    ∙ ap (λ (n : ℕ). take n (drop c.args.at area)) c.read.auto.out))
+
+pub returns-in-Ok-clause-whole : goal.returns-in-Ok-clause-whole
+returns-in-Ok-clause-whole g c = λ told b place_is long same at.
+    let area = ((g.V.Shelf.cloud_at c.args.shelf.now c.args.cloud.0).now c.args.log.now.area).read in
+    let there : c.split_at.result.0.now ≡ b.blob =
+    c.split_at.ensures.front ∙ blob_there area c.args.at c.in-Ok.count (length b.blob) c.read.new.out b.blob (c.in-Ok.ensures.bytes told) (c.read.auto.out ∙ sym long) refl
+    (subst (λ (p : ℕ). take (length b.blob) (drop p area) ≡ b.blob) place_is at) in
+    not_rotten c.compare.result (λ (named found : Fp). ⊥) (c.compare.ensures.whole (ap length there ∙ long) (ap fingerprint there ∙ same))
+
+pub returns-in-Ok-clause-blob : goal.returns-in-Ok-clause-blob
+returns-in-Ok-clause-blob g c = λ told b place_is long same at. when_ok c.compare.result (c.read.new.out ≡ b.blob) (c.in-Ok.ensures.blob told b place_is long at)
+
+pub returns-in-Ok-clause-reads : goal.returns-in-Ok-clause-reads
+returns-in-Ok-clause-reads g c =
+    compared (g.V.Shelf.cloud_at c.args.shelf.now) (g.V.Shelf.cloud_at c.read.new.shelf) c.args.cloud.0 (g.V.Shelf.faults c.args.shelf.now) (g.V.Shelf.faults c.read.new.shelf)
+    c.compare.result c.args.fp.now (fingerprint c.split_at.result.0.now) c.compare.ensures.err c.read.ensures.stays c.read.ensures.call c.in-Ok.ensures.uncounted
+
+pub returns-in-Err-clause-reads : goal.returns-in-Err-clause-reads
+returns-in-Err-clause-reads g c = record { stays = c.read.ensures.stays; call = c.read.ensures.call; failed = c.in-Err.ensures.failed; counts = tt }

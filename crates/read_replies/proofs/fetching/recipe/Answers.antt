@@ -1,0 +1,66 @@
+use Rattle.std.proofs.Common.{◌≡◌, ℕ, Some, None, refl, sym, ap, ◌∙◌, subst}
+use Rattle.cd_base.specs.declared.ids.Fp.{Fp}
+use Rattle.cd_edges.specs.declared.area.Area.{Area}
+use Rattle.cd_edges.specs.Disk.{reads}
+use Rattle.container_log.specs.Laying.{Placed, IsAt}
+use Rattle.file_index.specs.Files.{key_of}
+use Rattle.messages.specs.declared.reply.Reply.TheVariants as replies
+use Rattle.messages.specs.Replies.{reply_bytes}
+use Rattle.cloud_store.specs.Contents.{entry_in}
+use Rattle.read_replies.specs.Keeping.{found_at}
+use Rattle.read_replies.proofs.Held.{entry_range, recipe_at, recipe_missing}
+use Rattle.read_replies.proofs.Calling.{rotten_at}
+use Rattle.read_replies.proofs.fetching.recipe.Goals as goal
+
+pub returns-in-Ok-clause-value : goal.returns-in-Ok-clause-value
+returns-in-Ok-clause-value g c = λ told header list k.
+    let cloud = g.V.Shelf.cloud_at c.args.shelf.now c.args.cloud.0 in
+    let entry = c.in-Some.entry in
+    let e : entry_in list (key_of c.args.user.0 c.args.tag.now.0 c.args.version.0) ≡ Some entry = sym (c.entry.ensures header.shape list k.remembers) ∙ c.in-Some.is in
+    let r = recipe_at (reads cloud.now) header list c.args.index.now c.args.user c.args.tag.now c.args.version entry k e in
+    let b : Placed = record { place = entry.at; blob = r.recipe } in
+    c.in-Ok.ensures.blob told b refl r.long r.named (subst (λ (x : Area). IsAt (cloud.now x).read b) (sym c.requires.area) r.lies) ∙ ap reply_bytes (sym r.reply)
+
+pub returns-in-Ok-clause-kind : goal.returns-in-Ok-clause-kind
+returns-in-Ok-clause-kind g c =
+    let f = c.in-Ok.ensures.ok in
+    record { reply = replies.Recipe f.recipe; is = f.is; said = λ shape list is. (c.in-Some.entry, sym (c.entry.ensures shape list is) ∙ c.in-Some.is, f.named) }
+
+pub returns-in-Err-Rotten-clause-value : goal.returns-in-Err-Rotten-clause-value
+returns-in-Err-Rotten-clause-value g c = λ told header list k.
+    let cloud = g.V.Shelf.cloud_at c.args.shelf.now c.args.cloud.0 in
+    let entry = c.in-Some.entry in
+    let e : entry_in list (key_of c.args.user.0 c.args.tag.now.0 c.args.version.0) ≡ Some entry = sym (c.entry.ensures header.shape list k.remembers) ∙ c.in-Some.is in
+    let r = recipe_at (reads cloud.now) header list c.args.index.now c.args.user c.args.tag.now c.args.version entry k e in
+    let range = entry_range header.shape header.cloud.0 list c.args.user c.args.tag.now c.args.version entry k.sound e in
+    let b : Placed = record { place = entry.at; blob = r.recipe } in
+    absurd (rotten_at c.in-Err-Rotten.field-0 _ _ (λ (named found : Fp). ⊥) c.in-Err-Rotten.field-0-is
+    (c.in-Err-Rotten.ensures.whole told range.some range.few b refl r.long r.named (subst (λ (x : Area). IsAt (cloud.now x).read b) (sym c.requires.area) r.lies)))
+
+pub returns-in-Err-Rotten-clause-kind : goal.returns-in-Err-Rotten-clause-kind
+returns-in-Err-Rotten-clause-kind g c =
+    let cloud = g.V.Shelf.cloud_at c.args.shelf.now c.args.cloud.0 in
+    let entry = c.in-Some.entry in
+    record {
+      reply = replies.Rotten c.in-Err-Rotten.named c.in-Err-Rotten.found;
+      is = c.put_rotten.ensures;
+      said = λ shape list is.
+          let e : entry_in list (key_of c.args.user.0 c.args.tag.now.0 c.args.version.0) ≡ Some entry = sym (c.entry.ensures shape list is) ∙ c.in-Some.is in (
+            entry,
+            e,
+            rotten_at c.in-Err-Rotten.field-0 _ _ (λ (named found : Fp). named ≡ entry.fp) c.in-Err-Rotten.field-0-is c.in-Err-Rotten.ensures.named,
+            λ told number sound.
+                let range = entry_range shape number list c.args.user c.args.tag.now c.args.version entry sound e in
+                rotten_at c.in-Err-Rotten.field-0 _ _ (λ (named found : Fp). found ≡ found_at (cloud.now c.args.log.now.area).read entry.at entry.len) c.in-Err-Rotten.field-0-is
+                (c.in-Err-Rotten.ensures.found told range.some range.few)
+                ∙ ap (λ (x : Area). found_at (cloud.now x).read entry.at entry.len) c.requires.area,
+          );
+    }
+
+pub returns-in-None-clause-value : goal.returns-in-None-clause-value
+returns-in-None-clause-value g c = λ told header list k.
+    c.put_missing.ensures.spelled
+    ∙ ap reply_bytes (sym (recipe_missing header.shape list c.args.user c.args.tag.now c.args.version (sym (c.entry.ensures header.shape list k.remembers) ∙ c.in-None.is)))
+
+pub returns-in-None-clause-kind : goal.returns-in-None-clause-kind
+returns-in-None-clause-kind g c = record { reply = replies.Missing; is = c.put_missing.ensures; said = λ shape list is. sym (c.entry.ensures shape list is) ∙ c.in-None.is }

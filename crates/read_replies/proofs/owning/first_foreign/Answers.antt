@@ -1,0 +1,28 @@
+use Rattle.std.proofs.Common.{rules, ◌≡◌, ◌≤◌, ◌+◌, true, false, List, drop, length, sym, ap, ◌∙◌, arith}
+use Rattle.user_dedup.specs.Cloud.{user_view}
+use Rattle.user_dedup.specs.Owning.{lacking_from}
+use Rattle.read_replies.proofs.Marks.{front_gone, lacks_here, lacks_later, none_behind}
+use Rattle.read_replies.proofs.owning.first_foreign.Goals as goal
+
+pub returns-then-not-owns-clause-value : goal.returns-then-not-owns-clause-value
+returns-then-not-owns-clause-value c = λ shape list is.
+    let own = (user_view shape list c.args.user).own in
+    let fps = c.args.fps.now in
+    let place = c.loop-place.place in
+    let lacks : c.owns.result ≡ false = search rules in
+    sym (c.loop-place.invariant shape list is ∙ ap (lacking_from own place) (front_gone fps place c.fp_at.result c.fp_at.ensures)
+    ∙ lacks_here own place c.fp_at.result (drop (place + 1) fps) (sym (c.owns.ensures shape list is) ∙ lacks))
+
+pub loop-place-preserved : goal.loop-place-preserved
+loop-place-preserved c = λ shape list is.
+    let own = (user_view shape list c.args.user).own in
+    let fps = c.args.fps.now in
+    let place = c.loop-place.place in
+    let has : c.owns.result ≡ true = search rules in
+    c.loop-place.invariant shape list is ∙ ap (lacking_from own place) (front_gone fps place c.fp_at.result c.fp_at.ensures)
+    ∙ lacks_later own place c.fp_at.result (drop (place + 1) fps) (sym (c.owns.ensures shape list is) ∙ has)
+
+pub returns-clause-value : goal.returns-clause-value
+returns-clause-value c = λ shape list is.
+    let past : length c.args.fps.now ≤ c.loop-place.place = omega arith in
+    sym (c.loop-place.invariant shape list is ∙ ap (lacking_from (user_view shape list c.args.user).own c.loop-place.place) (none_behind c.args.fps.now c.loop-place.place past))

@@ -1,0 +1,43 @@
+use Rattle.std.proofs.Common.{◌≡◌, ℕ, Option, Some, None, sym, ap, ◌∙◌}
+use Rattle.cd_base.specs.declared.ids.Fp.{Fp}
+use Rattle.messages.specs.declared.reply.Reply.TheVariants as replies
+use Rattle.messages.specs.Replies.{reply_bytes}
+use Rattle.user_dedup.specs.Cloud.{user_view}
+use Rattle.user_dedup.specs.Owning.{first_lacking}
+use Rattle.user_dedup.specs.Dedup.{shares_reply}
+use Rattle.read_replies.proofs.Along.{strings_for, all_owned}
+use Rattle.read_replies.proofs.Calling.{rotten_at}
+use Rattle.read_replies.proofs.sending.shares.Goals as goal
+
+pub returns-in-Some-clause-value : goal.returns-in-Some-clause-value
+returns-in-Some-clause-value g c = λ told header list k.
+    c.put_not_yours.ensures.spelled
+    ∙ ap (λ (o : Option ℕ). reply_bytes (shares_reply o (strings_for list c.args.fps.now))) (sym c.in-Some.is ∙ c.first_foreign.ensures.value header.shape list k.remembers)
+
+pub returns-in-Some-clause-foreign : goal.returns-in-Some-clause-foreign
+returns-in-Some-clause-foreign g c = λ shape list place is lack.
+    let e : Some c.in-Some.place ≡ Some place = sym c.in-Some.is ∙ c.first_foreign.ensures.value shape list is ∙ lack in
+    let same : c.in-Some.place ≡ place = cc in
+    c.put_not_yours.ensures.spelled ∙ ap (λ (n : ℕ). reply_bytes (replies.NotYours n)) same
+
+pub returns-in-Ok-clause-value : goal.returns-in-Ok-clause-value
+returns-in-Ok-clause-value g c = λ told header list k.
+    let own = (user_view header.shape list c.args.user).own in
+    let none : None ≡ first_lacking own c.args.fps.now = sym c.in-None.is ∙ c.first_foreign.ensures.value header.shape list k.remembers in
+    c.in-Ok.ensures.held told header list c.args.user k (all_owned own c.args.fps.now none)
+    ∙ ap (λ (o : Option ℕ). reply_bytes (shares_reply o (strings_for list c.args.fps.now))) none
+
+pub returns-in-Ok-clause-foreign : goal.returns-in-Ok-clause-foreign
+returns-in-Ok-clause-foreign g c = λ shape list place is lack.
+    absurd (let e : None ≡ Some place = sym c.in-None.is ∙ c.first_foreign.ensures.value shape list is ∙ lack in cc)
+
+pub returns-in-Err-Rotten-clause-value : goal.returns-in-Err-Rotten-clause-value
+returns-in-Err-Rotten-clause-value g c = λ told header list k.
+    let own = (user_view header.shape list c.args.user).own in
+    let none : None ≡ first_lacking own c.args.fps.now = sym c.in-None.is ∙ c.first_foreign.ensures.value header.shape list k.remembers in
+    absurd (rotten_at c.in-Err-Rotten.field-0 _ _ (λ (named found : Fp). ⊥) c.in-Err-Rotten.field-0-is
+    (c.in-Err-Rotten.ensures.whole told header list c.args.user k (all_owned own c.args.fps.now none)))
+
+pub returns-in-Err-Rotten-clause-foreign : goal.returns-in-Err-Rotten-clause-foreign
+returns-in-Err-Rotten-clause-foreign g c = λ shape list place is lack.
+    absurd (let e : None ≡ Some place = sym c.in-None.is ∙ c.first_foreign.ensures.value shape list is ∙ lack in cc)

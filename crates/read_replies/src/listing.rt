@@ -1,0 +1,134 @@
+//! The reply to List.
+
+ghost use Rattle.std.specs.Prelude.{◌≡◌, ℕ, ◌+◌, ◌*◌, ◌≤◌, List, [], ◌++◌, length, take, slice_get, IsTrue, IfSome};
+ghost use Rattle.std.specs.List.{flat_map};
+ghost use Rattle.cd_base.specs.declared.shape.Shape.{Shape};
+ghost use Rattle.message_fields.specs.Keys.{is_above, IsKey, AreKeys, key_bytes, key_limit};
+ghost use Rattle.messages.specs.declared.request.Request.TheVariants as requests;
+ghost use Rattle.messages.specs.declared.reply.Reply.TheVariants as replies;
+ghost use Rattle.messages.specs.Replies.{reply_bytes};
+ghost use Rattle.user_dedup.specs.declared.command.Command.{Command};
+ghost use Rattle.user_dedup.specs.Cloud.{user_view};
+ghost use Rattle.user_dedup.specs.Dedup.{answer_over};
+ghost use Rattle.cloud_index.specs.Memory.{Remembers, keys_above};
+ghost use Rattle.read_replies.specs.Allowed.{Replies, EntriesReply};
+
+use cd_base::{Tag, UserId, Version};
+use cloud_index::CloudIndex;
+use frames::ReplyBuf;
+use message_fields::is_key_above;
+
+// The most keys in one reply.
+const PAGE: usize = 256;
+
+// The user's least key above the last one.
+fn next_key(
+    index: &CloudIndex,
+    user: UserId,
+    last: Option<(Tag, Version)>,
+) -> Option<(Tag, Version)>
+    ensures value { (shape : Shape) (list : List Command) → Remembers shape list index.now
+        → result ≡ slice_get (keys_above (user_view shape list user).files last) 0 }
+    ensures above { IfSome result (λ key. IsTrue (is_above last key)) }
+    ensures range { IfSome result IsKey }
+{
+    match index.after(user, last) {
+        Some(key) => {
+            if is_key_above(&last, &key) {
+                Some(key)
+            } else {
+                None
+            }
+        }
+        None => None,
+    }
+}
+
+// Puts the user's least keys above the last one into the places, in order, and answers how many there are.
+fn fill(
+    index: &CloudIndex,
+    user: UserId,
+    after: Option<(Tag, Version)>,
+    keys: &mut [(Tag, Version)],
+) -> usize
+    ensures count { result ≤ length keys.old }
+    ensures rising { AreKeys after (take result keys.new) }
+    ensures value { (shape : Shape) (list : List Command) → Remembers shape list index.now
+        → take result keys.new ≡ take (length keys.old) (keys_above (user_view shape list user).files after) }
+{
+    let mut last = after;
+    for i in 0..keys.len() {
+        match next_key(index, user, last) {
+            Some(key) => {
+                keys[i] = key;
+                last = Some(key);
+            }
+            None => return i,
+        }
+    }
+    keys.len()
+}
+
+fn put_key(out: &mut ReplyBuf, key: &(Tag, Version))
+    requires { length out.old + 40 ≤ 4194304 }
+    ensures value { out.new ≡ out.old ++ key_bytes key.now }
+    ensures grows { length out.new ≡ length out.old + 40 }
+{
+    out.put(&key.0.0);
+    out.put(&key.1.0.to_be_bytes());
+}
+
+fn put_each_key(out: &mut ReplyBuf, keys: &[(Tag, Version)])
+    requires { length out.old + length keys.now * 40 ≤ 4194304 }
+    ensures { out.new ≡ out.old ++ flat_map key_bytes keys.now }
+{
+    for key in keys {
+        put_key(out, key);
+    }
+}
+
+// The reply Entries, with these keys.
+fn put_page(out: &mut ReplyBuf, keys: &[(Tag, Version)])
+    requires few { length keys.now ≤ key_limit }
+    requires empty { out.old ≡ [] }
+    ensures { out.new ≡ reply_bytes (replies.Entries keys.now) }
+{
+    out.put(&[0x8B]);
+    out.put(&(keys.len() as u16).to_be_bytes());
+    put_each_key(out, keys);
+}
+
+// The reply Entries, with as many of the keys as there are places.
+fn put_keys(
+    index: &CloudIndex,
+    user: UserId,
+    after: Option<(Tag, Version)>,
+    keys: &mut [(Tag, Version)],
+    reply: &mut ReplyBuf,
+)
+    requires { length keys.old ≡ key_limit }
+    ensures value { (shape : Shape) (cloud : ℕ) (list : List Command) → Remembers shape list index.now
+        → reply.new ≡ reply_bytes (answer_over shape cloud list (requests.List user after)).reply }
+    ensures kind { Replies reply.new (EntriesReply after) }
+{
+    let count = fill(index, user, after, keys);
+    let (page, _) = keys.split_at(count);
+    reply.clear();
+    put_page(reply, page);
+}
+
+/// The reply to List becomes the content: the user's least tags and versions above the last one, or the least of all where none
+/// is named, rising, and at most 256.
+pub fn entries(
+    index: &CloudIndex,
+    user: UserId,
+    after: Option<(Tag, Version)>,
+    reply: &mut ReplyBuf,
+)
+    ensures value { (shape : Shape) (cloud : ℕ) (list : List Command) → Remembers shape list index.now
+        → reply.new ≡ reply_bytes (answer_over shape cloud list (requests.List user after)).reply }
+    ensures kind { Replies reply.new (EntriesReply after) }
+{
+    let mut keys = [(Tag([0; 32]), Version(0)); PAGE];
+    put_keys(index, user, after, &mut keys, reply);
+}

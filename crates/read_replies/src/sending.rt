@@ -1,0 +1,229 @@
+//! The reply to GetShares.
+
+ghost use Rattle.std.specs.Prelude.{◌≡◌, ℕ, ◌+◌, ◌*◌, ◌≤◌, List, [], ◌++◌, length, map, unwrap_or, All, IsTrue, OnOk, OnErr, Some};
+ghost use Rattle.std.specs.List.{Contains, flat_map};
+ghost use Rattle.cd_base.specs.declared.ids.Fp.{Fp};
+ghost use Rattle.cd_base.specs.declared.ids.UserId.{UserId};
+ghost use Rattle.cd_base.specs.declared.shape.Shape.{Shape};
+ghost use Rattle.cd_edges.specs.declared.area.Area.TheVariants as areas;
+ghost use Rattle.cd_edges.specs.Disk.{Cloud, reads};
+ghost use Rattle.cd_edges.specs.Shelf.{IsCall, HasFailed, KeepsCounts, Stays};
+ghost use Rattle.commit_journal.specs.declared.header.Header.{Header};
+ghost use Rattle.container_log.specs.Laying.{Placed, IsAt};
+ghost use Rattle.message_fields.specs.Fingerprints.{IsBatch};
+ghost use Rattle.message_fields.specs.Shares.{IsShare, share_bytes};
+ghost use Rattle.messages.specs.declared.request.Request.TheVariants as requests;
+ghost use Rattle.messages.specs.declared.reply.Reply.TheVariants as replies;
+ghost use Rattle.messages.specs.Replies.{reply_bytes, IsReply};
+ghost use Rattle.share_index.specs.declared.key.Place.{Place};
+ghost use Rattle.user_dedup.specs.declared.command.Command.{Command};
+ghost use Rattle.user_dedup.specs.Cloud.{fingerprint, user_view, held_string};
+ghost use Rattle.user_dedup.specs.Owning.{first_lacking};
+ghost use Rattle.user_dedup.specs.Dedup.{answer_over};
+ghost use Rattle.cloud_index.specs.Memory.{Remembers};
+ghost use Rattle.read_replies.specs.Allowed.{Replies, SharesReply};
+ghost use Rattle.read_replies.specs.Keeping.{Keeps, found_at, IsFoundShare};
+ghost use Rattle.read_replies.specs.Steps.{HasRead, IfRotten, SentOne, Sent};
+
+use crate::blobs::{Stop, nothing_at, read_blob};
+use crate::fixed::{put_head, put_not_yours, put_rotten};
+use crate::owning::{first_foreign, fp_at};
+use cd_base::{CloudNo, Fp, UserId};
+use cd_edges::{Failed, Shelf};
+use cloud_index::CloudIndex;
+use container_log::Log;
+use frames::ReplyBuf;
+use message_fields::FpsView;
+use share_index::Place;
+
+// Puts the share of this length and fingerprint that lies at a place. Rotten comes where another lies there.
+fn put_from<V: Shelf>(
+    log: &mut Log,
+    shelf: &mut V,
+    cloud: CloudNo,
+    place: Place,
+    fp: &Fp,
+    buffer: &mut [u8],
+    reply: &mut ReplyBuf,
+) -> Result<(), Stop>
+    requires some { 1 ≤ place.len }
+    requires few { place.len ≤ 8208 }
+    requires buffer { 8208 ≤ length buffer.old }
+    requires room { length reply.old + 8212 ≤ 4194304 }
+    ensures ok { OnOk result (SentOne fp.now reply.old reply.new) }
+    ensures named { IfRotten result (λ named found. named ≡ fp.now) }
+    ensures found { IsTrue (V.cloud_at shelf.old cloud.0).told
+        → IfRotten result (λ named found. found ≡ found_at ((V.cloud_at shelf.old cloud.0).now log.old.area).read place.at place.len) }
+    ensures whole { IsTrue (V.cloud_at shelf.old cloud.0).told → (b : Placed) → b.place ≡ place.at → length b.blob ≡ place.len → fingerprint b.blob ≡ fp.now
+        → IsAt ((V.cloud_at shelf.old cloud.0).now log.old.area).read b → IfRotten result (λ named found. ⊥) }
+    ensures blob { IsTrue (V.cloud_at shelf.old cloud.0).told → (b : Placed) → b.place ≡ place.at → length b.blob ≡ place.len → fingerprint b.blob ≡ fp.now
+        → IsAt ((V.cloud_at shelf.old cloud.0).now log.old.area).read b → OnOk result (reply.new ≡ reply.old ++ share_bytes b.blob) }
+    ensures log { log.new ≡ log.old }
+    ensures reads { HasRead (V.cloud_at shelf.old) (V.cloud_at shelf.new) cloud.0 (V.faults shelf.old) (V.faults shelf.new) result }
+{
+    let (share, _) = buffer.split_at_mut(place.len as usize);
+    match read_blob(log, shelf, cloud, place.at, fp, share) {
+        Ok(()) => {
+            reply.put(&place.len.to_be_bytes());
+            reply.put(share);
+            Ok(())
+        }
+        Err(stop) => Err(stop),
+    }
+}
+
+// The same of a place that may be none, or of a length that no share has: nothing is found there then.
+fn put_share<V: Shelf>(
+    log: &mut Log,
+    shelf: &mut V,
+    cloud: CloudNo,
+    place: Option<Place>,
+    fp: &Fp,
+    buffer: &mut [u8],
+    reply: &mut ReplyBuf,
+) -> Result<(), Stop>
+    requires buffer { 8208 ≤ length buffer.old }
+    requires room { length reply.old + 8212 ≤ 4194304 }
+    ensures ok { OnOk result (SentOne fp.now reply.old reply.new) }
+    ensures named { IfRotten result (λ named found. named ≡ fp.now) }
+    ensures found { IsTrue (V.cloud_at shelf.old cloud.0).told → (p : Place) → place ≡ Some p → 1 ≤ p.len → p.len ≤ 8208
+        → IfRotten result (λ named found. found ≡ found_at ((V.cloud_at shelf.old cloud.0).now log.old.area).read p.at p.len) }
+    ensures whole { IsTrue (V.cloud_at shelf.old cloud.0).told → (p : Place) → place ≡ Some p → (b : Placed) → b.place ≡ p.at → length b.blob ≡ p.len → IsShare b.blob
+        → fingerprint b.blob ≡ fp.now → IsAt ((V.cloud_at shelf.old cloud.0).now log.old.area).read b → IfRotten result (λ named found. ⊥) }
+    ensures blob { IsTrue (V.cloud_at shelf.old cloud.0).told → (p : Place) → place ≡ Some p → (b : Placed) → b.place ≡ p.at → length b.blob ≡ p.len → IsShare b.blob
+        → fingerprint b.blob ≡ fp.now → IsAt ((V.cloud_at shelf.old cloud.0).now log.old.area).read b → OnOk result (reply.new ≡ reply.old ++ share_bytes b.blob) }
+    ensures log { log.new ≡ log.old }
+    ensures reads { HasRead (V.cloud_at shelf.old) (V.cloud_at shelf.new) cloud.0 (V.faults shelf.old) (V.faults shelf.new) result }
+{
+    match place {
+        Some(place) => {
+            if 1 <= place.len && place.len <= 8208 {
+                match put_from(log, shelf, cloud, place, fp, buffer, reply) {
+                    Ok(()) => Ok(()),
+                    Err(stop) => Err(stop),
+                }
+            } else {
+                Err(nothing_at(fp))
+            }
+        }
+        None => Err(nothing_at(fp)),
+    }
+}
+
+// Puts the share of each fingerprint, by one device call each, up to the first that isn't there.
+fn put_each<V: Shelf>(
+    index: &CloudIndex,
+    log: &mut Log,
+    shelf: &mut V,
+    cloud: CloudNo,
+    fps: &FpsView<'_>,
+    buffer: &mut [u8],
+    reply: &mut ReplyBuf,
+) -> Result<(), Stop>
+    requires area { log.old.area ≡ areas.Shares }
+    requires buffer { 8208 ≤ length buffer.old }
+    requires room { length reply.old + length fps.now * 8212 ≤ 4194304 }
+    ensures ok { OnOk result (Sent fps.now reply.old reply.new) }
+    ensures rotten { IfRotten result (λ named found. Contains fps.now named × IsFoundShare (V.cloud_at shelf.old cloud.0) index.now named found) }
+    ensures whole { IsTrue (V.cloud_at shelf.old cloud.0).told → (header : Header) (list : List Command) (user : UserId)
+        → Keeps (reads (V.cloud_at shelf.old cloud.0).now) header list index.now → All (Contains (user_view header.shape list user).own) fps.now
+        → IfRotten result (λ named found. ⊥) }
+    ensures held { IsTrue (V.cloud_at shelf.old cloud.0).told → (header : Header) (list : List Command) (user : UserId)
+        → Keeps (reads (V.cloud_at shelf.old cloud.0).now) header list index.now → All (Contains (user_view header.shape list user).own) fps.now
+        → OnOk result (reply.new ≡ reply.old ++ flat_map share_bytes (map (λ fp. unwrap_or (held_string list fp) []) fps.now)) }
+    ensures log { log.new ≡ log.old }
+    ensures reads { HasRead (V.cloud_at shelf.old) (V.cloud_at shelf.new) cloud.0 (V.faults shelf.old) (V.faults shelf.new) result }
+{
+    for place in 0..fps.len() {
+        let fp = fp_at(fps, place);
+        let at = index.place_of(&fp);
+        match put_share(log, shelf, cloud, at, &fp, buffer, reply) {
+            Ok(()) => {}
+            Err(stop) => return Err(stop),
+        }
+    }
+    Ok(())
+}
+
+// The reply Shares, with the share of each fingerprint, or else why one isn't there.
+fn put_shares<V: Shelf>(
+    index: &CloudIndex,
+    log: &mut Log,
+    shelf: &mut V,
+    cloud: CloudNo,
+    fps: &FpsView<'_>,
+    buffer: &mut [u8],
+    reply: &mut ReplyBuf,
+) -> Result<(), Stop>
+    requires batch { IsBatch fps.now }
+    requires area { log.old.area ≡ areas.Shares }
+    requires buffer { 8208 ≤ length buffer.old }
+    ensures ok { OnOk result (Replies reply.new (SharesReply fps.now (IsFoundShare (V.cloud_at shelf.old cloud.0) index.now))) }
+    ensures rotten { IfRotten result (λ named found. Contains fps.now named × IsFoundShare (V.cloud_at shelf.old cloud.0) index.now named found) }
+    ensures whole { IsTrue (V.cloud_at shelf.old cloud.0).told → (header : Header) (list : List Command) (user : UserId)
+        → Keeps (reads (V.cloud_at shelf.old cloud.0).now) header list index.now → All (Contains (user_view header.shape list user).own) fps.now
+        → IfRotten result (λ named found. ⊥) }
+    ensures held { IsTrue (V.cloud_at shelf.old cloud.0).told → (header : Header) (list : List Command) (user : UserId)
+        → Keeps (reads (V.cloud_at shelf.old cloud.0).now) header list index.now → All (Contains (user_view header.shape list user).own) fps.now
+        → OnOk result (reply.new ≡ reply_bytes (replies.Shares (map (λ fp. unwrap_or (held_string list fp) []) fps.now))) }
+    ensures log { log.new ≡ log.old }
+    ensures reads { HasRead (V.cloud_at shelf.old) (V.cloud_at shelf.new) cloud.0 (V.faults shelf.old) (V.faults shelf.new) result }
+{
+    put_head(reply, 0x89, fps.len());
+    match put_each(index, log, shelf, cloud, fps, buffer, reply) {
+        Ok(()) => Ok(()),
+        Err(stop) => Err(stop),
+    }
+}
+
+/// The reply to GetShares becomes the content. Where the user doesn't own each fingerprint it is NotYours, with the place of the
+/// first, and no device call is made. Else it is Shares, with the share of each fingerprint, read by one device call each and
+/// compared with the fingerprint; or Rotten where fewer bytes lie there than were kept, or others. Rotten names the fingerprint,
+/// and that of what was found.
+///
+/// Over a told cloud whose areas have the list that the memory has, it is the reply of that list. Failed comes only where the
+/// cloud's count of faults rose; nothing is known of the content then. The cloud's areas stay in any case.
+///
+/// It asks for 1 to 256 fingerprints, the log of the shares, and a buffer of 8,208 bytes at least, and takes no memory.
+pub fn shares<V: Shelf>(
+    index: &CloudIndex,
+    log: &mut Log,
+    shelf: &mut V,
+    cloud: CloudNo,
+    user: UserId,
+    fps: &FpsView<'_>,
+    buffer: &mut [u8],
+    reply: &mut ReplyBuf,
+) -> Result<(), Failed>
+    requires batch { IsBatch fps.now }
+    requires area { log.old.area ≡ areas.Shares }
+    requires buffer { 8208 ≤ length buffer.old }
+    ensures value { IsTrue (V.cloud_at shelf.old cloud.0).told → (header : Header) (list : List Command)
+        → Keeps (reads (V.cloud_at shelf.old cloud.0).now) header list index.now
+        → OnOk result (reply.new ≡ reply_bytes (answer_over header.shape header.cloud.0 list (requests.GetShares user fps.now)).reply) }
+    ensures kind { OnOk result (Replies reply.new (SharesReply fps.now (IsFoundShare (V.cloud_at shelf.old cloud.0) index.now))) }
+    ensures foreign { (shape : Shape) (list : List Command) (place : ℕ) → Remembers shape list index.now
+        → first_lacking (user_view shape list user).own fps.now ≡ Some place → OnOk result (reply.new ≡ reply_bytes (replies.NotYours place)) }
+    ensures log { log.new ≡ log.old }
+    ensures stays { Stays (V.cloud_at shelf.old cloud.0) (V.cloud_at shelf.new cloud.0) }
+    ensures call { IsCall (V.cloud_at shelf.old) (V.cloud_at shelf.new) cloud.0 (V.faults shelf.old) (V.faults shelf.new) }
+    ensures failed { OnErr result (HasFailed (V.cloud_at shelf.old cloud.0) (V.cloud_at shelf.new cloud.0) (V.faults shelf.old) (V.faults shelf.new)) }
+    ensures uncounted { OnOk result (KeepsCounts (V.cloud_at shelf.old cloud.0) (V.cloud_at shelf.new cloud.0) (V.faults shelf.old) (V.faults shelf.new)) }
+{
+    match first_foreign(index, user, fps) {
+        Some(place) => {
+            reply.clear();
+            put_not_yours(reply, place);
+            Ok(())
+        }
+        None => match put_shares(index, log, shelf, cloud, fps, buffer, reply) {
+            Ok(()) => Ok(()),
+            Err(Stop::Failed) => Err(Failed),
+            Err(Stop::Rotten { named, found }) => {
+                reply.clear();
+                put_rotten(reply, named, found);
+                Ok(())
+            }
+        },
+    }
+}
