@@ -1,5 +1,5 @@
 -- Shares that are put one after another.
-use Rattle.std.proofs.Common.{◌≡◌, ℕ, ◌+◌, ◌*◌, ◌<◌, ◌≤◌, List, [], ◌∷◌, ◌++◌, length, map, take, Option, Some, None, Ok, Err, OnOk, IsTrue, refl, sym, ap, ◌∙◌, subst, arith, append-nil, append_assoc, length-append}
+use Rattle.std.proofs.Common.{◌≡◌, ℕ, ◌+◌, ◌*◌, ◌≤◌, List, [], ◌∷◌, ◌++◌, length, map, take, Option, Some, None, Ok, Err, IsTrue, refl, sym, ap, ◌∙◌, subst, arith, append-nil, append_assoc, length-append}
 use Rattle.std.specs.Prelude.{All, unwrap_or, slice_get}
 use Rattle.std.specs.List.{Contains, flat_map}
 use Rattle.std.proofs.lemmas.List.{map_push, length-map}
@@ -29,7 +29,6 @@ use Rattle.cd_base.specs.declared.shape.Shape.{Shape}
 use Rattle.cloud_store.specs.Contents.{strings_in, place_in}
 use Rattle.cloud_index.specs.declared.index.CloudIndex.{CloudIndex}
 use Rattle.cloud_index.specs.Memory.{Remembers}
-use Rattle.read_replies.specs.declared.blobs.Stop.{Stop}
 use Rattle.read_replies.specs.declared.blobs.Stop.TheVariants as stops
 use Rattle.read_replies.specs.Keeping.{Keeps, found_at, IsFoundShare}
 use Rattle.read_replies.specs.Steps.{IfRotten, OnlyRead, HasRead, SentOne, Sent}

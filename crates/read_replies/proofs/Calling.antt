@@ -1,11 +1,10 @@
 -- Reading calls, one after another, and what they found.
-use Rattle.std.proofs.Common.{◌≡◌, ℕ, ◌+◌, ◌-◌, ◌<◌, ◌≤◌, List, length, take, drop, get_or, Result, Ok, Err, OnOk, IfErr, refl, sym, ap, ◌∙◌, subst, arith, length-take, length-drop, get_or-take}
+use Rattle.std.proofs.Common.{◌≡◌, ℕ, ◌<◌, List, length, take, drop, Result, Ok, Err, OnOk, IfErr, refl, sym, ap, ◌∙◌, subst, arith, length-take, length-drop, get_or-take}
 use Rattle.std.proofs.lemmas.List.{ext_get_or}
 use Rattle.cd_base.specs.declared.ids.Fp.{Fp}
 use Rattle.cd_edges.specs.Disk.{Cloud}
 use Rattle.cd_edges.specs.Shelf.{IsCall, HasFailed, KeepsCounts, Stays, ReadsFrom}
 use Rattle.cd_edges.proofs.Calls.{called_twice, failed_after}
-use Rattle.user_dedup.specs.Cloud.{fingerprint}
 use Rattle.read_replies.specs.declared.blobs.Stop.{Stop}
 use Rattle.read_replies.specs.declared.blobs.Stop.TheVariants as stops
 use Rattle.read_replies.specs.Steps.{IfRotten, OnFailed, UnlessFailed, OnlyRead, HasRead}

@@ -1,6 +1,5 @@
 -- Where the shares and recipes of a list lie that a cloud's areas have.
-use Rattle.std.proofs.Common.{◌≡◌, ℕ, ◌≤◌, List, [], ◌∷◌, length, map, Option, Some, None, refl, sym, ap, ◌∙◌, subst, arith}
-use Rattle.std.specs.Prelude.{All}
+use Rattle.std.proofs.Common.{◌≡◌, ℕ, ◌≤◌, List, length, Option, Some, None, refl, sym, ap, ◌∙◌, arith}
 use Rattle.std.specs.List.{Contains, flat_map}
 use Rattle.std.proofs.lemmas.List.Elements.{All-contains}
 use Rattle.cd_base.specs.declared.ids.Fp.{Fp}
@@ -11,15 +10,13 @@ use Rattle.cd_base.specs.declared.shape.Shape.{Shape}
 use Rattle.cd_edges.specs.declared.area.Area.TheVariants.{Shares, Recipes}
 use Rattle.cd_edges.specs.Disk.{Image}
 use Rattle.commit_journal.specs.declared.header.Header.{Header}
-use Rattle.container_log.specs.Laying.{Placed, placed, IsAt}
+use Rattle.container_log.specs.Laying.{placed, IsAt}
 use Rattle.file_index.specs.declared.key.Entry.{Entry}
 use Rattle.file_index.specs.Files.{key_of}
 use Rattle.message_fields.specs.Shares.{IsShare}
-use Rattle.messages.specs.declared.reply.Reply.{Reply}
 use Rattle.messages.specs.declared.reply.Reply.TheVariants as replies
 use Rattle.share_index.specs.declared.key.Place.{Place}
 use Rattle.user_dedup.specs.declared.command.Command.{Command}
-use Rattle.user_dedup.specs.declared.file_list.FileEntry.{FileEntry}
 use Rattle.user_dedup.specs.Cloud.{fingerprint, user_view, strings_of, held_string}
 use Rattle.user_dedup.specs.Pages.{entry_at}
 use Rattle.user_dedup.specs.Dedup.{IsSound, recipe_reply}

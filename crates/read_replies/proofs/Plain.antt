@@ -1,7 +1,6 @@
 -- Each reply that may come is one for its request.
-use Rattle.std.proofs.Common.{◌≡◌, ℕ, ◌<◌, List, length, map, Option, ap, sym, ◌∙◌}
+use Rattle.std.proofs.Common.{◌≡◌, ℕ, List, length, Option, ap, sym, ◌∙◌}
 use Rattle.std.proofs.lemmas.List.{length-map}
-use Rattle.std.specs.List.{Contains}
 use Rattle.cd_base.specs.declared.ids.Fp.{Fp}
 use Rattle.cd_base.specs.declared.ids.Tag.{Tag}
 use Rattle.cd_base.specs.declared.ids.UserId.{UserId}

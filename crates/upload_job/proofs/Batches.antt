@@ -6,7 +6,7 @@ use Rattle.std.proofs.lemmas.List.Concat.{flat_map-cons}
 use Rattle.std.specs.Prelude.{slice_get}
 use Rattle.message_fields.specs.Fingerprints.{IsBatch}
 use Rattle.upload_job.specs.Upload.{batches_from, in_batches}
-use Rattle.upload_job.specs.Lane.{LaneState, Asking, Committing, onward}
+use Rattle.upload_job.specs.Lane.{Asking, Committing, onward}
 
 batches-nil : {A : Type 0} (n : ℕ) → batches_from {A = A} n [] ≡ []
 batches-nil zero = refl

@@ -1,6 +1,6 @@
 -- The lanes of a new job.
-use Rattle.std.proofs.Common.{◌≡◌, ℕ, zero, suc, ◌+◌, ◌-◌, ◌<◌, ◌≤◌, List, [], ◌∷◌, ◌++◌, length, map, take, drop, get_or, refl, sym, ap, ◌∙◌, subst, arith, inl, inr}
-use Rattle.std.specs.List.{flat_map, range_with_len}
+use Rattle.std.proofs.Common.{◌≡◌, ℕ, zero, suc, ◌+◌, ◌<◌, ◌≤◌, List, [], ◌∷◌, ◌++◌, length, map, take, drop, get_or, refl, sym, ap, ◌∙◌, subst, arith, inl, inr}
+use Rattle.std.specs.List.{flat_map}
 use Rattle.std.proofs.Math.Seq.{take-append_seam, drop-append_seam, get_or-append_seam}
 use Rattle.std.proofs.lemmas.Bool.{cases_lt}
 use Rattle.std.proofs.lemmas.List.{length-map, length-append, get_or_default, get_or_append_left}
@@ -12,20 +12,16 @@ use Rattle.cd_base.specs.declared.shape.Shape.{Shape}
 use Rattle.cd_base.specs.Lengths.{share_len_of}
 use Rattle.caont_rs.specs.Package.{share, tag}
 use Rattle.caont_rs.proofs.Opened.{length-share}
-use Rattle.recipe.specs.declared.items.Item.{Item}
-use Rattle.recipe.specs.Spelling.{spelling}
 use Rattle.file_recipe.specs.declared.cloud_file.CloudFile.{CloudFile}
-use Rattle.file_recipe.specs.FileRecipe.{secrets, shares_at, item_of, recipe_of, recipe_bytes}
+use Rattle.file_recipe.specs.FileRecipe.{secrets, shares_at, item_of}
 use Rattle.file_recipe.specs.Clouds.{cloud_file, dispersed}
 use Rattle.file_recipe.proofs.Secrets.{IsSecret, secret_at, secrets_few}
 use Rattle.user_dedup.specs.Owning.{new_strings}
 use Rattle.upload_job.specs.declared.lane.FileKey.{FileKey}
 use Rattle.upload_job.specs.declared.lane.Lane.{Lane}
-use Rattle.upload_job.specs.declared.lane.Stage.{Stage}
-use Rattle.upload_job.specs.Upload.{FileVersion, Work, work_of, wanted_for, in_batches}
-use Rattle.upload_job.specs.Lane.{LaneState, beginning}
+use Rattle.upload_job.specs.Upload.{FileVersion, work_of, wanted_for}
 use Rattle.upload_job.specs.Lanes.{LaneView, begun, lanes_begun}
-use Rattle.upload_job.specs.Index.{AreIn, AreNamed, AreLanes, IsBegun, EachNamed, EachBegun, pieces, shares_in, state_in, lane_in, lanes_in}
+use Rattle.upload_job.specs.Index.{AreNamed, AreLanes, IsBegun, EachNamed, EachBegun, pieces, shares_in, lane_in, lanes_in}
 use Rattle.upload_job.proofs.Laning.{length-lanes_in}
 
 -- ---- one lane after the other

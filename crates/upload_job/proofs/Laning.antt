@@ -1,5 +1,5 @@
 -- The lanes of a job, as contracts see them.
-use Rattle.std.proofs.Common.{◌≡◌, ◌↔◌, ℕ, zero, suc, ◌+◌, ◌-◌, ◌<◌, ◌≤◌, Bool, true, false, List, [], ◌∷◌, ◌++◌, length, get_or, set, drop, Some, None, Option, Result, refl, sym, ap, ◌∙◌, subst, arith}
+use Rattle.std.proofs.Common.{◌≡◌, ◌↔◌, ℕ, zero, suc, ◌<◌, Bool, true, false, List, [], ◌∷◌, length, get_or, set, drop, Some, None, Option, Result, refl, sym, ap, ◌∙◌, subst, arith}
 use Rattle.std.specs.Prelude.{All, IsSome, slice_get}
 use Rattle.std.proofs.lemmas.List.{get_or_default}
 use Rattle.std.proofs.lemmas.List.Elements.{All-nil, All-cons}
@@ -11,8 +11,8 @@ use Rattle.upload_job.specs.declared.lane.Stage.{Stage}
 use Rattle.upload_job.specs.declared.lane.Stage.TheVariants as stages
 use Rattle.upload_job.specs.declared.news.LaneNews.{LaneNews}
 use Rattle.upload_job.specs.declared.news.LaneErr.{LaneErr}
-use Rattle.upload_job.specs.Upload.{Work, in_batches}
-use Rattle.upload_job.specs.Lane.{LaneState, Asking, Committing, Done, Refused, onward, lane_request}
+use Rattle.upload_job.specs.Upload.{in_batches}
+use Rattle.upload_job.specs.Lane.{LaneState, Done, onward, lane_request}
 use Rattle.upload_job.specs.Lanes.{LaneView, request_at, IsAsked, Answers, AnswersAt}
 use Rattle.upload_job.specs.Index.{AreIn, AreLanes, shares_in, work_in, lane_in, lanes_in, state_in, moved_to, next_in}
 

@@ -1,21 +1,18 @@
 -- Which content answers a lane.
-use Rattle.std.proofs.Common.{◌≡◌, ℕ, ◌+◌, ◌<◌, ◌≤◌, List, [], ◌∷◌, ◌++◌, length, Some, None, Ok, Err, Result, Option, refl, sym, ap, ◌∙◌, subst, arith, length-append}
+use Rattle.std.proofs.Common.{ℕ, ◌<◌, ◌≤◌, List, length, Some, None, Result, Option, refl, sym, ap, ◌∙◌, subst, arith, length-append}
 use Rattle.cd_base.specs.declared.ids.Tag.{Tag}
 use Rattle.cd_base.specs.declared.ids.Version.{Version}
 use Rattle.messages.specs.declared.reply.Reply.{Reply}
 use Rattle.messages.specs.declared.reply.Reply.TheVariants as replies
-use Rattle.messages.specs.Replies.{reply_bytes, FitsReply, IsReply}
+use Rattle.messages.specs.Replies.{reply_bytes, FitsReply}
 use Rattle.upload_job.specs.declared.lane.Step.{Step}
 use Rattle.upload_job.specs.declared.turn.Turn.{Turn}
-use Rattle.upload_job.specs.declared.lane.Stage.{Stage}
-use Rattle.upload_job.specs.declared.lane.Stage.TheVariants as stages
 use Rattle.upload_job.specs.declared.news.LaneNews.{LaneNews}
 use Rattle.upload_job.specs.declared.news.LaneErr.{LaneErr}
-use Rattle.upload_job.specs.declared.news.LaneErr.TheVariants as errors
 use Rattle.upload_job.specs.Upload.{Work}
 use Rattle.upload_job.specs.Lane.{LaneState, Asking, Sending, Committing, Done, Refused, IsAnswer}
-use Rattle.upload_job.specs.Lanes.{LaneView, Says, Answers, first_byte}
-use Rattle.upload_job.specs.Index.{IsOneReply, IsNoReply, IsReplyRead, StepIs, TurnsBy, state_in, next_in}
+use Rattle.upload_job.specs.Lanes.{LaneView, Says, Answers}
+use Rattle.upload_job.specs.Index.{IsOneReply, IsNoReply, StepIs, TurnsBy, next_in}
 
 no_recipe : (w : Work) (state : LaneState) (bytes : List ℕ) → IsAnswer w state (replies.Recipe bytes) → ⊥
 no_recipe w (Asking batch rest) bytes h = h

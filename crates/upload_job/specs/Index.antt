@@ -1,5 +1,5 @@
 -- How a job keeps its lanes: where the wanted shares lie, and up to which of them the lane has come.
-use Rattle.std.specs.Prelude.{◌≡◌, ℕ, ◌+◌, ◌<◌, ◌≤◌, Bool, true, false, List, [], ◌∷◌, ◌++◌, length, map, take, drop, slice_range, slice_index_or, All, Option, Some, None, Result, Ok, Err}
+use Rattle.std.specs.Prelude.{◌≡◌, ℕ, ◌+◌, ◌<◌, ◌≤◌, Bool, true, false, List, [], ◌∷◌, ◌++◌, length, map, take, drop, slice_range, slice_index_or, All, Option, Some, None, Ok, Err}
 use Rattle.cd_base.specs.Lengths.{share_len_of}
 use Rattle.message_fields.specs.Fingerprints.{batch_limit}
 use Rattle.message_fields.specs.Shares.{share_limit}

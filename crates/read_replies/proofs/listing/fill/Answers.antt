@@ -1,5 +1,5 @@
-use Rattle.std.proofs.Common.{◌≡◌, ℕ, ◌<◌, ◌≤◌, List, Some, length, take, sym, ap, ◌∙◌, subst, arith, length-take}
-use Rattle.std.proofs.lemmas.List.{take_all, take_more_set}
+use Rattle.std.proofs.Common.{◌≡◌, ℕ, ◌<◌, List, Some, length, take, sym, ap, ◌∙◌, subst, arith, length-take}
+use Rattle.std.proofs.lemmas.List.{take_more_set}
 use Rattle.cd_base.specs.declared.ids.Tag.{Tag}
 use Rattle.cd_base.specs.declared.ids.Version.{Version}
 use Rattle.message_fields.specs.Keys.{AreKeys}

@@ -1,4 +1,4 @@
-use Rattle.std.proofs.Common.{rules, ◌≡◌, ◌≤◌, ◌+◌, true, false, List, drop, length, sym, ap, ◌∙◌, arith}
+use Rattle.std.proofs.Common.{rules, ◌≡◌, ◌≤◌, ◌+◌, true, false, drop, length, sym, ap, ◌∙◌, arith}
 use Rattle.user_dedup.specs.Cloud.{user_view}
 use Rattle.user_dedup.specs.Owning.{lacking_from}
 use Rattle.read_replies.proofs.Marks.{front_gone, lacks_here, lacks_later, none_behind}

@@ -1,5 +1,4 @@
 use Rattle.std.proofs.Common.{ap, sym, ◌∙◌, cond, arith}
-use Rattle.read_replies.specs.Steps.{IsMark}
 use Rattle.read_replies.proofs.owning.mark_of.Goals as goal
 
 pub returns-then-owns : goal.returns-then-owns

@@ -1,4 +1,4 @@
-use Rattle.std.proofs.Common.{◌≡◌, ℕ, ◌≤◌, List, ◌++◌, ◌+◌, ◌∷◌, [], take, length, sym, ap, subst, ◌∙◌, arith, append-nil, append_assoc, length-append, length-take}
+use Rattle.std.proofs.Common.{ℕ, ◌≤◌, List, ◌++◌, ◌∷◌, [], take, length, sym, ap, subst, ◌∙◌, arith, append-nil, append_assoc, length-append, length-take}
 use Rattle.std.proofs.lemmas.Option.{slice_get_within}
 use Rattle.std.proofs.lemmas.List.{take_all}
 use Rattle.cd_base.specs.declared.ids.Fp.{Fp}

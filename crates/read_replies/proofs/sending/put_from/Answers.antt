@@ -1,4 +1,4 @@
-use Rattle.std.proofs.Common.{rules, ◌≡◌, ℕ, List, length, ◌++◌, sym, ap, ◌∙◌, arith}
+use Rattle.std.proofs.Common.{◌≡◌, ℕ, List, length, ◌++◌, ap, ◌∙◌, arith}
 use Rattle.message_fields.specs.Shares.{share_bytes}
 use Rattle.read_replies.proofs.Along.{put_one, sent_one}
 use Rattle.read_replies.proofs.sending.put_from.Goals as goal

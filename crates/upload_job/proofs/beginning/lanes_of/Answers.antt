@@ -1,4 +1,4 @@
-use Rattle.std.proofs.Common.{◌≡◌, ◌∙◌, arith}
+use Rattle.std.proofs.Common.{arith}
 use Rattle.upload_job.proofs.Begun.{begun_more}
 use Rattle.upload_job.proofs.beginning.lanes_of.Goals as goal
 

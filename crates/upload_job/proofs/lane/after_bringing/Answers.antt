@@ -1,6 +1,5 @@
-use Rattle.std.proofs.Common.{◌≡◌, ℕ, ◌+◌, ◌<◌, ◌≤◌, List, length, take, drop, min, refl, sym, ap, ◌∙◌, subst, arith}
-use Rattle.upload_job.specs.Upload.{in_batches}
-use Rattle.upload_job.specs.Lane.{LaneState, Asking, Committing}
+use Rattle.std.proofs.Common.{◌≡◌, ◌<◌, ◌≤◌, length, take, drop, sym, ap, ◌∙◌, subst, arith}
+use Rattle.upload_job.specs.Lane.{LaneState}
 use Rattle.upload_job.specs.Index.{StepIs}
 use Rattle.upload_job.proofs.Batches.{onward_some, onward_none, batch_len, batch_few, next_batch}
 use Rattle.upload_job.proofs.lane.after_bringing.Goals as goal

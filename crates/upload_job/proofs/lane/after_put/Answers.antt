@@ -1,6 +1,5 @@
-use Rattle.std.proofs.Common.{◌≡◌, ℕ, ◌+◌, ◌<◌, ◌≤◌, List, length, take, drop, refl, sym, ap, ◌∙◌, subst, arith}
+use Rattle.std.proofs.Common.{sym, subst}
 use Rattle.messages.specs.declared.reply.Reply.{Reply}
-use Rattle.upload_job.specs.Upload.{in_batches}
 use Rattle.upload_job.specs.Lane.{Sending}
 use Rattle.upload_job.specs.Index.{StepIs}
 use Rattle.upload_job.proofs.lane.after_put.Goals as goal

@@ -1,4 +1,4 @@
-use Rattle.std.proofs.Common.{◌≡◌, ℕ, ◌+◌, ◌<◌, ◌≤◌, List, length, take, drop, refl, sym, ap, ◌∙◌, subst, arith}
+use Rattle.std.proofs.Common.{take, drop, sym, subst}
 use Rattle.messages.specs.declared.reply.Reply.{Reply}
 use Rattle.upload_job.specs.Upload.{in_batches}
 use Rattle.upload_job.specs.Lane.{Asking}

@@ -1,4 +1,4 @@
-use Rattle.std.proofs.Common.{◌≡◌, ℕ, ◌+◌, ◌<◌, ◌≤◌, List, length, take, drop, min, refl, sym, ap, ◌∙◌, subst, arith}
+use Rattle.std.proofs.Common.{◌≡◌, length, take, drop, sym, ap, ◌∙◌, arith}
 use Rattle.upload_job.specs.Upload.{in_batches}
 use Rattle.upload_job.proofs.Batches.{batch_len, batch_few, next_batch}
 use Rattle.upload_job.proofs.lane.after_sending.Goals as goal

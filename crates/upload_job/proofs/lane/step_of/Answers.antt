@@ -1,7 +1,6 @@
-use Rattle.std.proofs.Common.{◌≡◌, ℕ, ◌+◌, ◌<◌, ◌≤◌, List, length, take, drop, min, refl, sym, ap, ◌∙◌, subst, arith}
+use Rattle.std.proofs.Common.{ℕ, List, sym, ◌∙◌, subst}
 use Rattle.upload_job.specs.declared.lane.Stage.{Stage}
 use Rattle.upload_job.specs.declared.lane.Stage.TheVariants as stages
-use Rattle.upload_job.specs.Upload.{in_batches}
 use Rattle.upload_job.specs.Index.{StepIs, state_in}
 use Rattle.upload_job.proofs.lane.step_of.Goals as goal
 

@@ -1,4 +1,4 @@
-use Rattle.std.proofs.Common.{◌≡◌, ℕ, ◌+◌, ◌<◌, ◌≤◌, ◌++◌, Bool, true, List, [], length, map, take, drop, min, refl, sym, ap, ◌∙◌, subst, arith, get_or, Some}
+use Rattle.std.proofs.Common.{◌≡◌, ℕ, ◌<◌, ◌≤◌, true, List, length, map, take, drop, refl, sym, ap, ◌∙◌, subst, arith}
 use Rattle.std.proofs.lemmas.Result.{on_ok_weaker}
 use Rattle.std.proofs.lemmas.List.{length-map}
 use Rattle.std.proofs.lemmas.List.Elements.{All-take, All-drop}
@@ -7,11 +7,9 @@ use Rattle.messages.specs.Requests.{request_bytes}
 use Rattle.messages.specs.declared.request.Request.TheVariants.{Query, Commit}
 use Rattle.user_dedup.specs.Cloud.{fingerprint}
 use Rattle.upload_job.specs.declared.wanted.Wanted.{Wanted}
-use Rattle.upload_job.specs.declared.lane.Stage.{Stage}
-use Rattle.upload_job.specs.Upload.{in_batches}
 use Rattle.upload_job.specs.Lane.{LaneState, lane_request}
 use Rattle.upload_job.specs.Lanes.{IsAsked}
-use Rattle.upload_job.specs.Index.{IsIn, AreIn, share_in, shares_in, work_in, state_in}
+use Rattle.upload_job.specs.Index.{IsIn, share_in, shares_in, work_in}
 use Rattle.upload_job.proofs.Batches.{onward_some, onward_none, batch_few}
 use Rattle.upload_job.proofs.Sending.{batch_fps, into_none}
 use Rattle.upload_job.proofs.requests.put_bringing.Goals as goal

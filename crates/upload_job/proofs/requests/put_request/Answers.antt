@@ -1,14 +1,12 @@
-use Rattle.std.proofs.Common.{◌≡◌, ℕ, ◌+◌, ◌<◌, ◌≤◌, ◌++◌, Bool, true, List, [], length, map, take, drop, min, refl, sym, ap, ◌∙◌, subst, arith, get_or, Some}
+use Rattle.std.proofs.Common.{◌≡◌, ℕ, true, List, length, take, drop, refl, sym, ap, ◌∙◌, subst, arith}
 use Rattle.std.proofs.lemmas.List.Elements.{All-take, All-drop}
 use Rattle.messages.specs.Requests.{request_bytes}
 use Rattle.messages.specs.declared.request.Request.TheVariants.{Put}
 use Rattle.upload_job.specs.declared.wanted.Wanted.{Wanted}
 use Rattle.upload_job.specs.declared.lane.Stage.{Stage}
-use Rattle.upload_job.specs.declared.lane.Stage.TheVariants as stages
-use Rattle.upload_job.specs.Upload.{in_batches}
-use Rattle.upload_job.specs.Lane.{LaneState, lane_request, unflagged}
+use Rattle.upload_job.specs.Lane.{lane_request, unflagged}
 use Rattle.upload_job.specs.Lanes.{IsAsked}
-use Rattle.upload_job.specs.Index.{IsIn, AreIn, share_in, shares_in, work_in, state_in}
+use Rattle.upload_job.specs.Index.{IsIn, AreIn, shares_in, work_in, state_in}
 use Rattle.upload_job.proofs.Batches.{batch_few}
 use Rattle.upload_job.proofs.Sending.{batch_shares, into_none}
 use Rattle.upload_job.proofs.requests.put_request.Goals as goal

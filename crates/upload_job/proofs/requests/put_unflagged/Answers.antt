@@ -1,4 +1,4 @@
-use Rattle.std.proofs.Common.{◌≡◌, ℕ, ◌+◌, ◌<◌, ◌≤◌, List, length, map, take, drop, min, refl, sym, ap, ◌∙◌, subst, arith, get_or, []}
+use Rattle.std.proofs.Common.{◌≡◌, ℕ, ◌<◌, List, length, refl, sym, arith, get_or, []}
 use Rattle.std.proofs.lemmas.List.{get_or-map, length-map}
 use Rattle.upload_job.specs.declared.wanted.Wanted.{Wanted}
 use Rattle.upload_job.specs.Index.{share_in, shares_in}

@@ -1,4 +1,4 @@
-use Rattle.std.proofs.Common.{◌≡◌, ℕ, ◌+◌, ◌<◌, ◌≤◌, ◌++◌, Bool, true, List, [], length, refl, sym, ap, ◌∙◌, subst, arith, Some, None, Ok, Err}
+use Rattle.std.proofs.Common.{subst}
 use Rattle.upload_job.specs.Index.{IsReplyRead, state_in}
 use Rattle.upload_job.proofs.Replying.{turn_by_step, turn_by_none}
 use Rattle.upload_job.proofs.turn.turn_of.Goals as goal

@@ -1,4 +1,4 @@
-use Rattle.std.proofs.Common.{◌≡◌, ℕ, ◌+◌, ◌<◌, ◌≤◌, List, length, take, drop, min, refl, sym, ap, ◌∙◌, subst, arith}
+use Rattle.std.proofs.Common.{ℕ, List, take, drop, ap, ◌∙◌}
 use Rattle.upload_job.specs.declared.wanted.Wanted.{Wanted}
 use Rattle.upload_job.proofs.Batches.{drop_least, take_least}
 use Rattle.upload_job.proofs.wanted.batch_at.Goals as goal

@@ -1,5 +1,4 @@
-use Rattle.std.proofs.Common.{◌≡◌, ℕ, ◌+◌, ◌<◌, ◌≤◌, List, length, get_or, refl, sym, ap, ◌∙◌, subst, arith}
-use Rattle.upload_job.specs.declared.lane.Lane.{Lane}
+use Rattle.std.proofs.Common.{ℕ, List, length, refl, sym, ap, ◌∙◌, arith}
 use Rattle.upload_job.specs.Lanes.{LaneView}
 use Rattle.std.proofs.lemmas.List.{length-map}
 use Rattle.upload_job.specs.Index.{share_in, shares_in, work_in}

@@ -1,4 +1,4 @@
-use Rattle.std.proofs.Common.{◌≡◌, ℕ, ◌+◌, ◌<◌, ◌≤◌, List, length, get_or, refl, sym, ap, ◌∙◌, subst, arith}
+use Rattle.std.proofs.Common.{List, length, ap, arith}
 use Rattle.upload_job.specs.Lanes.{LaneView}
 use Rattle.upload_job.proofs.Laning.{length-lanes_in}
 use Rattle.upload_job.proofs.job.Job.lanes.Goals as goal

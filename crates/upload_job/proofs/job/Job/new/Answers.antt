@@ -1,4 +1,4 @@
-use Rattle.std.proofs.Common.{◌≡◌, ◌∙◌, List, refl, sym, ap, subst, length}
+use Rattle.std.proofs.Common.{◌∙◌, List, refl, ap, subst, length}
 use Rattle.file_recipe.specs.declared.cloud_file.CloudFile.{CloudFile}
 use Rattle.upload_job.specs.Index.{AreLanes, EachBegun}
 use Rattle.upload_job.proofs.Begun.{each_named, are_lanes, all_begun}

@@ -1,8 +1,7 @@
-use Rattle.std.proofs.Common.{◌≡◌, ℕ, ◌+◌, ◌<◌, ◌≤◌, List, length, get_or, refl, sym, ap, ◌∙◌, subst, arith}
-use Rattle.std.proofs.Common.{Bool, Option}
+use Rattle.std.proofs.Common.{List, length, ap, subst, arith}
+use Rattle.std.proofs.Common.{Option}
 use Rattle.messages.specs.declared.request.Request.{Request}
-use Rattle.file_recipe.specs.declared.cloud_file.CloudFile.{CloudFile}
-use Rattle.upload_job.specs.Lanes.{LaneView, request_at, IsAsked}
+use Rattle.upload_job.specs.Lanes.{LaneView, IsAsked}
 use Rattle.upload_job.proofs.Laning.{length-lanes_in, length-files, inside_here, found, request_found, asked_yes, asked_no}
 use Rattle.upload_job.proofs.job.Job.next.Goals as goal
 
