@@ -2,6 +2,7 @@ pub mod Append
 pub mod Begin
 pub mod Chain
 pub mod FrameRecord
+pub mod Headed
 pub mod HeaderBytes
 pub mod Loaded
 pub mod Next

@@ -1,10 +1,11 @@
 -- What an opening finds and leaves.
-use Rattle.std.proofs.Common.{◌≡◌, ◌≢◌, inl, inr, ℕ, ◌<◌, Bool, true, false, IsTrue, List, [], ◌∷◌, length, take, Result, Ok, Err, OnOk, refl, sym, subst}
+use Rattle.std.proofs.Common.{◌≡◌, ◌≢◌, inl, inr, ℕ, ◌<◌, Bool, true, false, IsTrue, List, [], ◌∷◌, length, take, Result, Ok, Err, OnOk, refl, sym, ◌∙◌, ap, subst}
 use Rattle.cd_edges.specs.declared.area.Area.{Area}
 use Rattle.cd_edges.specs.declared.area.Area.TheVariants.{Journal}
-use Rattle.cd_edges.specs.Disk.{Store, Cloud, MayLeave, IsImage, LeavesOnly, IsAtArea}
-use Rattle.cd_edges.specs.Shelf.{stable}
-use Rattle.cd_edges.proofs.Moments.{weaker, joined}
+use Rattle.cd_edges.specs.Disk.{Store, Areas, Image, Cloud, MayLeave, IsImage, LeavesOnly, IsAtArea}
+use Rattle.cd_edges.specs.Shelf.{stable, Changes, Stays, IsCall, HasFailed, KeepsCounts}
+use Rattle.cd_edges.proofs.Calls.{failed_after}
+use Rattle.cd_edges.proofs.Moments.{weaker, joined, stayed, at_end}
 use Rattle.commit_journal.specs.declared.header.Header.{Header}
 use Rattle.commit_journal.specs.declared.journal.Stage.{Stage}
 use Rattle.commit_journal.specs.declared.errors.OpenErr.{OpenErr}
@@ -76,18 +77,65 @@ pub always : {E : Type 0} (result : Result (Unit {0}) E) (P : Type 0) → P → 
 always (Ok value) P holds = holds
 always (Err e) P holds = tt
 
--- an opening that syncs, and one that begins a journal then
+-- a premise of every Ok
+pub under : {E : Type 0} (result : Result (Unit {0}) E) (P Q : Type 0) → (P → OnOk result Q) → OnOk result (P → Q)
+under (Ok value) P Q holds = holds
+under (Err e) P Q holds = tt
+
+-- an opening that makes no write, and one that begins a journal
+pub read_only : (c0 c1 : Cloud) (header : Header) (begin : Bool) → Stays c0 c1 → LeavesOnly c0 c1 (MayBecome c0.now header begin)
+read_only c0 c1 header begin stays = stayed c0 c1 _ stays (λ image now. inl now)
+
+pub then_began : (c0 c1 c2 : Cloud) (header : Header) (begin : Bool) (bytes : List ℕ) → IsTrue begin → c0.now Journal ≡ stable bytes → is_begun bytes ≡ false → Stays c0 c1
+    → LeavesOnly c1 c2 (IsAtArea c1.now Journal (IsNewOrUnbegun header)) → LeavesOnly c0 c2 (MayBecome c0.now header begin)
+then_began c0 c1 c2 header begin bytes is synced unbegun stays second = joined c0 c1 c2 _ (read_only c0 c1 header begin stays)
+    (weaker c1 c2 _ _ second (λ image at. inr (
+      is,
+      ap (λ (s : Store). is_begun s.read) synced ∙ unbegun,
+      record {
+        area = at.area;
+        others = λ other ne. subst (λ (a : Areas). MayLeave (a other) (image other)) stays.now (at.others other ne);
+      },
+    )))
+
+-- the same behind a sync
 pub synced_only : (c0 c1 : Cloud) (header : Header) (begin : Bool) → LeavesOnly c0 c1 (IsImage c0.now) → LeavesOnly c0 c1 (MayBecome c0.now header begin)
 synced_only c0 c1 header begin run = weaker c0 c1 _ _ run (λ image left. inl left)
 
-pub then_began : (c0 c1 c2 : Cloud) (header : Header) (begin : Bool) → IsTrue begin → is_begun (c0.now Journal).read ≡ false → LeavesOnly c0 c1 (IsImage c0.now) → ((other : Area) → other ≢ Journal → c1.now other ≡ c0.now other)
-    → LeavesOnly c1 c2 (IsAtArea c1.now Journal (IsNewOrUnbegun header)) → LeavesOnly c0 c2 (MayBecome c0.now header begin)
-then_began c0 c1 c2 header begin is unbegun first others second = joined c0 c1 c2 _ (synced_only c0 c1 header begin first)
-    (weaker c1 c2 _ _ second (λ image at. inr (
-      is,
-      unbegun,
-      record {
-        area = at.area;
-        others = λ other ne. subst (λ (s : Store). MayLeave s (image other)) (others other ne) (at.others other ne);
-      },
-    )))
+become : (c0 c1 : Cloud) (header : Header) (begin : Bool) → LeavesOnly c0 c1 (IsImage c0.now) → Changes c0 c1 Journal (stable (c0.now Journal).read) → (image : Image) → MayBecome c1.now header begin image → MayBecome c0.now header begin image
+become c0 c1 header begin first synced image (inl left) = inl (at_end c0 c1 _ first image left)
+become c0 c1 header begin first synced image (inr new) = inr (
+  new.0,
+  sym (ap (λ (s : Store). is_begun s.read) synced.area) ∙ new.1,
+  record {
+    area = new.2.area;
+    others = λ other ne. subst (λ (s : Store). MayLeave s (image other)) (synced.others other ne) (new.2.others other ne);
+  },
+)
+
+pub then_opened : (c0 c1 c2 : Cloud) (header : Header) (begin : Bool) → LeavesOnly c0 c1 (IsImage c0.now) → Changes c0 c1 Journal (stable (c0.now Journal).read) → LeavesOnly c1 c2 (MayBecome c1.now header begin) → LeavesOnly c0 c2 (MayBecome c0.now header begin)
+then_opened c0 c1 c2 header begin first synced second = joined c0 c1 c2 _ (synced_only c0 c1 header begin first) (weaker c1 c2 _ _ second (become c0 c1 header begin first synced))
+
+-- the other areas, over both
+pub others_on : {E : Type 0} (result : Result (Unit {0}) E) (c0 c1 c2 : Cloud) → ((other : Area) → other ≢ Journal → c1.now other ≡ c0.now other) → OnOk result ((other : Area) → other ≢ Journal → c2.now other ≡ c1.now other)
+    → OnOk result ((other : Area) → other ≢ Journal → c2.now other ≡ c0.now other)
+others_on (Ok value) c0 c1 c2 first second = λ other ne. second other ne ∙ first other ne
+others_on (Err e) c0 c1 c2 first second = tt
+
+-- the counts, behind calls that were Ok
+pub counts_on : (result : Result (Unit {0}) OpenErr) (failed other failed_later other_later : Type 0) → (failed → failed_later) → (other → other_later) → OnFault result failed other → OnFault result failed_later other_later
+counts_on (Ok value) failed other failed_later other_later one two counts = two counts
+counts_on (Err Fault) failed other failed_later other_later one two counts = one counts
+counts_on (Err (OtherStore found wanted)) failed other failed_later other_later one two counts = two counts
+counts_on (Err (Damaged at byte)) failed other failed_later other_later one two counts = two counts
+counts_on (Err (NotBegun len)) failed other failed_later other_later one two counts = two counts
+counts_on (Err (RoomsTooSmall room limit at)) failed other failed_later other_later one two counts = two counts
+counts_on (Err NoMemory) failed other failed_later other_later one two counts = two counts
+
+-- the counts of two calls, the first of which was Ok
+pub counted_twice : (result : Result (Unit {0}) OpenErr) (a b c : ℕ → Cloud) (number before mid now : ℕ) → IsCall a b number before mid → KeepsCounts (a number) (b number) before mid
+    → OnFault result (HasFailed (b number) (c number) mid now) (KeepsCounts (b number) (c number) mid now) → OnFault result (HasFailed (a number) (c number) before now) (KeepsCounts (a number) (c number) before now)
+counted_twice result a b c number before mid now call first second = counts_on result _ _ _ _
+    (failed_after a b c number before mid now call)
+    (λ (k : KeepsCounts (b number) (c number) mid now). record { cloud = k.cloud ∙ first.cloud; total = k.total ∙ first.total })
+    second

@@ -10,6 +10,13 @@ use Rattle.commit_journal.specs.declared.journal.Stage.TheVariants.{Shut, Readin
 use Rattle.commit_journal.specs.Records.{IsJournal, IsDamage, is_begun}
 use Rattle.commit_journal.specs.Frames.{IsRecord}
 use Rattle.commit_journal.specs.Headers.{header_bytes, IsWritten, BreaksAt, IsShort}
+use Rattle.commit_journal.specs.States.{State}
+use Rattle.commit_journal.specs.Outcomes.{HasGate}
+
+-- The header's record was read: its eight bytes have a gate and a length before them, and the next gate lies in the area.
+pub record IsAtFirstGate (state : State) : Type 0 where
+  pub place : state.gate ≡ 13
+  pub has : HasGate state
 
 -- The journal isn't begun, or it has this header and no other record.
 abbrev pub IsNewOrUnbegun : Header → List ℕ → Type 0
@@ -60,7 +67,7 @@ OpensIs bytes asked begin (Err (RoomsTooSmall room limit at)) = ⊥
 OpensIs bytes asked begin (Err NoMemory) = ⊥
 
 -- one fact where a device call failed, and another for every other answer
-abbrev pub OnFault : Result (Unit {0}) OpenErr → Type 0 → Type 0 → Type 0
+abbrev pub OnFault : {T : Type 0} → Result T OpenErr → Type 0 → Type 0 → Type 0
 OnFault (Err Fault) failed other = failed
 OnFault (Err (OtherStore found wanted)) failed other = other
 OnFault (Err (Damaged at byte)) failed other = other
@@ -83,3 +90,23 @@ IsAnswered (Err (NotBegun len)) = Unit {0}
 IsAnswered (Err (RoomsTooSmall room limit at)) = Unit {0}
 IsAnswered (Err NoMemory) = Unit {0}
 IsAnswered (Ok value) = Unit {0}
+
+-- It isn't that the journal isn't begun.
+abbrev pub HasBegun : {T : Type 0} → Result T OpenErr → Type 0
+HasBegun (Err (NotBegun len)) = ⊥
+HasBegun (Err Fault) = Unit {0}
+HasBegun (Err (OtherStore found wanted)) = Unit {0}
+HasBegun (Err (Damaged at byte)) = Unit {0}
+HasBegun (Err (RoomsTooSmall room limit at)) = Unit {0}
+HasBegun (Err NoMemory) = Unit {0}
+HasBegun (Ok value) = Unit {0}
+
+-- It is an answer of a journal alone, which knows no rooms and takes no memory.
+abbrev pub IsOfJournal : {T : Type 0} → Result T OpenErr → Type 0
+IsOfJournal (Err Fault) = Unit {0}
+IsOfJournal (Err (NotBegun len)) = Unit {0}
+IsOfJournal (Err (OtherStore found wanted)) = Unit {0}
+IsOfJournal (Err (Damaged at byte)) = Unit {0}
+IsOfJournal (Ok value) = Unit {0}
+IsOfJournal (Err (RoomsTooSmall room limit at)) = ⊥
+IsOfJournal (Err NoMemory) = ⊥

@@ -5,7 +5,7 @@ use Rattle.commit_journal.specs.declared.errors.JournalErr.{JournalErr}
 use Rattle.commit_journal.specs.declared.errors.JournalErr.TheVariants.{Full, Failed, Damaged}
 use Rattle.commit_journal.specs.declared.journal.Stage.{Stage}
 use Rattle.commit_journal.specs.declared.journal.Stage.TheVariants.{Shut, Reading, AtEnd}
-use Rattle.commit_journal.specs.Records.{IsDamage}
+use Rattle.commit_journal.specs.Records.{IsBody, IsDamage}
 use Rattle.commit_journal.specs.Frames.{IsClosed, IsRecord}
 use Rattle.commit_journal.specs.States.{State, IsReading, IsEnded}
 
@@ -17,6 +17,19 @@ IsWindow state rest = state.ahead ≡ take (length state.ahead) rest
 pub record StepsOver (old new : State) : Type 0 where
   pub gate : new.gate ≡ old.gate + 5 + length new.body
   pub body_at : new.body_at ≡ old.gate + 5
+
+-- The next gate lies in the area.
+pub record HasGate (state : State) : Type 0 where
+  pub inside : state.gate < state.end
+  pub end_fits : state.end < 2 ^ 64
+
+-- What a step does whatever is known of the area: it goes over a record with a body, or it stays at the gate. It passes no limit.
+abbrev pub StepIs : State → State → Result Bool JournalErr → Type 0
+StepIs old new (Ok true) = StepsOver old new × IsBody new.body
+StepIs old new (Ok false) = new.gate ≡ old.gate
+StepIs old new (Err (Damaged at byte)) = Unit {0}
+StepIs old new (Err Failed) = Unit {0}
+StepIs old new (Err (Full used need limit)) = ⊥
 
 -- how far the journal is read after an answer
 abbrev pub stage_of : Result Bool JournalErr → Stage

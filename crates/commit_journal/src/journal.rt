@@ -66,7 +66,7 @@ fn put_framed(buffer: &mut [u8], body: &[u8])
 
 impl Journal {
     ghost use Rattle.commit_journal.specs.Frames.{IsFrame};
-    ghost use Rattle.commit_journal.specs.Outcomes.{IsWindow, TakenIs, DamageIs, NextIs, IsHandled, AppendIs, stage_of, stage_appended, OnFailed};
+    ghost use Rattle.commit_journal.specs.Outcomes.{IsWindow, TakenIs, DamageIs, NextIs, IsHandled, AppendIs, HasGate, StepIs, stage_of, stage_appended, OnFailed};
     ghost use Rattle.commit_journal.specs.States.{state_of, IsReading, IsEnded};
 
     /// A journal that isn't open, of so many bytes at most. It takes all its memory here.
@@ -142,6 +142,9 @@ impl Journal {
         requires { (state_of self.old).stage ≢ Stage.Shut }
         ensures reads { IsTrue (V.cloud_at shelf.old cloud.0).told → (bodies : List (List ℕ)) → IsReading (state_of self.old) ((V.cloud_at shelf.old cloud.0).now Area.Journal) bodies
             → NextIs (state_of self.old) (state_of self.new) ((V.cloud_at shelf.new cloud.0).now Area.Journal) bodies result }
+        ensures step { StepIs (state_of self.old) (state_of self.new) result }
+        ensures gate { OnOk result (HasGate (state_of self.new)) }
+        ensures end { (state_of self.new).end ≡ (state_of self.old).end }
         ensures stage { (state_of self.new).stage ≡ stage_of result }
         ensures limit { (state_of self.new).limit ≡ (state_of self.old).limit }
         ensures stays { Stays (V.cloud_at shelf.old cloud.0) (V.cloud_at shelf.new cloud.0) }
@@ -303,6 +306,7 @@ impl Journal {
         requires within { self.old.gate < self.old.end }
         ensures taken { (rest : List ℕ) → IsWindow (state_of self.old) rest → (frame ≡ Frame.Short → (state_of self.old).ahead ≡ rest) → self.old.gate + length rest ≡ self.old.end → 0 < length rest
             → TakenIs (state_of self.old) (state_of self.new) rest result }
+        ensures step { StepIs (state_of self.old) (state_of self.new) result }
         ensures handled { IsHandled result }
         ensures stage { self.new.stage ≡ stage_of result }
         ensures rest { (self.new.end ≡ self.old.end) × (self.new.limit ≡ self.old.limit) }
@@ -329,6 +333,7 @@ impl Journal {
         requires { IsFrame (state_of self.old).ahead (Frame.Record len) }
         ensures taken { (rest : List ℕ) → IsWindow (state_of self.old) rest → self.old.gate + length rest ≡ self.old.end
             → TakenIs (state_of self.old) (state_of self.new) rest result }
+        ensures step { StepIs (state_of self.old) (state_of self.new) result }
         ensures handled { IsHandled result }
         ensures stage { self.new.stage ≡ stage_of result }
         ensures rest { (self.new.end ≡ self.old.end) × (self.new.limit ≡ self.old.limit) }

@@ -2,12 +2,12 @@
 
 ghost use Rattle.std.specs.Prelude.{◌≡◌, ◌≢◌, ◌⊎◌, ℕ, ◌+◌, ◌-◌, ◌^◌, ◌<◌, ◌≤◌, List, [], ◌∷◌, ◌++◌, length, take, true, false, IsTrue, IfOk, OnOk, OnErr};
 ghost use Rattle.cd_edges.specs.declared.area.Area.{Area};
-ghost use Rattle.cd_edges.specs.Disk.{LeavesOnly, IsAtArea, IsImage};
-ghost use Rattle.cd_edges.specs.Shelf.{IsCall, HasFailed, KeepsCounts, stable};
+ghost use Rattle.cd_edges.specs.Disk.{LeavesOnly, IsAtArea};
+ghost use Rattle.cd_edges.specs.Shelf.{IsCall, HasFailed, KeepsCounts, Stays, stable};
 ghost use Rattle.commit_journal.specs.Records.{is_begun};
 ghost use Rattle.commit_journal.specs.Headers.{header_bytes, IsWritten};
 ghost use Rattle.commit_journal.specs.States.{state_of, IsReading, IsEnded};
-ghost use Rattle.commit_journal.specs.Openings.{IsNewOrUnbegun, MayBecome, OpensIs, CheckedIs, OnFault, BodyIs, IsAnswered, stage_opened};
+ghost use Rattle.commit_journal.specs.Openings.{HasBegun, IsOfJournal, IsAtFirstGate, IsNewOrUnbegun, MayBecome, OpensIs, CheckedIs, OnFault, BodyIs, IsAnswered, stage_opened};
 
 use crate::{Header, HeaderFault, Journal, JournalErr, OpenErr, Stage, frame_of};
 use cd_base::CloudNo;
@@ -16,6 +16,8 @@ use cd_edges::{Area, Failed, Shelf, write_synced};
 // What a body is, that is to be this header.
 fn judge(body: &[u8], asked: &Header) -> Result<(), OpenErr>
     ensures body { BodyIs body.now asked.now result }
+    ensures begun { HasBegun result }
+    ensures kind { IsOfJournal result }
     ensures answered { IsAnswered result }
 {
     match Header::read(body) {
@@ -56,7 +58,7 @@ impl Journal {
     /// false. OtherStore comes exactly where another header was found. Damaged comes exactly where the first record is
     /// damaged: as for `next`, or by its body, at the first field that is wrong, the first place of the length of a body
     /// that is too short, or the first byte that is left over. Fault comes only where the cloud's count of faults rose.
-    /// After an Err only `reopen` may be called. It takes no memory.
+    /// After an Err only `reopen` or `open` may be called. It takes no memory.
     pub fn reopen<V: Shelf>(
         &mut self,
         shelf: &mut V,
@@ -73,6 +75,49 @@ impl Journal {
         ensures begun { IsTrue (V.cloud_at shelf.old cloud.0).told → OnOk result (is_begun ((V.cloud_at shelf.old cloud.0).now Area.Journal).read ≡ true → ((V.cloud_at shelf.new cloud.0).now Area.Journal).read ≡ ((V.cloud_at shelf.old cloud.0).now Area.Journal).read) }
         ensures unbegun { IsTrue (V.cloud_at shelf.old cloud.0).told → OnOk result (is_begun ((V.cloud_at shelf.old cloud.0).now Area.Journal).read ≡ false → IsEnded (state_of self.new) ((V.cloud_at shelf.new cloud.0).now Area.Journal) (header_bytes asked.now ∷ [])) }
         ensures others { IsTrue (V.cloud_at shelf.old cloud.0).told → OnOk result ((other : Area) → other ≢ Area.Journal → (V.cloud_at shelf.new cloud.0).now other ≡ (V.cloud_at shelf.old cloud.0).now other) }
+        ensures gate { OnOk result (IsAtFirstGate (state_of self.new)) }
+        ensures begins { IsTrue begin → HasBegun result }
+        ensures kind { IsOfJournal result }
+        ensures stage { (state_of self.new).stage ≡ stage_opened result }
+        ensures limit { (state_of self.new).limit ≡ (state_of self.old).limit }
+        ensures call { IsCall (V.cloud_at shelf.old) (V.cloud_at shelf.new) cloud.0 (V.faults shelf.old) (V.faults shelf.new) }
+        ensures counts { OnFault result (HasFailed (V.cloud_at shelf.old cloud.0) (V.cloud_at shelf.new cloud.0) (V.faults shelf.old) (V.faults shelf.new)) (KeepsCounts (V.cloud_at shelf.old cloud.0) (V.cloud_at shelf.new cloud.0) (V.faults shelf.old) (V.faults shelf.new)) }
+    {
+        match shelf.sync(cloud, Area::Journal) {
+            Ok(()) => self.open(shelf, cloud, asked, begin),
+            Err(Failed) => {
+                self.stage = Stage::Shut;
+                Err(OpenErr::Fault)
+            }
+        }
+    }
+
+    /// Opens the journal of an area that a crash leaves as it reads, since it was synced: it is `reopen` without the sync,
+    /// and answers the same. Where the journal is begun, and where `begin` is false, no device call is made but a length
+    /// and a read, so nothing that is told of the cloud changes then.
+    pub fn open<V: Shelf>(
+        &mut self,
+        shelf: &mut V,
+        cloud: CloudNo,
+        asked: &Header,
+        begin: bool,
+    ) -> Result<(), OpenErr>
+        requires { IsWritten asked.now }
+
+        ensures any_moment { IsTrue (V.cloud_at shelf.old cloud.0).told → (bytes : List ℕ) → (V.cloud_at shelf.old cloud.0).now Area.Journal ≡ stable bytes
+            → LeavesOnly (V.cloud_at shelf.old cloud.0) (V.cloud_at shelf.new cloud.0) (MayBecome (V.cloud_at shelf.old cloud.0).now asked.now begin) }
+        ensures opens { IsTrue (V.cloud_at shelf.old cloud.0).told → (bytes : List ℕ) → (V.cloud_at shelf.old cloud.0).now Area.Journal ≡ stable bytes → OpensIs bytes asked.now begin result }
+        ensures opened { IsTrue (V.cloud_at shelf.old cloud.0).told → (bytes : List ℕ) → (V.cloud_at shelf.old cloud.0).now Area.Journal ≡ stable bytes
+            → OnOk result (IsReading (state_of self.new) ((V.cloud_at shelf.new cloud.0).now Area.Journal) (header_bytes asked.now ∷ [])) }
+        ensures begun { IsTrue (V.cloud_at shelf.old cloud.0).told → (bytes : List ℕ) → (V.cloud_at shelf.old cloud.0).now Area.Journal ≡ stable bytes → is_begun bytes ≡ true
+            → Stays (V.cloud_at shelf.old cloud.0) (V.cloud_at shelf.new cloud.0) }
+        ensures unasked { begin ≡ false → Stays (V.cloud_at shelf.old cloud.0) (V.cloud_at shelf.new cloud.0) }
+        ensures unbegun { IsTrue (V.cloud_at shelf.old cloud.0).told → (bytes : List ℕ) → (V.cloud_at shelf.old cloud.0).now Area.Journal ≡ stable bytes → is_begun bytes ≡ false
+            → OnOk result (IsEnded (state_of self.new) ((V.cloud_at shelf.new cloud.0).now Area.Journal) (header_bytes asked.now ∷ [])) }
+        ensures others { IsTrue (V.cloud_at shelf.old cloud.0).told → OnOk result ((other : Area) → other ≢ Area.Journal → (V.cloud_at shelf.new cloud.0).now other ≡ (V.cloud_at shelf.old cloud.0).now other) }
+        ensures gate { OnOk result (IsAtFirstGate (state_of self.new)) }
+        ensures begins { IsTrue begin → HasBegun result }
+        ensures kind { IsOfJournal result }
         ensures stage { (state_of self.new).stage ≡ stage_opened result }
         ensures limit { (state_of self.new).limit ≡ (state_of self.old).limit }
         ensures call { IsCall (V.cloud_at shelf.old) (V.cloud_at shelf.new) cloud.0 (V.faults shelf.old) (V.faults shelf.new) }
@@ -95,16 +140,14 @@ impl Journal {
         }
     }
 
-    // Syncs the area, and reads its length and its beginning.
+    // Reads the area's length and its beginning.
     fn settle<V: Shelf>(&mut self, shelf: &mut V, cloud: CloudNo) -> Result<(), Failed>
-        ensures any_moment { IsTrue (V.cloud_at shelf.old cloud.0).told → LeavesOnly (V.cloud_at shelf.old cloud.0) (V.cloud_at shelf.new cloud.0) (IsImage (V.cloud_at shelf.old cloud.0).now) }
-        ensures synced { IsTrue (V.cloud_at shelf.old cloud.0).told → OnOk result ((V.cloud_at shelf.new cloud.0).now Area.Journal ≡ stable ((V.cloud_at shelf.old cloud.0).now Area.Journal).read) }
-        ensures others { IsTrue (V.cloud_at shelf.old cloud.0).told → OnOk result ((other : Area) → other ≢ Area.Journal → (V.cloud_at shelf.new cloud.0).now other ≡ (V.cloud_at shelf.old cloud.0).now other) }
         ensures ahead { IsTrue (V.cloud_at shelf.old cloud.0).told → OnOk result ((state_of self.new).ahead ≡ take 65541 ((V.cloud_at shelf.old cloud.0).now Area.Journal).read) }
         ensures end { IsTrue (V.cloud_at shelf.old cloud.0).told → OnOk result (self.new.end ≡ length ((V.cloud_at shelf.old cloud.0).now Area.Journal).read) }
         ensures gate { self.new.gate ≡ 0 }
         ensures stage { self.new.stage ≡ Stage.Shut }
         ensures limit { self.new.limit ≡ self.old.limit }
+        ensures stays { Stays (V.cloud_at shelf.old cloud.0) (V.cloud_at shelf.new cloud.0) }
         ensures call { IsCall (V.cloud_at shelf.old) (V.cloud_at shelf.new) cloud.0 (V.faults shelf.old) (V.faults shelf.new) }
         ensures failed { OnErr result (HasFailed (V.cloud_at shelf.old cloud.0) (V.cloud_at shelf.new cloud.0) (V.faults shelf.old) (V.faults shelf.new)) }
         ensures uncounted { OnOk result (KeepsCounts (V.cloud_at shelf.old cloud.0) (V.cloud_at shelf.new cloud.0) (V.faults shelf.old) (V.faults shelf.new)) }
@@ -112,7 +155,6 @@ impl Journal {
         self.stage = Stage::Shut;
         self.gate = 0;
         self.end = 0;
-        shelf.sync(cloud, Area::Journal)?;
         self.end = shelf.len(cloud, Area::Journal)?;
         self.load(shelf, cloud)
     }
@@ -168,6 +210,7 @@ impl Journal {
         ensures begun { IsTrue (V.cloud_at shelf.old cloud.0).told → (bytes : List ℕ) → (V.cloud_at shelf.old cloud.0).now Area.Journal ≡ stable bytes → is_begun bytes ≡ false → self.old.end ≡ length bytes
             → OnOk result (IsEnded (state_of self.new) ((V.cloud_at shelf.new cloud.0).now Area.Journal) (header_bytes asked.now ∷ [])) }
         ensures others { IsTrue (V.cloud_at shelf.old cloud.0).told → OnOk result ((other : Area) → other ≢ Area.Journal → (V.cloud_at shelf.new cloud.0).now other ≡ (V.cloud_at shelf.old cloud.0).now other) }
+        ensures gate { OnOk result (IsAtFirstGate (state_of self.new)) }
         ensures stage { OnOk result (self.new.stage ≡ Stage.Reading) × OnErr result (self.new.stage ≡ Stage.Shut) }
         ensures limit { self.new.limit ≡ self.old.limit }
         ensures call { IsCall (V.cloud_at shelf.old) (V.cloud_at shelf.new) cloud.0 (V.faults shelf.old) (V.faults shelf.new) }
@@ -188,6 +231,9 @@ impl Journal {
         ensures checked { (bytes : List ℕ) → (state_of self.old).ahead ≡ take 65541 bytes → self.old.end ≡ length bytes → is_begun bytes ≡ true → CheckedIs bytes asked.now result }
         ensures opened { (bytes : List ℕ) → (state_of self.old).ahead ≡ take 65541 bytes → self.old.end ≡ length bytes → is_begun bytes ≡ true
             → OnOk result (IsReading (state_of self.new) (stable bytes) (header_bytes asked.now ∷ [])) }
+        ensures gate { OnOk result (IsAtFirstGate (state_of self.new)) }
+        ensures begun { HasBegun result }
+        ensures kind { IsOfJournal result }
         ensures answered { IsAnswered result }
         ensures stage { self.new.stage ≡ stage_opened result }
         ensures limit { self.new.limit ≡ self.old.limit }
@@ -196,26 +242,28 @@ impl Journal {
         match self.take(frame) {
             Ok(true) => self.check_body(asked),
             Err(JournalErr::Damaged { at, byte }) => Err(OpenErr::Damaged { at, byte }),
-            Ok(false) => self.refuse(),
-            Err(JournalErr::Full { .. }) => self.refuse(),
-            Err(JournalErr::Failed) => self.refuse(),
+            Ok(false) => self.damaged(),
+            Err(JournalErr::Full { .. }) => self.damaged(),
+            Err(JournalErr::Failed) => self.damaged(),
         }
     }
 
-    // The answer where no record was found.
-    fn refuse(&mut self) -> Result<(), OpenErr>
+    // The answer where no record was found behind an open gate, which there is always.
+    fn damaged(&mut self) -> Result<(), OpenErr>
         ensures stage { self.new.stage ≡ Stage.Shut }
         ensures limit { self.new.limit ≡ self.old.limit }
-        ensures err { result ≡ Err (OpenErr.NotBegun self.old.end) }
+        ensures err { result ≡ Err (OpenErr.Damaged 0 1) }
     {
         self.stage = Stage::Shut;
-        Err(OpenErr::NotBegun { len: self.end })
+        Err(OpenErr::Damaged { at: 0, byte: 1 })
     }
 
     // Checks the body of the first record, which is to be this header.
     fn check_body(&mut self, asked: &Header) -> Result<(), OpenErr>
         requires { self.old.stage ≡ Stage.Reading }
         ensures body { BodyIs (state_of self.old).body asked.now result }
+        ensures begun { HasBegun result }
+        ensures kind { IsOfJournal result }
         ensures answered { IsAnswered result }
         ensures stage { self.new.stage ≡ stage_opened result }
         ensures rest { state_of self.new ≡ record (state_of self.old) { stage = self.new.stage } }

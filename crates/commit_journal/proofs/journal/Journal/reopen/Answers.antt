@@ -1,156 +1,65 @@
-use Rattle.std.proofs.Common.{◌≡◌, ◌∙◌, inl, true, false, [], ◌∷◌, OnOk, sym, ap, subst, rules}
-use Rattle.std.proofs.lemmas.Bool.{false≢true}
+use Rattle.std.proofs.Common.{◌≡◌, ◌∙◌, true, [], ◌∷◌, sym, ap, rules}
 use Rattle.cd_edges.specs.declared.area.Area.TheVariants.{Journal}
-use Rattle.cd_edges.specs.Disk.{Store}
+use Rattle.cd_edges.specs.Disk.{Store, Areas}
 use Rattle.cd_edges.proofs.Calls.{called_twice}
 use Rattle.cd_edges.proofs.Moments.{told_on}
-use Rattle.commit_journal.specs.Records.{is_begun}
-use Rattle.commit_journal.specs.Headers.{header_bytes}
-use Rattle.commit_journal.specs.States.{state_of, IsReading}
-use Rattle.commit_journal.proofs.Openings.{opens_is, counted, always, synced_only, then_began}
+use Rattle.cd_edges.proofs.Shrinks.{begun, sync_goes_on}
+use Rattle.commit_journal.proofs.Openings.{always, synced_only, then_opened, under, others_on, counted_twice}
 use Rattle.commit_journal.proofs.journal.Journal.reopen.Goals as goal
 
 pub returns-in-Err-clause-any_moment : goal.returns-in-Err-clause-any_moment
 returns-in-Err-clause-any_moment g c told =
-    let number = c.args.cloud.0 in let c0 = g.V.Shelf.cloud_at c.args.shelf.now number in let c1 = g.V.Shelf.cloud_at c.settle.new.shelf number in
-    let bytes = (c0.now Journal).read in
-    synced_only c0 c1 c.args.asked.now c.args.begin (c.settle.ensures.any_moment told)
+    let number = c.args.cloud.0 in let c0 = g.V.Shelf.cloud_at c.args.shelf.now number in let c1 = g.V.Shelf.cloud_at c.sync.new.self number in
+    let run = sync_goes_on c.sync.result c0 c0 c1 Journal (begun c0) (λ image now. now) (g.met.V.Shelf.reads_image c.args.shelf.now number told Journal) (c.sync.ensures.sync told) in
+    synced_only c0 c1 c.args.asked.now c.args.begin run
 
-pub returns-then-is_begun-clause-any_moment : goal.returns-then-is_begun-clause-any_moment
-returns-then-is_begun-clause-any_moment g c told =
-    let number = c.args.cloud.0 in let c0 = g.V.Shelf.cloud_at c.args.shelf.now number in let c1 = g.V.Shelf.cloud_at c.settle.new.shelf number in
-    let bytes = (c0.now Journal).read in
-    synced_only c0 c1 c.args.asked.now c.args.begin (c.settle.ensures.any_moment told)
+pub returns-in-Ok-clause-any_moment : goal.returns-in-Ok-clause-any_moment
+returns-in-Ok-clause-any_moment g c told =
+    let number = c.args.cloud.0 in let c0 = g.V.Shelf.cloud_at c.args.shelf.now number in let c1 = g.V.Shelf.cloud_at c.sync.new.self number in
+    let run = sync_goes_on c.sync.result c0 c0 c1 Journal (begun c0) (λ image now. now) (g.met.V.Shelf.reads_image c.args.shelf.now number told Journal) (c.sync.ensures.sync told) in
+    let c2 = g.V.Shelf.cloud_at c.open.new.shelf number in let told1 = told_on c0 c1 c.sync.ensures.call.told told in
+    let synced = (c.in-Ok.ensures.sync told).ok in
+    then_opened c0 c1 c2 c.args.asked.now c.args.begin run synced (c.open.ensures.any_moment told1 (c0.now Journal).read synced.area)
 
-pub returns-then-is_begun-clause-opens : goal.returns-then-is_begun-clause-opens
-returns-then-is_begun-clause-opens g c told =
-    let number = c.args.cloud.0 in let c0 = g.V.Shelf.cloud_at c.args.shelf.now number in let c1 = g.V.Shelf.cloud_at c.settle.new.shelf number in
-    let bytes = (c0.now Journal).read in
-    let synced = c.in-Ok.ensures.synced told in let ahead = c.in-Ok.ensures.ahead told in let end = c.in-Ok.ensures.end told in
-    let test : c.is_begun.result ≡ is_begun bytes = c.is_begun.ensures.begun bytes ahead end in
-    let begun : is_begun bytes ≡ true = sym test ∙ c.if-is_begun.true in
-    opens_is bytes c.args.asked.now c.args.begin c.check.result begun (c.check.ensures.checked bytes ahead end begun)
+pub returns-in-Ok-clause-opens : goal.returns-in-Ok-clause-opens
+returns-in-Ok-clause-opens g c told =
+    let number = c.args.cloud.0 in let c0 = g.V.Shelf.cloud_at c.args.shelf.now number in let c1 = g.V.Shelf.cloud_at c.sync.new.self number in
+    let c2 = g.V.Shelf.cloud_at c.open.new.shelf number in let told1 = told_on c0 c1 c.sync.ensures.call.told told in
+    let synced = (c.in-Ok.ensures.sync told).ok in
+    c.open.ensures.opens told1 (c0.now Journal).read synced.area
 
-pub returns-then-is_begun-clause-opened : goal.returns-then-is_begun-clause-opened
-returns-then-is_begun-clause-opened g c told =
-    let number = c.args.cloud.0 in let c0 = g.V.Shelf.cloud_at c.args.shelf.now number in let c1 = g.V.Shelf.cloud_at c.settle.new.shelf number in
-    let bytes = (c0.now Journal).read in
-    let synced = c.in-Ok.ensures.synced told in let ahead = c.in-Ok.ensures.ahead told in let end = c.in-Ok.ensures.end told in
-    let test : c.is_begun.result ≡ is_begun bytes = c.is_begun.ensures.begun bytes ahead end in
-    let begun : is_begun bytes ≡ true = sym test ∙ c.if-is_begun.true in
-    subst (λ (s : Store). OnOk c.check.result (IsReading (state_of c.check.new.self) s (header_bytes c.args.asked.now ∷ []))) (sym synced) (c.check.ensures.opened bytes ahead end begun)
+pub returns-in-Ok-clause-opened : goal.returns-in-Ok-clause-opened
+returns-in-Ok-clause-opened g c told =
+    let number = c.args.cloud.0 in let c0 = g.V.Shelf.cloud_at c.args.shelf.now number in let c1 = g.V.Shelf.cloud_at c.sync.new.self number in
+    let c2 = g.V.Shelf.cloud_at c.open.new.shelf number in let told1 = told_on c0 c1 c.sync.ensures.call.told told in
+    let synced = (c.in-Ok.ensures.sync told).ok in
+    c.open.ensures.opened told1 (c0.now Journal).read synced.area
 
-pub returns-then-is_begun-clause-begun : goal.returns-then-is_begun-clause-begun
-returns-then-is_begun-clause-begun g c told =
-    let number = c.args.cloud.0 in let c0 = g.V.Shelf.cloud_at c.args.shelf.now number in let c1 = g.V.Shelf.cloud_at c.settle.new.shelf number in
-    let bytes = (c0.now Journal).read in
-    let synced = c.in-Ok.ensures.synced told in let ahead = c.in-Ok.ensures.ahead told in let end = c.in-Ok.ensures.end told in
-    let test : c.is_begun.result ≡ is_begun bytes = c.is_begun.ensures.begun bytes ahead end in
-    always c.check.result _ (λ is. ap (λ (s : Store). s.read) synced)
+pub returns-in-Ok-clause-begun : goal.returns-in-Ok-clause-begun
+returns-in-Ok-clause-begun g c told =
+    let number = c.args.cloud.0 in let c0 = g.V.Shelf.cloud_at c.args.shelf.now number in let c1 = g.V.Shelf.cloud_at c.sync.new.self number in
+    let c2 = g.V.Shelf.cloud_at c.open.new.shelf number in let told1 = told_on c0 c1 c.sync.ensures.call.told told in
+    let synced = (c.in-Ok.ensures.sync told).ok in
+    always c.open.result _ (λ is. ap (λ (a : Areas). (a Journal).read) (c.open.ensures.begun told1 (c0.now Journal).read synced.area is).now ∙ ap (λ (s : Store). s.read) synced.area)
 
-pub returns-then-is_begun-clause-unbegun : goal.returns-then-is_begun-clause-unbegun
-returns-then-is_begun-clause-unbegun g c told =
-    let number = c.args.cloud.0 in let c0 = g.V.Shelf.cloud_at c.args.shelf.now number in let c1 = g.V.Shelf.cloud_at c.settle.new.shelf number in
-    let bytes = (c0.now Journal).read in
-    let synced = c.in-Ok.ensures.synced told in let ahead = c.in-Ok.ensures.ahead told in let end = c.in-Ok.ensures.end told in
-    let test : c.is_begun.result ≡ is_begun bytes = c.is_begun.ensures.begun bytes ahead end in
-    let begun : is_begun bytes ≡ true = sym test ∙ c.if-is_begun.true in
-    always c.check.result _ (λ is. absurd (false≢true (sym is ∙ begun)))
+pub returns-in-Ok-clause-unbegun : goal.returns-in-Ok-clause-unbegun
+returns-in-Ok-clause-unbegun g c told =
+    let number = c.args.cloud.0 in let c0 = g.V.Shelf.cloud_at c.args.shelf.now number in let c1 = g.V.Shelf.cloud_at c.sync.new.self number in
+    let c2 = g.V.Shelf.cloud_at c.open.new.shelf number in let told1 = told_on c0 c1 c.sync.ensures.call.told told in
+    let synced = (c.in-Ok.ensures.sync told).ok in
+    under c.open.result _ _ (c.open.ensures.unbegun told1 (c0.now Journal).read synced.area)
 
-pub returns-then-is_begun-clause-others : goal.returns-then-is_begun-clause-others
-returns-then-is_begun-clause-others g c told =
-    always c.check.result _ (c.in-Ok.ensures.others told)
+pub returns-in-Ok-clause-others : goal.returns-in-Ok-clause-others
+returns-in-Ok-clause-others g c told =
+    let number = c.args.cloud.0 in let c0 = g.V.Shelf.cloud_at c.args.shelf.now number in let c1 = g.V.Shelf.cloud_at c.sync.new.self number in
+    let c2 = g.V.Shelf.cloud_at c.open.new.shelf number in let told1 = told_on c0 c1 c.sync.ensures.call.told told in
+    let synced = (c.in-Ok.ensures.sync told).ok in
+    others_on c.open.result c0 c1 c2 synced.others (c.open.ensures.others told1)
 
-pub returns-then-is_begun-clause-counts : goal.returns-then-is_begun-clause-counts
-returns-then-is_begun-clause-counts g c =
-    counted c.check.result _ _ c.check.ensures.answered c.in-Ok.ensures.uncounted
+pub returns-in-Ok-clause-call : goal.returns-in-Ok-clause-call
+returns-in-Ok-clause-call g c =
+    called_twice _ _ _ _ _ _ _ c.sync.ensures.call c.open.ensures.call
 
-pub returns-then-not-begin-clause-any_moment : goal.returns-then-not-begin-clause-any_moment
-returns-then-not-begin-clause-any_moment g c told =
-    let number = c.args.cloud.0 in let c0 = g.V.Shelf.cloud_at c.args.shelf.now number in let c1 = g.V.Shelf.cloud_at c.settle.new.shelf number in
-    let bytes = (c0.now Journal).read in
-    synced_only c0 c1 c.args.asked.now c.args.begin (c.settle.ensures.any_moment told)
-
-pub returns-then-not-begin-clause-opens : goal.returns-then-not-begin-clause-opens
-returns-then-not-begin-clause-opens g c told =
-    let number = c.args.cloud.0 in let c0 = g.V.Shelf.cloud_at c.args.shelf.now number in let c1 = g.V.Shelf.cloud_at c.settle.new.shelf number in
-    let bytes = (c0.now Journal).read in
-    let synced = c.in-Ok.ensures.synced told in let ahead = c.in-Ok.ensures.ahead told in let end = c.in-Ok.ensures.end told in
-    let test : c.is_begun.result ≡ is_begun bytes = c.is_begun.ensures.begun bytes ahead end in
-    let unbegun : is_begun bytes ≡ false = sym test ∙ c.if-is_begun.false in
-    (unbegun, search rules, end)
-
-pub returns-in-Ok-begin-clause-any_moment : goal.returns-in-Ok-begin-clause-any_moment
-returns-in-Ok-begin-clause-any_moment g c told =
-    let number = c.args.cloud.0 in let c0 = g.V.Shelf.cloud_at c.args.shelf.now number in let c1 = g.V.Shelf.cloud_at c.settle.new.shelf number in
-    let bytes = (c0.now Journal).read in
-    let synced = c.in-Ok.ensures.synced told in let ahead = c.in-Ok.ensures.ahead told in let end = c.in-Ok.ensures.end told in
-    let test : c.is_begun.result ≡ is_begun bytes = c.is_begun.ensures.begun bytes ahead end in
-    let unbegun : is_begun bytes ≡ false = sym test ∙ c.if-is_begun.false in
-    let c2 = g.V.Shelf.cloud_at c.begin.new.shelf number in
-    let told1 = told_on c0 c1 c.settle.ensures.call.told told in
-    then_began c0 c1 c2 c.args.asked.now c.args.begin (search rules) unbegun (c.settle.ensures.any_moment told) (c.in-Ok.ensures.others told) (c.begin.ensures.any_moment told1 bytes synced unbegun end)
-
-pub returns-in-Ok-begin-clause-opens : goal.returns-in-Ok-begin-clause-opens
-returns-in-Ok-begin-clause-opens g c told =
-    let number = c.args.cloud.0 in let c0 = g.V.Shelf.cloud_at c.args.shelf.now number in let c1 = g.V.Shelf.cloud_at c.settle.new.shelf number in
-    let bytes = (c0.now Journal).read in
-    let synced = c.in-Ok.ensures.synced told in let ahead = c.in-Ok.ensures.ahead told in let end = c.in-Ok.ensures.end told in
-    let test : c.is_begun.result ≡ is_begun bytes = c.is_begun.ensures.begun bytes ahead end in
-    let unbegun : is_begun bytes ≡ false = sym test ∙ c.if-is_begun.false in
-    inl (unbegun, search rules)
-
-pub returns-in-Ok-begin-clause-opened : goal.returns-in-Ok-begin-clause-opened
-returns-in-Ok-begin-clause-opened g c told =
-    let number = c.args.cloud.0 in let c0 = g.V.Shelf.cloud_at c.args.shelf.now number in let c1 = g.V.Shelf.cloud_at c.settle.new.shelf number in
-    let bytes = (c0.now Journal).read in
-    let synced = c.in-Ok.ensures.synced told in let ahead = c.in-Ok.ensures.ahead told in let end = c.in-Ok.ensures.end told in
-    let test : c.is_begun.result ≡ is_begun bytes = c.is_begun.ensures.begun bytes ahead end in
-    let unbegun : is_begun bytes ≡ false = sym test ∙ c.if-is_begun.false in
-    let c2 = g.V.Shelf.cloud_at c.begin.new.shelf number in
-    let told1 = told_on c0 c1 c.settle.ensures.call.told told in
-    (c.in-Ok-begin.ensures.begun told1 bytes synced unbegun end).reading
-
-pub returns-in-Ok-begin-clause-begun : goal.returns-in-Ok-begin-clause-begun
-returns-in-Ok-begin-clause-begun g c told =
-    let number = c.args.cloud.0 in let c0 = g.V.Shelf.cloud_at c.args.shelf.now number in let c1 = g.V.Shelf.cloud_at c.settle.new.shelf number in
-    let bytes = (c0.now Journal).read in
-    let synced = c.in-Ok.ensures.synced told in let ahead = c.in-Ok.ensures.ahead told in let end = c.in-Ok.ensures.end told in
-    let test : c.is_begun.result ≡ is_begun bytes = c.is_begun.ensures.begun bytes ahead end in
-    let unbegun : is_begun bytes ≡ false = sym test ∙ c.if-is_begun.false in
-    λ is. absurd (false≢true (sym unbegun ∙ is))
-
-pub returns-in-Ok-begin-clause-unbegun : goal.returns-in-Ok-begin-clause-unbegun
-returns-in-Ok-begin-clause-unbegun g c told =
-    let number = c.args.cloud.0 in let c0 = g.V.Shelf.cloud_at c.args.shelf.now number in let c1 = g.V.Shelf.cloud_at c.settle.new.shelf number in
-    let bytes = (c0.now Journal).read in
-    let synced = c.in-Ok.ensures.synced told in let ahead = c.in-Ok.ensures.ahead told in let end = c.in-Ok.ensures.end told in
-    let test : c.is_begun.result ≡ is_begun bytes = c.is_begun.ensures.begun bytes ahead end in
-    let unbegun : is_begun bytes ≡ false = sym test ∙ c.if-is_begun.false in
-    let c2 = g.V.Shelf.cloud_at c.begin.new.shelf number in
-    let told1 = told_on c0 c1 c.settle.ensures.call.told told in
-    λ is. c.in-Ok-begin.ensures.begun told1 bytes synced unbegun end
-
-pub returns-in-Err-begin-clause-any_moment : goal.returns-in-Err-begin-clause-any_moment
-returns-in-Err-begin-clause-any_moment g c told =
-    let number = c.args.cloud.0 in let c0 = g.V.Shelf.cloud_at c.args.shelf.now number in let c1 = g.V.Shelf.cloud_at c.settle.new.shelf number in
-    let bytes = (c0.now Journal).read in
-    let synced = c.in-Ok.ensures.synced told in let ahead = c.in-Ok.ensures.ahead told in let end = c.in-Ok.ensures.end told in
-    let test : c.is_begun.result ≡ is_begun bytes = c.is_begun.ensures.begun bytes ahead end in
-    let unbegun : is_begun bytes ≡ false = sym test ∙ c.if-is_begun.false in
-    let c2 = g.V.Shelf.cloud_at c.begin.new.shelf number in
-    let told1 = told_on c0 c1 c.settle.ensures.call.told told in
-    then_began c0 c1 c2 c.args.asked.now c.args.begin (search rules) unbegun (c.settle.ensures.any_moment told) (c.in-Ok.ensures.others told) (c.begin.ensures.any_moment told1 bytes synced unbegun end)
-
-pub returns-in-Ok-begin-clause-others : goal.returns-in-Ok-begin-clause-others
-returns-in-Ok-begin-clause-others g c told =
-    let number = c.args.cloud.0 in let c0 = g.V.Shelf.cloud_at c.args.shelf.now number in let c1 = g.V.Shelf.cloud_at c.settle.new.shelf number in
-    let c2 = g.V.Shelf.cloud_at c.begin.new.shelf number in
-    let told1 = told_on c0 c1 c.settle.ensures.call.told told in
-    λ other ne. c.in-Ok-begin.ensures.others told1 other ne ∙ c.in-Ok.ensures.others told other ne
-
-pub returns-in-Ok-begin-clause-call : goal.returns-in-Ok-begin-clause-call
-returns-in-Ok-begin-clause-call g c = called_twice _ _ _ _ _ _ _ c.settle.ensures.call c.begin.ensures.call
-
-pub returns-in-Err-begin-clause-call : goal.returns-in-Err-begin-clause-call
-returns-in-Err-begin-clause-call g c = called_twice _ _ _ _ _ _ _ c.settle.ensures.call c.begin.ensures.call
+pub returns-in-Ok-clause-counts : goal.returns-in-Ok-clause-counts
+returns-in-Ok-clause-counts g c =
+    counted_twice c.open.result (g.V.Shelf.cloud_at c.args.shelf.now) (g.V.Shelf.cloud_at c.sync.new.self) (g.V.Shelf.cloud_at c.open.new.shelf) c.args.cloud.0 (g.V.Shelf.faults c.args.shelf.now) (g.V.Shelf.faults c.sync.new.self) (g.V.Shelf.faults c.open.new.shelf) c.sync.ensures.call c.in-Ok.ensures.uncounted c.open.ensures.counts
