@@ -1,7 +1,7 @@
 -- A Put without shares, and room by the list.
 use Rattle.std.proofs.Common.{◌≡◌, ◌<◌, Bool, true, false, cond, List, [], ◌∷◌, ◌++◌, length, Option, Some, None, refl, sym, ap, ◌∙◌, subst, arith, append-nil}
 use Rattle.std.specs.Prelude.{◌==◌, ◌↔◌, IsSome, IsTrue}
-use Rattle.std.specs.FinMap.{get}
+use Rattle.std.specs.FinMap.{get, len}
 use Rattle.cd_base.specs.declared.ids.Fp.{Fp}
 use Rattle.cd_base.specs.declared.ids.Tag.{Tag}
 use Rattle.cd_base.specs.declared.ids.UserId.{UserId}
@@ -91,4 +91,21 @@ pub file_room : (rooms : Rooms) (shape : Shape) (list : List Command) (index : C
 file_room rooms shape list index user tag version r has none files = record {
   new = r.files.files (key_of user.0 tag.0 version.0) ∙ none;
   files = subst (λ (a : Accounts). use_for (λ (k : FileKey). k.user) a index.files.files user.0 < limit_for a user.0) (sym has.files) (let n = r.files.count in omega arith);
+}
+
+-- ---- room by the index
+
+pub kept_share : (rooms : Rooms) (index : CloudIndex) (user : UserId) (fp : Fp) → HasRooms rooms index → get index.shares.owners (owner_of user.0 fp.0) ≡ None
+    → len index.shares.owners < rooms.owners → (get index.shares.places fp.0 ≡ None → len index.shares.places < rooms.fps) → HasShareRoom index user fp
+kept_share rooms index user fp has new owners fps = record {
+  new = new;
+  owners = subst (λ (a : Accounts). use_for (λ (k : Owner). k.user) a index.shares.owners user.0 < limit_for a user.0) (sym has.owners) owners;
+  fps = λ none. let lt = fps none in let m = has.fps in omega arith;
+}
+
+pub kept_file : (rooms : Rooms) (index : CloudIndex) (user : UserId) (tag : Tag) (version : Version) → HasRooms rooms index
+    → get index.files.files (key_of user.0 tag.0 version.0) ≡ None → len index.files.files < rooms.files → HasFileRoom index user tag version
+kept_file rooms index user tag version has new files = record {
+  new = new;
+  files = subst (λ (a : Accounts). use_for (λ (k : FileKey). k.user) a index.files.files user.0 < limit_for a user.0) (sym has.files) files;
 }

@@ -16,6 +16,7 @@ use Rattle.file_index.specs.declared.key.FileKey.{FileKey}
 use Rattle.file_index.specs.Files.{key_of}
 use Rattle.file_index.specs.Order.{key_cmp}
 use Rattle.file_index.proofs.Order.{key_total}
+use Rattle.record_body.specs.declared.body.CommitBody.{CommitBody}
 use Rattle.record_body.specs.Spelling.{Body, Commit}
 use Rattle.share_index.specs.declared.key.Place.{Place}
 use Rattle.share_index.specs.Order.{fp_cmp, owner_cmp, owner_of}
@@ -25,7 +26,7 @@ use Rattle.user_dedup.specs.declared.view.View.{View}
 use Rattle.user_dedup.specs.Cloud.{fingerprint, user_view, view_after}
 use Rattle.user_dedup.specs.Owning.{is_among}
 use Rattle.user_dedup.proofs.Views.{view_next}
-use Rattle.cloud_store.specs.Contents.{strings_in, distinct, shares_end, place_in, recipes_in, entry_behind, entry_in}
+use Rattle.cloud_store.specs.Contents.{strings_in, distinct, shares_end, place_in, recipes_in, recipes_end, entry_behind, entry_in}
 use Rattle.cloud_store.specs.Indexed.{IndexesShares}
 use Rattle.cloud_store.specs.Records.{record_after}
 use Rattle.cloud_store.proofs.Entries.{entry_commit, same_key}
@@ -33,7 +34,7 @@ use Rattle.cloud_store.proofs.Laying.{end-append}
 use Rattle.cloud_store.proofs.Lists.{strings_more, recipes_more}
 use Rattle.cloud_index.specs.declared.index.CloudIndex.{CloudIndex}
 use Rattle.cloud_index.specs.Memory.{Remembers}
-use Rattle.cloud_index.specs.Steps.{Entered}
+use Rattle.cloud_index.specs.Taking.{TakesCommit}
 use Rattle.cloud_index.proofs.Shares.{len-new}
 
 -- ---- no commands
@@ -60,6 +61,10 @@ remembers_none shape index places owners files shares recipes = record {
 or_nothing : {A : Type 0} (o : Option A) → option_or o None ≡ o
 or_nothing None = refl
 or_nothing (Some x) = refl
+
+-- the record of a Commit whose recipe is laid behind this end
+abbrev body_at : UserId → Tag → Version → List ℕ → ℕ → CommitBody
+body_at user tag version recipe end = record { user = user; tag = tag; version = version; at = place_of end (length recipe); len = length recipe; fp = fingerprint recipe }
 
 module _ (shape : Shape) (list : List Command) (user : UserId) (tag : Tag) (version : Version) (recipe : List ℕ) where
   abbrev after_list : List Command
@@ -89,22 +94,22 @@ module _ (shape : Shape) (list : List Command) (user : UserId) (tag : Tag) (vers
   one_recipe : recipes_in after_list ≡ recipes_in list ++ recipe ∷ []
   one_recipe = recipes_more list (commands.Commit user tag version recipe)
 
-  pub file_next : (old new : CloudIndex) → Remembers shape list old → get old.files.files (key_of user.0 tag.0 version.0) ≡ None
-      → Entered old new user tag version (entry_behind old.recipes_end recipe) → Remembers shape after_list new
-  file_next old new r none entered = record {
-    shares = shares_stay new (subst (IndexesShares shape list) (sym entered.shares) r.shares);
+  file_next : (old new : CloudIndex) → Remembers shape list old → get old.files.files (key_of user.0 tag.0 version.0) ≡ None
+      → TakesCommit old new (body_at user tag version recipe old.recipes_end) → Remembers shape after_list new
+  file_next old new r none taken = record {
+    shares = shares_stay new (subst (IndexesShares shape list) (sym taken.shares) r.shares);
     files = record {
       files = λ key.
-          ap (λ (m : FinMap key_cmp Entry). get m key) entered.files ∙ get-insert key_total old.files.files k e key
+          ap (λ (m : FinMap key_cmp Entry). get m key) taken.files ∙ get-insert key_total old.files.files k e key
           ∙ by_test key (eq_by_cmp key_cmp key k) refl
           ∙ ap (λ n. option_or (entry_in list key) (cond (eq_by_cmp key_cmp key k) (Some (entry_behind n recipe)) None)) r.recipes_end
           ∙ sym (entry_commit list user tag version recipe key);
       count =
-          let longer = ap (λ (m : FinMap key_cmp Entry). len m) entered.files ∙ len-new key_total old.files.files k e none in
+          let longer = ap (λ (m : FinMap key_cmp Entry). len m) taken.files ∙ len-new key_total old.files.files k e none in
           omega (arith, longer, r.files.count, ap length one_recipe, length-append (recipes_in list) (recipe ∷ []));
     };
-    shares_end = entered.shares_end ∙ r.shares_end ∙ ap shares_end (sym same_strings);
-    recipes_end = entered.recipes_end ∙ ap (λ n. end_after n (length recipe)) r.recipes_end ∙ sym (end-append 0 (recipes_in list) (recipe ∷ [])) ∙ ap (λ l. end_of_laid 0 (lengths l)) (sym one_recipe);
+    shares_end = taken.shares_end ∙ r.shares_end ∙ ap shares_end (sym same_strings);
+    recipes_end = taken.end ∙ ap (λ n. end_after n (length recipe)) r.recipes_end ∙ sym (end-append 0 (recipes_in list) (recipe ∷ [])) ∙ ap (λ l. end_of_laid 0 (lengths l)) (sym one_recipe);
   }
     where
       k : FileKey
@@ -119,18 +124,17 @@ module _ (shape : Shape) (list : List Command) (user : UserId) (tag : Tag) (vers
           sym (ap (λ o. option_or o (Some e)) gone)
       by_test key false same = r.files.files key ∙ sym (or_nothing (entry_in list key))
 
--- the same, where the fingerprint and the length are those of the recipe
-abbrev pub entry_with : ℕ → ℕ → Fp → Entry
-entry_with at n fp = record { at = at; len = n; fp = fp }
+-- the same, where the record is that of the Commit
+pub commit_next : (shape : Shape) (list : List Command) (recipe : List ℕ) (body : CommitBody) (old new : CloudIndex)
+    → Commit body ≡ record_after list (commands.Commit body.user body.tag body.version recipe) → get old.files.files (key_of body.user.0 body.tag.0 body.version.0) ≡ None
+    → TakesCommit old new body → Remembers shape list old → Remembers shape (list ++ commands.Commit body.user body.tag body.version recipe ∷ []) new
+commit_next shape list recipe body old new e none taken r =
+    let bodies : Commit body ≡ Commit (body_at body.user body.tag body.version recipe (recipes_end list)) = e in
+    let same : body ≡ body_at body.user body.tag body.version recipe (recipes_end list) = cc in
+    let here : body ≡ body_at body.user body.tag body.version recipe old.recipes_end = same ∙ ap (body_at body.user body.tag body.version recipe) (sym r.recipes_end) in
+    file_next shape list body.user body.tag body.version recipe old new r none (subst (TakesCommit old new) here taken)
 
-pub file_at : (shape : Shape) (list : List Command) (user : UserId) (tag : Tag) (version : Version) (recipe : List ℕ) (fp : Fp) (n at : ℕ) (old new : CloudIndex)
-    → fingerprint recipe ≡ fp → length recipe ≡ n → Remembers shape list old → get old.files.files (key_of user.0 tag.0 version.0) ≡ None
-    → at ≡ place_of old.recipes_end n → Entered old new user tag version (entry_with at n fp)
-    → Remembers shape (list ++ commands.Commit user tag version recipe ∷ []) new
-file_at shape list user tag version recipe fp n at old new e l r none here entered =
-    file_next shape list user tag version recipe old new r none
-    (subst (λ (x : Entry). Entered old new user tag version x) (λ i. entry_with ((here ∙ ap (place_of old.recipes_end) (sym l)) i) (sym l i) (sym e i)) entered)
-
+-- the record where the fingerprint and the length are those of the recipe
 abbrev pub body_with : UserId → Tag → Version → ℕ → ℕ → Fp → Body
 body_with user tag version at n fp = Commit (record { user = user; tag = tag; version = version; at = at; len = n; fp = fp })
 

@@ -29,6 +29,7 @@ use Rattle.cloud_store.specs.Contents.{strings_in, distinct, fresh_after, place_
 use Rattle.cloud_store.specs.Records.{record_after, journal_len, record_len}
 use Rattle.cloud_store.specs.Space.{end_past, refusal, full_for, IsWithin}
 use Rattle.cloud_store.proofs.Distinct.{among-append, placed-among, distinct-append}
+use Rattle.cloud_store.proofs.Full.{refusal_none, past}
 use Rattle.cloud_store.proofs.Laying.{end-append}
 use Rattle.cloud_store.proofs.Lists.{strings_more, recipes_more, journal_more, length-put, length-commit}
 use Rattle.record_body.specs.Spelling.{body_bytes}
@@ -36,6 +37,7 @@ use Rattle.cloud_index.specs.declared.index.CloudIndex.{CloudIndex}
 use Rattle.cloud_index.specs.declared.rooms.New.{New}
 use Rattle.cloud_index.specs.Memory.{Remembers}
 use Rattle.cloud_index.specs.News.{AreApart, AreOf, fresh_lens}
+use Rattle.cloud_index.specs.Steps.{FitsPut, FitsCommit}
 
 -- ---- which strings are laid
 
@@ -131,6 +133,40 @@ four rooms a a_need b b_need c c_need d d_need =
 pub four_at : (rooms : Rooms) (a a_need b b_need c c_need d d_need x y : ℕ) → a ≡ x → b ≡ y → four rooms a a_need b b_need c c_need d d_need ≡ four rooms x a_need y b_need c c_need d d_need
 four_at rooms a a_need b b_need c c_need d d_need x y p q = λ i. four rooms (p i) a_need (q i) b_need c c_need d d_need
 
+-- ---- no room of a Put or a Commit is full
+
+none_left : (a b : Option FullRoom) → option_or a b ≡ None → (a ≡ None) × (b ≡ None)
+none_left None b e = (refl, e)
+none_left (Some x) b e = absurd (let never : Some x ≡ None = e in cc)
+
+pub put_fits : (rooms : Rooms) (index : CloudIndex) (news : List New) (gate fresh reach : ℕ)
+    → fresh ≡ length (fresh_lens index.shares.places news) → reach ≡ end_past rooms.shares index.shares_end (fresh_lens index.shares.places news) → index.shares_end ≤ reach
+    → four rooms (len index.shares.places) fresh (len index.shares.owners) (length news) index.shares_end (reach - index.shares_end) (gate + 1) (12 + 33 * length news + 12 * fresh) ≡ None
+    → FitsPut rooms gate index news
+put_fits rooms index news gate fresh reach count end behind e =
+    let a = none_left (refusal names.Fps (len index.shares.places) fresh rooms.fps) three e in
+    let b = none_left (refusal names.Owners (len index.shares.owners) (length news) rooms.owners) two a.1 in
+    let c = none_left (refusal names.Shares index.shares_end (reach - index.shares_end) rooms.shares) one b.1 in
+    let fps = (refusal_none names.Fps (len index.shares.places) fresh rooms.fps).0 a.0 in
+    let owners = (refusal_none names.Owners (len index.shares.owners) (length news) rooms.owners).0 b.0 in
+    let shares = (refusal_none names.Shares index.shares_end (reach - index.shares_end) rooms.shares).0 c.0 in
+    let journal = (refusal_none names.Journal (gate + 1) (12 + 33 * length news + 12 * fresh) rooms.journal).0 c.1 in
+    record {
+      fps = omega (arith, fps, count);
+      owners = owners;
+      shares = (past rooms.shares index.shares_end (fresh_lens index.shares.places news)).0 (omega (arith, shares, end, behind));
+      journal = omega (arith, journal, count);
+    }
+  where
+    one : Option FullRoom
+    one = refusal names.Journal (gate + 1) (12 + 33 * length news + 12 * fresh) rooms.journal
+
+    two : Option FullRoom
+    two = option_or (refusal names.Shares index.shares_end (reach - index.shares_end) rooms.shares) one
+
+    three : Option FullRoom
+    three = option_or (refusal names.Owners (len index.shares.owners) (length news) rooms.owners) two
+
 pub put_full : (rooms : Rooms) (shape : Shape) (list : List Command) (user : UserId) (strings : List (List ℕ)) (index : CloudIndex) (news : List New) (gate fresh reach : ℕ)
     → fresh ≡ length (fresh_lens index.shares.places news) → reach ≡ end_past rooms.shares index.shares_end (fresh_lens index.shares.places news)
     → Remembers shape list index → IsWithin rooms list → AreOf news strings → gate + 1 ≡ journal_len list
@@ -181,6 +217,25 @@ three rooms a a_need b b_need c c_need =
 
 pub three_at : (rooms : Rooms) (a a_need b b_need c c_need x : ℕ) → a ≡ x → three rooms a a_need b b_need c c_need ≡ three rooms x a_need b b_need c c_need
 three_at rooms a a_need b b_need c c_need x p = λ i. three rooms (p i) a_need b b_need c c_need
+
+pub commit_fits : (rooms : Rooms) (index : CloudIndex) (gate n end : ℕ) → end ≡ end_after index.recipes_end n → index.recipes_end ≤ end
+    → three rooms (len index.files.files) 1 index.recipes_end (end - index.recipes_end) (gate + 1) 94 ≡ None → FitsCommit rooms gate index n
+commit_fits rooms index gate n end end_eq behind e =
+    let a = none_left (refusal names.Files (len index.files.files) 1 rooms.files) two e in
+    let b = none_left (refusal names.Recipes index.recipes_end (end - index.recipes_end) rooms.recipes) one a.1 in
+    let recipes = (refusal_none names.Recipes index.recipes_end (end - index.recipes_end) rooms.recipes).0 b.0 in
+    let journal = (refusal_none names.Journal (gate + 1) 94 rooms.journal).0 b.1 in
+    record {
+      files = (refusal_none names.Files (len index.files.files) 1 rooms.files).0 a.0;
+      recipes = omega (arith, recipes, end_eq, behind);
+      journal = omega (arith, journal);
+    }
+  where
+    one : Option FullRoom
+    one = refusal names.Journal (gate + 1) 94 rooms.journal
+
+    two : Option FullRoom
+    two = option_or (refusal names.Recipes index.recipes_end (end - index.recipes_end) rooms.recipes) one
 
 pub commit_full : (rooms : Rooms) (shape : Shape) (list : List Command) (user : UserId) (tag : Tag) (version : Version) (recipe : List ℕ) (index : CloudIndex) (gate n end : ℕ)
     → end ≡ end_after index.recipes_end n → Remembers shape list index → length tag.0 ≡ 32 → length recipe ≡ n → gate + 1 ≡ journal_len list

@@ -4,3 +4,5 @@ pub mod Next
 pub mod Empty
 pub mod Reaching
 pub mod Fullness
+pub mod Taken
+pub mod Adding

@@ -13,7 +13,7 @@ use Rattle.std.proofs.lemmas.Slice.Eq.{bytes_eq-Decides}
 use Rattle.cd_base.specs.declared.ids.Fp.{Fp}
 use Rattle.cd_base.specs.declared.ids.UserId.{UserId}
 use Rattle.cd_base.specs.declared.shape.Shape.{Shape}
-use Rattle.container_log.specs.Places.{place_of, end_after, end_of_laid}
+use Rattle.container_log.specs.Places.{end_after, end_of_laid}
 use Rattle.container_log.specs.Laying.{lengths}
 use Rattle.record_body.specs.declared.body.PutItem.{PutItem}
 use Rattle.share_index.specs.declared.key.Owner.{Owner}
@@ -31,13 +31,13 @@ use Rattle.user_dedup.proofs.Views.{view_next}
 use Rattle.cloud_store.specs.Contents.{strings_in, distinct, shares_end, place_in, recipes_in}
 use Rattle.cloud_store.specs.Indexed.{IndexesShares, IndexesFiles}
 use Rattle.cloud_store.specs.Records.{item_after}
-use Rattle.cloud_store.proofs.Distinct.{among-append, placed-among, fresh_known, fresh_new, new_place, place_known, place_next}
+use Rattle.cloud_store.proofs.Distinct.{among-append, none_placed, fresh_known, fresh_new, new_place, place_known, place_next}
 use Rattle.cloud_store.proofs.Entries.{entry_put}
 use Rattle.cloud_store.proofs.Laying.{end-append}
 use Rattle.cloud_store.proofs.Lists.{strings_more, recipes_more}
 use Rattle.cloud_index.specs.declared.index.CloudIndex.{CloudIndex}
 use Rattle.cloud_index.specs.Memory.{Remembers}
-use Rattle.cloud_index.specs.Steps.{Placed, Owned}
+use Rattle.cloud_index.specs.Taking.{places_with, end_with, TakesItem}
 
 pub is_eq-at : (r : Ordering) → is_eq r ≡ true → r ≡ Equal
 is_eq-at Less e = cc
@@ -59,7 +59,7 @@ or_false false = refl
 
 -- ---- owners
 
-owner_test : (q : ℕ) (f : List ℕ) (user : ℕ) (fp : List ℕ) → eq_by_cmp owner_cmp (owner_of q f) (owner_of user fp) ≡ ((user == q) && bytes_eq fp f)
+pub owner_test : (q : ℕ) (f : List ℕ) (user : ℕ) (fp : List ℕ) → eq_by_cmp owner_cmp (owner_of q f) (owner_of user fp) ≡ ((user == q) && bytes_eq fp f)
 owner_test q f user fp = both_ways (eq_by_cmp owner_cmp (owner_of q f) (owner_of user fp)) ((user == q) && bytes_eq fp f) forth back
   where
     forth : eq_by_cmp owner_cmp (owner_of q f) (owner_of user fp) ≡ true → ((user == q) && bytes_eq fp f) ≡ true
@@ -108,7 +108,7 @@ own_step shape list user strings s q f =
 
 -- ---- places
 
-same_test : (q fp : List ℕ) → eq_by_cmp fp_cmp q fp ≡ bytes_eq fp q
+pub same_test : (q fp : List ℕ) → eq_by_cmp fp_cmp q fp ≡ bytes_eq fp q
 same_test q fp = both_ways (eq_by_cmp fp_cmp q fp) (bytes_eq fp q)
     (λ e. (bytes_eq-Decides fp q).1 (sym (fp_exact q fp (is_eq-at (fp_cmp q fp) e))))
     (λ e. ap (λ k. is_eq (fp_cmp q k)) ((bytes_eq-Decides fp q).0 e) ∙ ap is_eq (tied_itself fp_total q))
@@ -153,18 +153,18 @@ module _ (shape : Shape) (list : List Command) (user : UserId) (strings : List (
   abbrev pub after_list : List Command
   after_list = list ++ commands.Put user (strings ++ s ∷ []) ∷ []
 
-  shares_next : (old mid new : Shares) → IndexesShares shape before_list old → get old.owners (owner_of user.0 (fingerprint s).0) ≡ None
-      → mid.owners ≡ insert old.owners (owner_of user.0 (fingerprint s).0) 0 → new.owners ≡ mid.owners → HasPlaces (strings_in before_list ++ s ∷ []) new
+  shares_next : (old new : Shares) → IndexesShares shape before_list old → get old.owners (owner_of user.0 (fingerprint s).0) ≡ None
+      → new.owners ≡ insert old.owners (owner_of user.0 (fingerprint s).0) 0 → HasPlaces (strings_in before_list ++ s ∷ []) new
       → IndexesShares shape after_list new
-  shares_next old mid new is none more same has = record {
+  shares_next old new is none more has = record {
     places = λ fp. has.places fp ∙ ap (λ l. place_in l fp) (sym (strings_next list user strings s));
     owners = λ q f.
-        subst (λ (m : FinMap owner_cmp ℕ). IsSome (get m (owner_of q.0 f.0)) ↔ IsTrue (is_among (user_view shape after_list q).own f)) (sym (same ∙ more))
+        subst (λ (m : FinMap owner_cmp ℕ). IsSome (get m (owner_of q.0 f.0)) ↔ IsTrue (is_among (user_view shape after_list q).own f)) (sym more)
         (subst (λ (b : Bool). IsSome (get (insert old.owners (owner_of user.0 (fingerprint s).0) 0) (owner_of q.0 f.0)) ↔ IsTrue b) (sym (own_step shape list user strings s q f))
         (owners_step old.owners q user f (fingerprint s) (is_among (user_view shape before_list q).own f) (is.owners q f)));
     fps = has.fps ∙ ap (λ l. length (distinct l)) (sym (strings_next list user strings s));
     owned =
-        let longer = ap (λ (m : FinMap owner_cmp ℕ). len m) (same ∙ more) ∙ len-new owner_total old.owners (owner_of user.0 (fingerprint s).0) 0 none in
+        let longer = ap (λ (m : FinMap owner_cmp ℕ). len m) more ∙ len-new owner_total old.owners (owner_of user.0 (fingerprint s).0) 0 none in
         omega (arith, longer, is.owned, ap length (strings_next list user strings s), length-append (strings_in before_list) (s ∷ []));
   }
 
@@ -177,16 +177,9 @@ module _ (shape : Shape) (list : List Command) (user : UserId) (strings : List (
     count = is.count ∙ ap length (sym same_recipes);
   }
 
-  pub record ShareNext (new : CloudIndex) (place : Option Place) : Type 0 where
-    pub remembers : Remembers shape after_list new
-    pub item : place ≡ (item_after (strings_in before_list) s).place
-
-  pub share_next : (old mid new : CloudIndex) (place : Option Place) → Remembers shape before_list old → get old.shares.owners (owner_of user.0 (fingerprint s).0) ≡ None
-      → Owned old mid user (fingerprint s)
-      → (IsSome (get mid.shares.places (fingerprint s).0) → (new ≡ mid) × (place ≡ None))
-      → (get mid.shares.places (fingerprint s).0 ≡ None → Placed mid new (fingerprint s) (length s) place)
-      → ShareNext new place
-  share_next old mid new place r none owned known placed = by_place (get mid.shares.places (fingerprint s).0) refl
+  string_next : (old new : CloudIndex) → Remembers shape before_list old → get old.shares.owners (owner_of user.0 (fingerprint s).0) ≡ None
+      → TakesItem old new user (item_after (strings_in before_list) s) → Remembers shape after_list new
+  string_next old new r none taken = by_test (is_among (map fingerprint before) (fingerprint s)) refl
     where
       before : List (List ℕ)
       before = strings_in before_list
@@ -194,59 +187,38 @@ module _ (shape : Shape) (list : List Command) (user : UserId) (strings : List (
       has : HasPlaces before old.shares
       has = record { places = r.shares.places; fps = r.shares.fps }
 
-      got : get mid.shares.places (fingerprint s).0 ≡ place_in before (fingerprint s)
-      got = ap (λ (m : FinMap fp_cmp Place). get m (fingerprint s).0) owned.places ∙ r.shares.places (fingerprint s)
+      files : IndexesFiles after_list new.files
+      files = files_next new (subst (IndexesFiles before_list) (sym taken.files) r.files)
 
-      by_place : (o : Option Place) → get mid.shares.places (fingerprint s).0 ≡ o → ShareNext new place
-      by_place (Some p) is =
-          let k = known (ap (λ (o : Option Place). is_some o) is) in
-          let among : is_among (map fingerprint before) (fingerprint s) ≡ true = sym (placed-among before (fingerprint s)) ∙ ap (λ (o : Option Place). is_some o) (sym got ∙ is) in
+      recipes : new.recipes_end ≡ end_of_laid 0 (lengths (recipes_in after_list))
+      recipes = taken.recipes_end ∙ r.recipes_end ∙ ap (λ l. end_of_laid 0 (lengths l)) (sym same_recipes)
+
+      by_test : (b : Bool) → is_among (map fingerprint before) (fingerprint s) ≡ b → Remembers shape after_list new
+      by_test true among =
+          let places : new.shares.places ≡ old.shares.places = taken.places ∙ ap (λ b. places_with old.shares.places (fingerprint s).0 (cond b None (Some (new_place before s)))) among in
+          let end : new.shares_end ≡ old.shares_end = taken.end ∙ ap (λ b. end_with old.shares_end (cond b None (Some (new_place before s)))) among in
           record {
-            remembers = subst (Remembers shape after_list) (sym k.0) (record {
-              shares = shares_next old.shares mid.shares mid.shares r.shares none owned.owners refl (known_places before s old.shares mid.shares has among owned.places);
-              files = files_next mid (subst (IndexesFiles before_list) (sym owned.files) r.files);
-              shares_end = owned.shares_end ∙ r.shares_end ∙ ap (λ l. end_of_laid 0 (lengths l)) (sym (fresh_known before s among)) ∙ ap shares_end (sym (strings_next list user strings s));
-              recipes_end = owned.recipes_end ∙ r.recipes_end ∙ ap (λ l. end_of_laid 0 (lengths l)) (sym same_recipes);
-            });
-            item = k.1 ∙ sym (ap (λ b. cond b None (Some (new_place before s))) among);
+            shares = shares_next old.shares new.shares r.shares none taken.owners (known_places before s old.shares new.shares has among places);
+            files = files;
+            shares_end = end ∙ r.shares_end ∙ ap (λ l. end_of_laid 0 (lengths l)) (sym (fresh_known before s among)) ∙ ap shares_end (sym (strings_next list user strings s));
+            recipes_end = recipes;
           }
-      by_place None is =
-          let p = placed is in
-          let lacks : is_among (map fingerprint before) (fingerprint s) ≡ false = sym (placed-among before (fingerprint s)) ∙ ap (λ (o : Option Place). is_some o) (sym got ∙ is) in
-          let end : mid.shares_end ≡ shares_end before = owned.shares_end ∙ r.shares_end in
-          let at : insert mid.shares.places (fingerprint s).0 (record { at = place_of mid.shares_end (length s); len = length s }) ≡ insert old.shares.places (fingerprint s).0 (new_place before s) =
-          λ i. insert (owned.places i) (fingerprint s).0 (record { at = place_of (end i) (length s); len = length s }) in
+      by_test false lacks =
+          let places : new.shares.places ≡ insert old.shares.places (fingerprint s).0 (new_place before s) = taken.places ∙ ap (λ b. places_with old.shares.places (fingerprint s).0 (cond b None (Some (new_place before s)))) lacks in
+          let end : new.shares_end ≡ end_after (shares_end before) (length s) = taken.end ∙ ap (λ b. end_with old.shares_end (cond b None (Some (new_place before s)))) lacks in
           record {
-            remembers = record {
-              shares = shares_next old.shares mid.shares new.shares r.shares none owned.owners p.owners
-                  (more_places before s old.shares new.shares has lacks (ap (λ (m : FinMap fp_cmp Place). get m (fingerprint s).0) (sym owned.places) ∙ is) (p.places ∙ at));
-              files = files_next new (subst (IndexesFiles before_list) (sym (p.files ∙ owned.files)) r.files);
-              shares_end = p.end ∙ ap (λ n. end_after n (length s)) end ∙ sym (end-append 0 (distinct before) (s ∷ [])) ∙ ap (λ l. end_of_laid 0 (lengths l)) (sym (fresh_new before s lacks)) ∙ ap shares_end (sym (strings_next list user strings s));
-              recipes_end = p.recipes_end ∙ owned.recipes_end ∙ r.recipes_end ∙ ap (λ l. end_of_laid 0 (lengths l)) (sym same_recipes);
-            };
-            item = p.place_is ∙ ap (λ n. Some (record { at = place_of n (length s); len = length s })) end ∙ sym (ap (λ b. cond b None (Some (new_place before s))) lacks);
+            shares = shares_next old.shares new.shares r.shares none taken.owners (more_places before s old.shares new.shares has lacks (r.shares.places (fingerprint s) ∙ none_placed before (fingerprint s) lacks) places);
+            files = files;
+            shares_end = end ∙ sym (end-append 0 (distinct before) (s ∷ [])) ∙ ap (λ l. end_of_laid 0 (lengths l)) (sym (fresh_new before s lacks)) ∙ ap shares_end (sym (strings_next list user strings s));
+            recipes_end = recipes;
           }
 
-abbrev pub item_with : Fp → Option Place → PutItem
-item_with fp place = record { fp = fp; place = place }
-
--- the same, where the fingerprint and the length are those of the string
-pub share_at : (shape : Shape) (list : List Command) (user : UserId) (strings : List (List ℕ)) (s : List ℕ) (fp : Fp) (n : ℕ) (old mid new : CloudIndex) (place : Option Place)
-    → fingerprint s ≡ fp → length s ≡ n → Remembers shape (before_list shape list user strings s) old → get old.shares.owners (owner_of user.0 fp.0) ≡ None
-    → Owned old mid user fp
-    → (IsSome (get mid.shares.places fp.0) → (new ≡ mid) × (place ≡ None))
-    → (get mid.shares.places fp.0 ≡ None → Placed mid new fp n place)
-    → ShareNext shape list user strings s new place
-share_at shape list user strings s fp n old mid new place e l r none owned known placed =
-    share_next shape list user strings s old mid new place r
-    (subst (λ (f : Fp). get old.shares.owners (owner_of user.0 f.0) ≡ None) (sym e) none)
-    (subst (λ (f : Fp). Owned old mid user f) (sym e) owned)
-    (subst (λ (f : Fp). IsSome (get mid.shares.places f.0) → (new ≡ mid) × (place ≡ None)) (sym e) known)
-    (subst (λ (f : Fp). get mid.shares.places f.0 ≡ None → Placed mid new f (length s) place) (sym e)
-    (subst (λ (k : ℕ). get mid.shares.places fp.0 ≡ None → Placed mid new fp k place) (sym l) placed))
-
-pub item_at : (shape : Shape) (list : List Command) (user : UserId) (strings : List (List ℕ)) (s : List ℕ) (fp : Fp) (place : Option Place) (new : CloudIndex) → fingerprint s ≡ fp
-    → ShareNext shape list user strings s new place → item_with fp place ≡ item_after (strings_in list ++ strings) s
-item_at shape list user strings s fp place new e next =
-    let same = ap (λ before. (item_after before s).place) (strings_more list (commands.Put user strings)) in
-    λ i. item_with (sym e i) ((next.item ∙ same) i)
+-- the same, where the item is that of the string
+pub item_next : (shape : Shape) (list : List Command) (user : UserId) (strings : List (List ℕ)) (s : List ℕ) (item : PutItem) (old new : CloudIndex)
+    → item ≡ item_after (strings_in list ++ strings) s → get old.shares.owners (owner_of user.0 item.fp.0) ≡ None → TakesItem old new user item
+    → Remembers shape (before_list shape list user strings s) old → Remembers shape (after_list shape list user strings s) new
+item_next shape list user strings s item old new e none taken r =
+    let same : item ≡ item_after (strings_in (before_list shape list user strings s)) s = e ∙ ap (λ before. item_after before s) (sym (strings_more list (commands.Put user strings))) in
+    string_next shape list user strings s old new r
+    (subst (λ (i : PutItem). get old.shares.owners (owner_of user.0 i.fp.0) ≡ None) same none)
+    (subst (λ (i : PutItem). TakesItem old new user i) same taken)

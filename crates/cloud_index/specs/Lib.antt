@@ -1,3 +1,4 @@
 pub mod Memory
-pub mod Steps
 pub mod News
+pub mod Taking
+pub mod Steps

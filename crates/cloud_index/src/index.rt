@@ -1,21 +1,23 @@
 //! The index of a cloud's list.
 
-ghost use Rattle.std.specs.Prelude.{◌≡◌, ◌<◌, ◌≤◌, ◌+◌, ◌^◌, option_map, ℕ, List, [], ◌∷◌, ◌++◌, length, IfOk, Some, None, IsSome, slice_get};
+ghost use Rattle.std.specs.Prelude.{◌≡◌, ◌↔◌, ◌<◌, ◌≤◌, ◌+◌, ◌^◌, option_map, ℕ, List, [], ◌∷◌, ◌++◌, length, IfOk, OnOk, OnErr, MatchResult, Some, None, IfSome, IsSome, IsTrue, slice_get};
 ghost use Rattle.std.specs.FinMap as map;
 ghost use Rattle.cd_base.specs.declared.shape.Shape.{Shape};
-ghost use Rattle.container_log.specs.Places.{place_of};
+ghost use Rattle.container_log.specs.Places.{place_of, end_after};
 ghost use Rattle.file_index.specs.Files.{key_of};
 ghost use Rattle.record_body.specs.Spelling as bodies;
+ghost use Rattle.share_index.specs.Order.{owner_of};
 ghost use Rattle.user_dedup.specs.declared.command.Command.{Command};
 ghost use Rattle.user_dedup.specs.declared.command.Command.TheVariants as commands;
 ghost use Rattle.user_dedup.specs.Cloud.{fingerprint, user_view};
 ghost use Rattle.user_dedup.specs.Owning.{is_among};
 ghost use Rattle.cloud_store.specs.Contents.{strings_in, place_in, entry_in};
-ghost use Rattle.cloud_store.specs.Records.{item_after, record_after, journal_len};
+ghost use Rattle.cloud_store.specs.Records.{item_after, items_after, record_after, journal_len};
 ghost use Rattle.cloud_store.specs.Space.{use_of, end_past, full_for, IsWithin};
 ghost use Rattle.cloud_index.specs.Memory.{Remembers, HasRooms, HasShareRoom, HasFileRoom, keys_above};
-ghost use Rattle.cloud_index.specs.News.{AreOf, seen, fresh_lens};
-ghost use Rattle.cloud_index.specs.Steps.{KeepsLimits, Placed, Owned, Entered};
+ghost use Rattle.cloud_index.specs.News.{AreOf, AreNewTo, AreLaid, parts_from, seen, fresh_lens};
+ghost use Rattle.cloud_index.specs.Taking.{TakesItem, TakesItems, TakesCommit};
+ghost use Rattle.cloud_index.specs.Steps.{Placed, Owned, part_in, Adds, AddsAll, FitsPut, FitsCommit, MayAdd};
 
 use crate::places::place_behind;
 use crate::rooms::{OfCommit, OfPut, full_for_commit, full_for_put};
@@ -65,21 +67,24 @@ impl CloudIndex {
 
     /// Whether the user owns the fingerprint.
     pub fn owns(&self, user: UserId, fp: &Fp) -> bool
-        ensures { (shape : Shape) (list : List Command) → Remembers shape list self.now → result ≡ is_among (user_view shape list user).own fp.now }
+        ensures kept { IsTrue result ↔ IsSome (map.get self.now.shares.owners (owner_of user.0 fp.now.0)) }
+        ensures meaning { (shape : Shape) (list : List Command) → Remembers shape list self.now → result ≡ is_among (user_view shape list user).own fp.now }
     {
         self.shares.owns(user, fp)
     }
 
     /// Where the share with the fingerprint lies, whoever sent it first. None comes exactly where there is no such share.
     pub fn place_of(&self, fp: &Fp) -> Option<Place>
-        ensures { (shape : Shape) (list : List Command) → Remembers shape list self.now → result ≡ place_in (strings_in list) fp.now }
+        ensures kept { result ≡ map.get self.now.shares.places fp.now.0 }
+        ensures meaning { (shape : Shape) (list : List Command) → Remembers shape list self.now → result ≡ place_in (strings_in list) fp.now }
     {
         self.shares.place_of(fp)
     }
 
     /// The entry of a version of the user's file. None comes exactly where the user has no such version.
     pub fn entry(&self, user: UserId, tag: &Tag, version: Version) -> Option<Entry>
-        ensures { (shape : Shape) (list : List Command) → Remembers shape list self.now → result ≡ entry_in list (key_of user.0 tag.now.0 version.0) }
+        ensures kept { result ≡ map.get self.now.files.files (key_of user.0 tag.now.0 version.0) }
+        ensures meaning { (shape : Shape) (list : List Command) → Remembers shape list self.now → result ≡ entry_in list (key_of user.0 tag.now.0 version.0) }
     {
         self.files.get(user, tag, version)
     }
@@ -94,21 +99,24 @@ impl CloudIndex {
 
     /// How many different fingerprints have a place.
     pub fn fps(&self) -> u32
-        ensures { (shape : Shape) (list : List Command) → Remembers shape list self.now → result ≡ (use_of list).fps }
+        ensures value { result ≡ map.len self.now.shares.places }
+        ensures meaning { (shape : Shape) (list : List Command) → Remembers shape list self.now → result ≡ (use_of list).fps }
     {
         self.shares.placed()
     }
 
     /// How many fingerprints are owned, over all users.
     pub fn owners(&self) -> u32
-        ensures { (shape : Shape) (list : List Command) → Remembers shape list self.now → result ≡ (use_of list).owners }
+        ensures value { result ≡ map.len self.now.shares.owners }
+        ensures meaning { (shape : Shape) (list : List Command) → Remembers shape list self.now → result ≡ (use_of list).owners }
     {
         self.shares.owned()
     }
 
     /// How many versions of files there are, over all users.
     pub fn files(&self) -> u32
-        ensures { (shape : Shape) (list : List Command) → Remembers shape list self.now → result ≡ (use_of list).files }
+        ensures value { result ≡ map.len self.now.files.files }
+        ensures meaning { (shape : Shape) (list : List Command) → Remembers shape list self.now → result ≡ (use_of list).files }
     {
         self.files.len()
     }
@@ -129,34 +137,24 @@ impl CloudIndex {
         self.recipes_end
     }
 
-    // Gives a fingerprint without a place the place behind the end, and answers it. A fingerprint with a place keeps it.
-    fn place(&mut self, fp: Fp, len: u32) -> Option<Place>
-        requires fps { map.get self.old.shares.places fp.0 ≡ None → map.len self.old.shares.places < self.old.shares.fps }
-        requires end { self.old.shares_end < 2 ^ 63 }
-        ensures known { IsSome (map.get self.old.shares.places fp.0) → (self.new ≡ self.old) × (result ≡ None) }
-        ensures placed { map.get self.old.shares.places fp.0 ≡ None → Placed self.old self.new fp len result }
-        ensures limits { KeepsLimits self.old self.new }
+    // Gives a fingerprint without a place this one, behind which the shares end.
+    fn lay(&mut self, fp: Fp, place: Place)
+        requires new { map.get self.old.shares.places fp.0 ≡ None }
+        requires fps { map.len self.old.shares.places < self.old.shares.fps }
+        requires end { place.at + place.len < 2 ^ 64 }
+        ensures { Placed self.old self.new fp place }
     {
-        match self.shares.place_of(&fp) {
-            Some(_) => None,
-            None => {
-                let at = place_behind(self.shares_end, len);
-                let place = Place { at, len };
-                match self.shares.set_place(fp, place) {
-                    Ok(()) => {}
-                    Err(_) => unreachable!(),
-                }
-                self.shares_end = at + u64::from(len);
-                Some(place)
-            }
+        match self.shares.set_place(fp, place) {
+            Ok(()) => {}
+            Err(_) => unreachable!(),
         }
+        self.shares_end = place.at + u64::from(place.len);
     }
 
     // Makes the user an owner of the fingerprint.
     fn own(&mut self, user: UserId, fp: Fp)
         requires { HasShareRoom self.old user fp }
-        ensures owned { Owned self.old self.new user fp }
-        ensures limits { KeepsLimits self.old self.new }
+        ensures { Owned self.old self.new user fp }
     {
         match self.shares.add_owner(user, fp) {
             Ok(()) => {}
@@ -164,65 +162,87 @@ impl CloudIndex {
         }
     }
 
-    /// Adds a share to the user's Put that is the last command: one that the user doesn't own, and for which there is room. It
-    /// lies where it was placed before, and else behind the end of all shares. The answer is the share's part of the record.
-    pub fn add_share(&mut self, user: UserId, fp: Fp, len: u32) -> PutItem
-        requires room { HasShareRoom self.old user fp }
-        requires end { self.old.shares_end < 2 ^ 63 }
-        ensures remembers { (shape : Shape) (list : List Command) (strings : List (List ℕ)) (s : List ℕ) → fingerprint s ≡ fp → length s ≡ len
+    /// Takes one share of a Put's record. The user doesn't own it, there is room for it, and it has a place in the record exactly
+    /// where it has none here. The place is the one that the record says, whatever it is.
+    pub fn take_item(&mut self, user: UserId, item: &PutItem)
+        requires room { HasShareRoom self.old user item.now.fp }
+        requires flag { IsSome item.now.place ↔ (map.get self.old.shares.places item.now.fp.0 ≡ None) }
+        requires end { IfSome item.now.place (λ place. place.at + place.len < 2 ^ 64) }
+        ensures remembers { (shape : Shape) (list : List Command) (strings : List (List ℕ)) (s : List ℕ) → item.now ≡ item_after (strings_in list ++ strings) s
             → Remembers shape (list ++ commands.Put user strings ∷ []) self.old → Remembers shape (list ++ commands.Put user (strings ++ s ∷ []) ∷ []) self.new }
-        ensures item { (shape : Shape) (list : List Command) (strings : List (List ℕ)) (s : List ℕ) → fingerprint s ≡ fp → length s ≡ len
-            → Remembers shape (list ++ commands.Put user strings ∷ []) self.old → result ≡ item_after (strings_in list ++ strings) s }
+        ensures taken { TakesItem self.old self.new user item.now }
         ensures rooms { (rooms : Rooms) → HasRooms rooms self.old → HasRooms rooms self.new }
     {
-        self.own(user, fp);
-        let place = self.place(fp, len);
-        PutItem { fp, place }
+        self.own(user, item.fp);
+        match item.place {
+            Some(place) => self.lay(item.fp, place),
+            None => {}
+        }
     }
 
-    // Enters a version of the user's file.
-    fn enter(&mut self, user: UserId, tag: Tag, version: Version, fp: Fp, len: u32) -> u64
-        requires room { HasFileRoom self.old user tag version }
-        requires end { self.old.recipes_end < 2 ^ 63 }
-        ensures at { result ≡ place_of self.old.recipes_end len }
-        ensures entered { Entered self.old self.new user tag version (record { at = result; len = len; fp = fp }) }
-        ensures limits { KeepsLimits self.old self.new }
+    /// Takes a Commit's record: a version that the user doesn't have, and for which there is room. The place is the one that the
+    /// record says, whatever it is.
+    pub fn take_commit(&mut self, body: &CommitBody)
+        requires room { HasFileRoom self.old body.now.user body.now.tag body.now.version }
+        requires end { body.now.at + body.now.len < 2 ^ 64 }
+        ensures remembers { (shape : Shape) (list : List Command) (recipe : List ℕ)
+            → bodies.Commit body.now ≡ record_after list (commands.Commit body.now.user body.now.tag body.now.version recipe)
+            → Remembers shape list self.old → Remembers shape (list ++ commands.Commit body.now.user body.now.tag body.now.version recipe ∷ []) self.new }
+        ensures taken { TakesCommit self.old self.new body.now }
+        ensures rooms { (rooms : Rooms) → HasRooms rooms self.old → HasRooms rooms self.new }
     {
-        let at = place_behind(self.recipes_end, len);
-        match self.files.put(user, tag, version, Entry { at, len, fp }) {
+        let entry = Entry {
+            at: body.at,
+            len: body.len,
+            fp: body.fp,
+        };
+        match self.files.put(body.user, body.tag, body.version, entry) {
             Ok(()) => {}
             Err(_) => unreachable!(),
         }
-        self.recipes_end = at + u64::from(len);
-        at
+        self.recipes_end = body.at + u64::from(body.len);
     }
 
-    /// Adds a Commit: a version that the user doesn't have, and for which there is room. Its recipe lies behind the end of all
-    /// recipes. The answer is the command's record.
-    pub fn add_file(
-        &mut self,
-        user: UserId,
-        tag: Tag,
-        version: Version,
-        fp: Fp,
-        len: u32,
-    ) -> CommitBody
-        requires room { HasFileRoom self.old user tag version }
-        requires end { self.old.recipes_end < 2 ^ 63 }
-        ensures remembers { (shape : Shape) (list : List Command) (recipe : List ℕ) → fingerprint recipe ≡ fp → length recipe ≡ len
-            → Remembers shape list self.old → Remembers shape (list ++ commands.Commit user tag version recipe ∷ []) self.new }
-        ensures body { (shape : Shape) (list : List Command) (recipe : List ℕ) → fingerprint recipe ≡ fp → length recipe ≡ len
-            → Remembers shape list self.old → bodies.Commit result ≡ record_after list (commands.Commit user tag version recipe) }
-        ensures rooms { (rooms : Rooms) → HasRooms rooms self.old → HasRooms rooms self.new }
+    // The share's part of the record, where it is added now.
+    fn part_of(&self, new: New) -> PutItem
+        requires { self.now.shares_end < 2 ^ 63 }
+        ensures part { result ≡ part_in self.now new }
+        ensures end { IfSome result.place (λ place. place.at + place.len < 2 ^ 64) }
     {
-        let at = self.enter(user, tag, version, fp, len);
-        CommitBody {
-            user,
-            tag,
-            version,
-            at,
-            len,
-            fp,
+        match self.shares.place_of(&new.fp) {
+            Some(_) => PutItem {
+                fp: new.fp,
+                place: None,
+            },
+            None => PutItem {
+                fp: new.fp,
+                place: Some(Place {
+                    at: place_behind(self.shares_end, new.len),
+                    len: new.len,
+                }),
+            },
+        }
+    }
+
+    // Adds a share to the user's Put that is the last command, and answers the share's part of the record.
+    fn add_share(&mut self, user: UserId, new: New) -> PutItem
+        requires room { HasShareRoom self.old user new.fp }
+        requires end { self.old.shares_end < 2 ^ 63 }
+        ensures { Adds self.old self.new user new result }
+    {
+        let part = self.part_of(new);
+        self.take_item(user, &part);
+        part
+    }
+
+    // Adds these shares, in order, to the user's Put that is the last command.
+    fn add_shares(&mut self, user: UserId, news: &[New], items: &mut [PutItem])
+        requires room { MayAdd self.old user news.now }
+        requires places { length items.old ≡ length news.now }
+        ensures { AddsAll self.old self.new user news.now items.new }
+    {
+        for place in 0..news.len() {
+            items[place] = self.add_share(user, news[place]);
         }
     }
 
@@ -261,16 +281,15 @@ impl CloudIndex {
         end
     }
 
-    /// The first room that a Put of these shares would pass, in the order fingerprints, owners, shares, journal. The shares are
-    /// new to the user, no two of them alike, and the last closed gate of the journal has the place `gate`. None comes exactly
-    /// where all rooms are wide enough.
-    pub fn room_for_put(&self, rooms: &Rooms, gate: u64, news: &[New]) -> Option<Full>
+    // The first room that a Put of these shares would pass.
+    fn room_for_put(&self, rooms: &Rooms, gate: u64, news: &[New]) -> Option<Full>
         requires few { length news.now ≤ 256 }
         requires gate { gate < 2 ^ 63 }
         requires end { self.now.shares_end < 2 ^ 63 }
         requires limit { rooms.now.shares < 2 ^ 63 }
-        ensures { (shape : Shape) (list : List Command) (user : UserId) (strings : List (List ℕ)) → Remembers shape list self.now → IsWithin rooms.now list
+        ensures full { (shape : Shape) (list : List Command) (user : UserId) (strings : List (List ℕ)) → Remembers shape list self.now → IsWithin rooms.now list
             → AreOf news.now strings → gate + 1 ≡ journal_len list → option_map seen result ≡ full_for rooms.now list (commands.Put user strings) }
+        ensures fits { result ≡ None → FitsPut rooms.now gate self.now news.now }
     {
         let count = news.len() as u64;
         let fresh = self.unplaced(news);
@@ -290,14 +309,62 @@ impl CloudIndex {
         full_for_put(rooms, used, need)
     }
 
-    /// The first room that a Commit with a recipe of this length would pass, in the order files, recipes, journal. The last closed
-    /// gate of the journal has the place `gate`. None comes exactly where all rooms are wide enough.
-    pub fn room_for_commit(&self, rooms: &Rooms, gate: u64, len: u32) -> Option<Full>
+    /// Adds a Put of these shares, in order, as the last command, where each room is wide enough, and gives for each share its
+    /// part of the record: where the share lies, if it has no place yet. The shares are new to the user, no two of them alike;
+    /// the journal's last closed gate has the place `gate`. `Full` names the first room that the Put would pass, in the order
+    /// fingerprints, owners, shares, journal; nothing changes then.
+    pub fn add_put(
+        &mut self,
+        rooms: &Rooms,
+        gate: u64,
+        user: UserId,
+        news: &[New],
+        items: &mut [PutItem],
+    ) -> Result<(), Full>
+        requires few { length news.now ≤ 256 }
+        requires gate { gate < 2 ^ 63 }
+        requires end { self.old.shares_end < 2 ^ 63 }
+        requires limit { rooms.now.shares < 2 ^ 63 }
+        requires rooms { HasRooms rooms.now self.old }
+        requires new { AreNewTo self.old user news.now }
+        requires places { length items.old ≡ length news.now }
+
+        // by the list that is remembered
+        ensures full { (shape : Shape) (list : List Command) (strings : List (List ℕ)) → Remembers shape list self.old → IsWithin rooms.now list
+            → AreOf news.now strings → gate + 1 ≡ journal_len list
+            → MatchResult result (λ _. full_for rooms.now list (commands.Put user strings) ≡ None)
+            (λ full. full_for rooms.now list (commands.Put user strings) ≡ Some (seen full)) }
+        ensures remembers { (shape : Shape) (list : List Command) (strings : List (List ℕ)) → Remembers shape list self.old → AreOf news.now strings
+            → OnOk result (Remembers shape (list ++ commands.Put user strings ∷ []) self.new) }
+        ensures items { (shape : Shape) (list : List Command) (strings : List (List ℕ)) → Remembers shape list self.old → AreOf news.now strings
+            → OnOk result (items.new ≡ items_after (strings_in list) strings) }
+
+        // by the index alone
+        ensures parts { OnOk result (items.new ≡ parts_from self.old.shares.places self.old.shares_end news.now) }
+        ensures taken { OnOk result (TakesItems self.old self.new user items.new) }
+        ensures laid { OnOk result (AreLaid rooms.now gate self.old.shares_end self.new.shares_end news.now items.new) }
+        ensures recipes { self.new.recipes_end ≡ self.old.recipes_end }
+        ensures rooms { HasRooms rooms.now self.new }
+        ensures err { OnErr result (self.new ≡ self.old) }
+        ensures kept { OnErr result (items.new ≡ items.old) }
+    {
+        match self.room_for_put(rooms, gate, news) {
+            Some(full) => Err(full),
+            None => {
+                self.add_shares(user, news, items);
+                Ok(())
+            }
+        }
+    }
+
+    // The first room that a Commit with a recipe of this length would pass.
+    fn room_for_commit(&self, rooms: &Rooms, gate: u64, len: u32) -> Option<Full>
         requires gate { gate < 2 ^ 63 }
         requires end { self.now.recipes_end < 2 ^ 63 }
-        ensures { (shape : Shape) (list : List Command) (user : UserId) (tag : Tag) (version : Version) (recipe : List ℕ) → Remembers shape list self.now
+        ensures full { (shape : Shape) (list : List Command) (user : UserId) (tag : Tag) (version : Version) (recipe : List ℕ) → Remembers shape list self.now
             → length tag.0 ≡ 32 → length recipe ≡ len → gate + 1 ≡ journal_len list
             → option_map seen result ≡ full_for rooms.now list (commands.Commit user tag version recipe) }
+        ensures fits { result ≡ None → FitsCommit rooms.now gate self.now len }
     {
         let at = place_behind(self.recipes_end, len);
         let more = u64::from(len);
@@ -314,5 +381,60 @@ impl CloudIndex {
             journal: 94,
         };
         full_for_commit(rooms, used, need)
+    }
+
+    /// Adds a Commit of a version that the user doesn't have, as the last command, where each room is wide enough, and gives its
+    /// record. The recipe has this fingerprint and so many bytes, and lies behind the end of all recipes; the journal's last
+    /// closed gate has the place `gate`. `Full` names the first room that the Commit would pass, in the order files, recipes,
+    /// journal; nothing changes then.
+    pub fn add_commit(
+        &mut self,
+        rooms: &Rooms,
+        gate: u64,
+        user: UserId,
+        tag: Tag,
+        version: Version,
+        fp: Fp,
+        len: u32,
+    ) -> Result<CommitBody, Full>
+        requires gate { gate < 2 ^ 63 }
+        requires end { self.old.recipes_end < 2 ^ 63 }
+        requires rooms { HasRooms rooms.now self.old }
+        requires new { map.get self.old.files.files (key_of user.0 tag.0 version.0) ≡ None }
+
+        // by the list that is remembered
+        ensures full { (shape : Shape) (list : List Command) (recipe : List ℕ) → Remembers shape list self.old → gate + 1 ≡ journal_len list → length recipe ≡ len
+            → MatchResult result (λ _. full_for rooms.now list (commands.Commit user tag version recipe) ≡ None)
+            (λ full. full_for rooms.now list (commands.Commit user tag version recipe) ≡ Some (seen full)) }
+        ensures remembers { (shape : Shape) (list : List Command) (recipe : List ℕ) → fingerprint recipe ≡ fp → length recipe ≡ len → Remembers shape list self.old
+            → OnOk result (Remembers shape (list ++ commands.Commit user tag version recipe ∷ []) self.new) }
+        ensures body { (shape : Shape) (list : List Command) (recipe : List ℕ) → fingerprint recipe ≡ fp → length recipe ≡ len → Remembers shape list self.old
+            → IfOk result (λ body. bodies.Commit body ≡ record_after list (commands.Commit user tag version recipe)) }
+
+        // by the index alone
+        ensures entered { IfOk result (λ body. body ≡ record { user = user; tag = tag; version = version; at = place_of self.old.recipes_end len; len = len; fp = fp }) }
+        ensures taken { IfOk result (λ body. TakesCommit self.old self.new body) }
+        ensures end { OnOk result (self.new.recipes_end ≡ end_after self.old.recipes_end len) }
+        ensures within { OnOk result ((self.new.recipes_end ≤ rooms.now.recipes) × (gate + 95 ≤ rooms.now.journal)) }
+        ensures shares { self.new.shares_end ≡ self.old.shares_end }
+        ensures rooms { HasRooms rooms.now self.new }
+        ensures err { OnErr result (self.new ≡ self.old) }
+    {
+        match self.room_for_commit(rooms, gate, len) {
+            Some(full) => Err(full),
+            None => {
+                let at = place_behind(self.recipes_end, len);
+                let body = CommitBody {
+                    user,
+                    tag,
+                    version,
+                    at,
+                    len,
+                    fp,
+                };
+                self.take_commit(&body);
+                Ok(body)
+            }
+        }
     }
 }

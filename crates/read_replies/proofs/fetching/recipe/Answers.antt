@@ -16,7 +16,7 @@ pub returns-in-Ok-clause-value : goal.returns-in-Ok-clause-value
 returns-in-Ok-clause-value g c = λ told header list k.
     let cloud = g.V.Shelf.cloud_at c.args.shelf.now c.args.cloud.0 in
     let entry = c.in-Some.entry in
-    let e : entry_in list (key_of c.args.user.0 c.args.tag.now.0 c.args.version.0) ≡ Some entry = sym (c.entry.ensures header.shape list k.remembers) ∙ c.in-Some.is in
+    let e : entry_in list (key_of c.args.user.0 c.args.tag.now.0 c.args.version.0) ≡ Some entry = sym (c.entry.ensures.meaning header.shape list k.remembers) ∙ c.in-Some.is in
     let r = recipe_at (reads cloud.now) header list c.args.index.now c.args.user c.args.tag.now c.args.version entry k e in
     let b : Placed = record { place = entry.at; blob = r.recipe } in
     c.in-Ok.ensures.blob told b refl r.long r.named (subst (λ (x : Area). IsAt (cloud.now x).read b) (sym c.requires.area) r.lies) ∙ ap reply_bytes (sym r.reply)
@@ -24,13 +24,13 @@ returns-in-Ok-clause-value g c = λ told header list k.
 pub returns-in-Ok-clause-kind : goal.returns-in-Ok-clause-kind
 returns-in-Ok-clause-kind g c =
     let f = c.in-Ok.ensures.ok in
-    record { reply = replies.Recipe f.recipe; is = f.is; said = λ shape list is. (c.in-Some.entry, sym (c.entry.ensures shape list is) ∙ c.in-Some.is, f.named) }
+    record { reply = replies.Recipe f.recipe; is = f.is; said = λ shape list is. (c.in-Some.entry, sym (c.entry.ensures.meaning shape list is) ∙ c.in-Some.is, f.named) }
 
 pub returns-in-Err-Rotten-clause-value : goal.returns-in-Err-Rotten-clause-value
 returns-in-Err-Rotten-clause-value g c = λ told header list k.
     let cloud = g.V.Shelf.cloud_at c.args.shelf.now c.args.cloud.0 in
     let entry = c.in-Some.entry in
-    let e : entry_in list (key_of c.args.user.0 c.args.tag.now.0 c.args.version.0) ≡ Some entry = sym (c.entry.ensures header.shape list k.remembers) ∙ c.in-Some.is in
+    let e : entry_in list (key_of c.args.user.0 c.args.tag.now.0 c.args.version.0) ≡ Some entry = sym (c.entry.ensures.meaning header.shape list k.remembers) ∙ c.in-Some.is in
     let r = recipe_at (reads cloud.now) header list c.args.index.now c.args.user c.args.tag.now c.args.version entry k e in
     let range = entry_range header.shape header.cloud.0 list c.args.user c.args.tag.now c.args.version entry k.sound e in
     let b : Placed = record { place = entry.at; blob = r.recipe } in
@@ -45,7 +45,7 @@ returns-in-Err-Rotten-clause-kind g c =
       reply = replies.Rotten c.in-Err-Rotten.named c.in-Err-Rotten.found;
       is = c.put_rotten.ensures;
       said = λ shape list is.
-          let e : entry_in list (key_of c.args.user.0 c.args.tag.now.0 c.args.version.0) ≡ Some entry = sym (c.entry.ensures shape list is) ∙ c.in-Some.is in (
+          let e : entry_in list (key_of c.args.user.0 c.args.tag.now.0 c.args.version.0) ≡ Some entry = sym (c.entry.ensures.meaning shape list is) ∙ c.in-Some.is in (
             entry,
             e,
             rotten_at c.in-Err-Rotten.field-0 _ _ (λ (named found : Fp). named ≡ entry.fp) c.in-Err-Rotten.field-0-is c.in-Err-Rotten.ensures.named,
@@ -60,7 +60,7 @@ returns-in-Err-Rotten-clause-kind g c =
 pub returns-in-None-clause-value : goal.returns-in-None-clause-value
 returns-in-None-clause-value g c = λ told header list k.
     c.put_missing.ensures.spelled
-    ∙ ap reply_bytes (sym (recipe_missing header.shape list c.args.user c.args.tag.now c.args.version (sym (c.entry.ensures header.shape list k.remembers) ∙ c.in-None.is)))
+    ∙ ap reply_bytes (sym (recipe_missing header.shape list c.args.user c.args.tag.now c.args.version (sym (c.entry.ensures.meaning header.shape list k.remembers) ∙ c.in-None.is)))
 
 pub returns-in-None-clause-kind : goal.returns-in-None-clause-kind
-returns-in-None-clause-kind g c = record { reply = replies.Missing; is = c.put_missing.ensures; said = λ shape list is. sym (c.entry.ensures shape list is) ∙ c.in-None.is }
+returns-in-None-clause-kind g c = record { reply = replies.Missing; is = c.put_missing.ensures; said = λ shape list is. sym (c.entry.ensures.meaning shape list is) ∙ c.in-None.is }

@@ -11,7 +11,7 @@ returns-then-not-owns-clause-value c = λ shape list is.
     let place = c.loop-place.place in
     let lacks : c.owns.result ≡ false = search rules in
     sym (c.loop-place.invariant shape list is ∙ ap (lacking_from own place) (front_gone fps place c.fp_at.result c.fp_at.ensures)
-    ∙ lacks_here own place c.fp_at.result (drop (place + 1) fps) (sym (c.owns.ensures shape list is) ∙ lacks))
+    ∙ lacks_here own place c.fp_at.result (drop (place + 1) fps) (sym (c.owns.ensures.meaning shape list is) ∙ lacks))
 
 pub loop-place-preserved : goal.loop-place-preserved
 loop-place-preserved c = λ shape list is.
@@ -20,7 +20,7 @@ loop-place-preserved c = λ shape list is.
     let place = c.loop-place.place in
     let has : c.owns.result ≡ true = search rules in
     c.loop-place.invariant shape list is ∙ ap (lacking_from own place) (front_gone fps place c.fp_at.result c.fp_at.ensures)
-    ∙ lacks_later own place c.fp_at.result (drop (place + 1) fps) (sym (c.owns.ensures shape list is) ∙ has)
+    ∙ lacks_later own place c.fp_at.result (drop (place + 1) fps) (sym (c.owns.ensures.meaning shape list is) ∙ has)
 
 pub returns-clause-value : goal.returns-clause-value
 returns-clause-value c = λ shape list is.
