@@ -1,5 +1,5 @@
 -- What a command log is, and that it stands for a list of commands.
-use Rattle.std.specs.Prelude.{◌≡◌, ◌⊎◌, ℕ, IsTrue, List, [], ◌∷◌, ◌++◌}
+use Rattle.std.specs.Prelude.{◌≡◌, ◌⊎◌, ℕ, ◌+◌, IsTrue, List, [], ◌∷◌, ◌++◌, length}
 use Rattle.cd_edges.specs.declared.area.Area.{Area}
 use Rattle.cd_edges.specs.declared.area.Area.TheVariants.{Journal, Shares, Recipes}
 use Rattle.cd_edges.specs.Disk.{Cloud, reads}
@@ -50,6 +50,12 @@ IsWithOrWithout list command other = (other ≡ list) ⊎ (other ≡ list ++ com
 -- nothing is staged
 abbrev pub without_staged : Logs → Logs
 without_staged log = record log { shares = logs.without_staged log.shares; recipes = logs.without_staged log.recipes }
+
+-- The logs end behind what was staged, and the last gate lies behind one more record.
+pub record EndsBehind (old new : Logs) (body : List ℕ) : Type 0 where
+  pub shares : new.shares.end ≡ logs.staged_end old.shares
+  pub recipes : new.recipes.end ≡ logs.staged_end old.recipes
+  pub gate : new.journal.gate ≡ old.journal.gate + 5 + length body
 
 -- Areas and limits are what they were.
 pub record SameRooms (old new : Logs) : Type 0 where

@@ -5,7 +5,7 @@ ghost use Rattle.cd_edges.specs.declared.area.Area.{Area};
 ghost use Rattle.cd_edges.specs.Disk.{LeavesOnly, IsAtArea, moment};
 ghost use Rattle.cd_edges.specs.Shelf.{IsCall, HasFailed, KeepsCounts};
 ghost use Rattle.container_log.specs.Laying.{placed, IsAt};
-ghost use Rattle.container_log.specs.States.{HasStaged, after_flush};
+ghost use Rattle.container_log.specs.States.{HasStaged, staged_end, after_flush};
 ghost use Rattle.command_log.specs.Held.{Holds, HoldBoth, IsHeld, flush_moments};
 
 use cd_base::CloudNo;
@@ -45,6 +45,7 @@ pub(crate) fn flush_both<V: Shelf>(
         × ((V.cloud_at shelf.new cloud.0).now Area.Journal ≡ (V.cloud_at shelf.old cloud.0).now Area.Journal)) }
     ensures moments { IsTrue (V.cloud_at shelf.old cloud.0).told → OnOk result (moment (V.cloud_at shelf.new cloud.0) ≡ moment (V.cloud_at shelf.old cloud.0) + flush_moments shares.old + flush_moments recipes.old) }
     ensures rooms { (shares.new.area ≡ shares.old.area) × (shares.new.limit ≡ shares.old.limit) × (recipes.new.area ≡ recipes.old.area) × (recipes.new.limit ≡ recipes.old.limit) }
+    ensures ends { OnOk result ((shares.new.end ≡ staged_end shares.old) × (recipes.new.end ≡ staged_end recipes.old)) }
     ensures none { HasStaged shares.new [] × HasStaged recipes.new [] }
     ensures call { IsCall (V.cloud_at shelf.old) (V.cloud_at shelf.new) cloud.0 (V.faults shelf.old) (V.faults shelf.new) }
     ensures failed { OnErr result (HasFailed (V.cloud_at shelf.old cloud.0) (V.cloud_at shelf.new cloud.0) (V.faults shelf.old) (V.faults shelf.new)) }

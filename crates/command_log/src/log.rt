@@ -7,6 +7,7 @@ ghost use Rattle.cd_edges.specs.Disk.{Cloud, LeavesOnly, moment};
 ghost use Rattle.cd_edges.specs.Shelf.{IsCall, HasFailed, KeepsCounts, Stays, ReadsFrom};
 ghost use Rattle.commit_journal.specs.declared.header.Header.{Header};
 ghost use Rattle.commit_journal.specs.declared.journal.Stage.TheVariants.{Shut, AtEnd};
+ghost use Rattle.commit_journal.specs.States.{state_of};
 ghost use Rattle.container_log.specs.Laying.{Placed, lengths, placed};
 ghost use Rattle.container_log.specs.Places.{place_of, end_of_laid};
 ghost use Rattle.container_log.specs.States.{HasStaged, staged_end, need_of, with_blob};
@@ -14,7 +15,9 @@ ghost use Rattle.user_dedup.specs.declared.command.Command.{Command};
 ghost use Rattle.cloud_store.specs.Contents.{strings_in, shares_end, laid_shares, recipes_in, recipes_end};
 ghost use Rattle.cloud_store.specs.Standing.{StandsForSome};
 ghost use Rattle.command_log.specs.Held.{flush_moments};
-ghost use Rattle.command_log.specs.Logs.{Logs, IsOn, IsPrepared, IsWithOrWithout, SameRooms, without_staged};
+ghost use Rattle.command_log.specs.Lending.{LendsJournal, LendsShares, LendsRecipes};
+ghost use Rattle.command_log.specs.Logs.{Logs, IsOn, IsPrepared, IsWithOrWithout, EndsBehind, SameRooms, without_staged};
+ghost use Rattle.std.specs.Borrow.{sem};
 
 use crate::JournalFull;
 use crate::flush::flush_both;
@@ -58,6 +61,41 @@ impl CommandLog {
             shares: Log::make(alloc, Area::Shares, rooms.shares)?,
             recipes: Log::make(alloc, Area::Recipes, rooms.recipes)?,
         })
+    }
+
+    /// The journal, to be read or to be added to.
+    pub fn journal_mut(&mut self) -> &mut Journal
+        // the log has the journal that is left behind the result
+        ensures* writes_back { sem 𝓛 (LendsJournal self.entry result) }
+        ensures value { state_of result.now ≡ self.old.journal }
+    {
+        &mut self.journal
+    }
+
+    /// The log of the shares.
+    pub fn shares_mut(&mut self) -> &mut Log
+        // the log has the log of the shares that is left behind the result
+        ensures* writes_back { sem 𝓛 (LendsShares self.entry result) }
+        ensures value { result.now ≡ self.old.shares }
+    {
+        &mut self.shares
+    }
+
+    /// The log of the recipes.
+    pub fn recipes_mut(&mut self) -> &mut Log
+        // the log has the log of the recipes that is left behind the result
+        ensures* writes_back { sem 𝓛 (LendsRecipes self.entry result) }
+        ensures value { result.now ≡ self.old.recipes }
+    {
+        &mut self.recipes
+    }
+
+    /// The bytes that are used in the journal, up to and with the gate, once commands may be added.
+    pub fn used(&self) -> u64
+        requires { self.now.journal.stage ≡ AtEnd }
+        ensures { result ≡ self.now.journal.gate + 1 }
+    {
+        self.journal.used()
     }
 
     /// Whether the journal was read to its end, so that a command may be added.
@@ -151,7 +189,8 @@ impl CommandLog {
     ///
     /// The device calls are a write and a sync of each area for which something was staged, and a write and a sync of the
     /// record with the next gate, closed, and of its own gate: each raises the cloud's moment by one. Failed comes only where
-    /// the cloud's count of faults rose; the journal is shut then. Nothing is staged afterwards. It takes no memory.
+    /// the cloud's count of faults rose; the journal is shut then. After Ok the logs end behind what was staged, and the journal
+    /// behind the record. Nothing is staged afterwards. It takes no memory.
     pub fn add<V: Shelf>(
         &mut self,
         shelf: &mut V,
@@ -171,6 +210,7 @@ impl CommandLog {
             → OnOk result (moment (V.cloud_at shelf.new cloud.0) ≡ moment (V.cloud_at shelf.old cloud.0) + flush_moments self.old.shares + flush_moments self.old.recipes + 4) }
 
         ensures none { HasStaged self.new.shares [] × HasStaged self.new.recipes [] }
+        ensures ends { OnOk result (EndsBehind self.old self.new body.now) }
         ensures stage { self.new.journal.stage ≡ (if is_ok result then AtEnd else Shut) }
         ensures rooms { SameRooms self.old self.new }
         ensures call { IsCall (V.cloud_at shelf.old) (V.cloud_at shelf.new) cloud.0 (V.faults shelf.old) (V.faults shelf.new) }

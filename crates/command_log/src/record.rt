@@ -30,6 +30,7 @@ pub(crate) fn append_record<V: Shelf>(
         → OnOk result (IsEnded (state_of journal.new) ((V.cloud_at shelf.new cloud.0).now Area.Journal) (bodies ++ body.now ∷ [])) }
     ensures others { IsTrue (V.cloud_at shelf.old cloud.0).told → OnOk result ((other : Area) → other ≢ Area.Journal → (V.cloud_at shelf.new cloud.0).now other ≡ (V.cloud_at shelf.old cloud.0).now other) }
     ensures moments { IsTrue (V.cloud_at shelf.old cloud.0).told → OnOk result (moment (V.cloud_at shelf.new cloud.0) ≡ moment (V.cloud_at shelf.old cloud.0) + 4) }
+    ensures gate { OnOk result ((state_of journal.new).gate ≡ (state_of journal.old).gate + 5 + length body.now) }
     ensures stage { (state_of journal.new).stage ≡ (if is_ok result then Stage.AtEnd else Stage.Shut) }
     ensures limit { (state_of journal.new).limit ≡ (state_of journal.old).limit }
     ensures call { IsCall (V.cloud_at shelf.old) (V.cloud_at shelf.new) cloud.0 (V.faults shelf.old) (V.faults shelf.new) }
