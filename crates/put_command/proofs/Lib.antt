@@ -1,0 +1,5 @@
+pub mod Lists
+pub mod Picking
+pub mod Laying
+pub mod Wrote
+pub mod Outcomes

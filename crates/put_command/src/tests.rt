@@ -1,0 +1,63 @@
+//! Which shares of a Put are new over the index of no commands, and the bytes of its replies. A server over a disk, above this
+//! crate, tests whole Puts.
+
+use super::news::collect;
+use super::replies::{put_full, put_stored};
+use cd_base::{Fp, Room, Rooms, UserId, sha256};
+use cloud_index::{CloudIndex, Full, New};
+use frames::ReplyBuf;
+use message_fields::shares_of;
+use std::test::Fail;
+
+// Three shares of one byte each, the first and the last of which are equal.
+const BATCH: [u8; 17] = [0, 3, 0, 0, 0, 1, 7, 0, 0, 0, 1, 8, 0, 0, 0, 1, 7];
+
+#[test]
+fn the_first_of_each_hash_is_new(rt: HostRuntime) -> Result<(), Fail> {
+    let index = CloudIndex::make(rt.alloc(), &Rooms::greatest())?;
+    let mut news = [New {
+        fp: Fp([0; 32]),
+        len: 0,
+    }; 256];
+    let mut marks = [false; 256];
+    match shares_of(&BATCH) {
+        Ok((shares, _)) => {
+            assert_eq!(rt; shares.len(), 3);
+            let count = collect(&index, UserId(7), &shares, &mut news, &mut marks);
+            assert_eq!(rt; count, 2);
+        }
+        Err(_) => assert!(rt; false),
+    }
+    assert_eq!(rt; [marks[0], marks[1], marks[2]], [true, true, false]);
+    assert_eq!(rt;
+        news[1],
+        New {
+            fp: sha256(&[8]),
+            len: 1
+        }
+    );
+    Ok(())
+}
+
+#[test]
+fn replies_are_spelled(rt: HostRuntime) -> Result<(), Fail> {
+    let mut reply = ReplyBuf::make(rt.alloc())?;
+    put_stored(&mut reply, 256);
+    assert_eq!(rt; reply.content(), [0x83, 1, 0].as_slice());
+    put_full(
+        &mut reply,
+        Full {
+            room: Room::Owners,
+            used: 2,
+            need: 3,
+            limit: 4,
+        },
+    );
+    assert_eq!(rt; reply.content().len(), 26);
+    assert!(rt;
+        reply
+            .content()
+            .starts_with(&[0x8C, 5, 0, 0, 0, 0, 0, 0, 0, 2])
+    );
+    Ok(())
+}
