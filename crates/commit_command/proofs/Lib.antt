@@ -1,0 +1,4 @@
+pub mod Prepared
+pub mod Outcomes
+pub mod Answered
+pub mod Contents
