@@ -1,0 +1,98 @@
+use Rattle.std.proofs.Common.{◌≡◌, ◌+◌, [], None, refl, sym, ap, subst}
+use Rattle.std.specs.Prelude.{OnOk}
+use Rattle.cd_edges.specs.Disk.{LeavesOnly, moment}
+use Rattle.cd_edges.specs.Shelf.{Stays}
+use Rattle.messages.specs.declared.request.Request.{Request}
+use Rattle.messages.specs.declared.request.Request.TheVariants as requests
+use Rattle.messages.specs.declared.reply.Reply.TheVariants as replies
+use Rattle.messages.specs.Replies.{IsReply}
+use Rattle.cloud_store.specs.Standing.{StandsForSome}
+use Rattle.cloud_state.specs.Serving.{serves, Served, IsServedOrNot, moments_of, Gives}
+use Rattle.request_dispatch.specs.Asking.{IsFound, request_of}
+use Rattle.request_dispatch.proofs.Still.{leaves_alone, served_alone, greets}
+use Rattle.request_dispatch.proofs.serving.dispatch.Goals as goal
+
+-- ---- no device is called
+
+pub returns-in-Hello-clause-any_moment : goal.returns-in-Hello-clause-any_moment
+returns-in-Hello-clause-any_moment g c = λ list agrees within. leaves_alone c.args.state.now _ (request_of c.args.asked.now) list agrees
+
+pub returns-in-Query-clause-any_moment : goal.returns-in-Query-clause-any_moment
+returns-in-Query-clause-any_moment g c = λ list agrees within. leaves_alone c.args.state.now _ (request_of c.args.asked.now) list agrees
+
+pub returns-in-List-clause-any_moment : goal.returns-in-List-clause-any_moment
+returns-in-List-clause-any_moment g c = λ list agrees within. leaves_alone c.args.state.now _ (request_of c.args.asked.now) list agrees
+
+pub returns-in-Hello-clause-served : goal.returns-in-Hello-clause-served
+returns-in-Hello-clause-served g c = λ list agrees within.
+    let state = c.args.state.now in
+    let cloud = g.V.Shelf.cloud_at c.args.shelf.now state.header.cloud.0 in
+    subst (λ (r : Request). Served state state cloud list r c.hello.new.reply) (ap request_of (sym c.in-Hello.is))
+    (served_alone state cloud requests.Hello c.hello.new.reply list agrees refl (c.hello.ensures list))
+
+pub returns-in-Query-clause-served : goal.returns-in-Query-clause-served
+returns-in-Query-clause-served g c = λ list agrees within.
+    let state = c.args.state.now in
+    let cloud = g.V.Shelf.cloud_at c.args.shelf.now state.header.cloud.0 in
+    subst (λ (r : Request). Served state state cloud list r c.known.new.reply) (ap request_of (sym c.in-Query.is))
+    (served_alone state cloud (requests.Query c.in-Query.user c.in-Query.fps) c.known.new.reply list agrees refl
+    (c.known.ensures.value state.header.shape state.header.cloud.0 list agrees.remembers))
+
+pub returns-in-List-clause-served : goal.returns-in-List-clause-served
+returns-in-List-clause-served g c = λ list agrees within.
+    let state = c.args.state.now in
+    let cloud = g.V.Shelf.cloud_at c.args.shelf.now state.header.cloud.0 in
+    subst (λ (r : Request). Served state state cloud list r c.entries.new.reply) (ap request_of (sym c.in-List.is))
+    (served_alone state cloud (requests.List c.in-List.user c.in-List.after) c.entries.new.reply list agrees refl
+    (c.entries.ensures.value state.header.shape state.header.cloud.0 list agrees.remembers))
+
+pub returns-in-Hello-clause-kind : goal.returns-in-Hello-clause-kind
+returns-in-Hello-clause-kind g c =
+    let header = c.args.state.now.header in
+    subst (λ (r : Request). Gives header.shape r c.hello.new.reply) (ap request_of (sym c.in-Hello.is)) (greets header c.hello.new.reply c.requires.settled.written (c.hello.ensures []))
+
+-- ---- a recipe
+
+pub returns-in-GetRecipe-clause-rotten : goal.returns-in-GetRecipe-clause-rotten
+returns-in-GetRecipe-clause-rotten g c = λ named found.
+    let state = c.args.state.now in
+    let cloud = g.V.Shelf.cloud_at c.args.shelf.now state.header.cloud.0 in
+    subst (λ (r : Request). OnOk c.send_recipe.result (IsReply c.send_recipe.new.reply (replies.Rotten named found) → IsFound cloud state.index r named found)) (ap request_of (sym c.in-GetRecipe.is))
+    (c.send_recipe.ensures.rotten named found)
+
+-- ---- a Commit
+
+pub returns-in-Commit-clause-any_moment : goal.returns-in-Commit-clause-any_moment
+returns-in-Commit-clause-any_moment g c = λ list agrees within.
+    let state = c.args.state.now in
+    let c0 = g.V.Shelf.cloud_at c.args.shelf.now state.header.cloud.0 in
+    let c1 = g.V.Shelf.cloud_at c.commit.new.shelf state.header.cloud.0 in
+    subst (λ (r : Request). LeavesOnly c0 c1 (StandsForSome state.header (IsServedOrNot state list r))) (ap request_of (sym c.in-Commit.is)) (c.commit.ensures.any_moment list agrees within)
+
+pub returns-in-Commit-clause-served : goal.returns-in-Commit-clause-served
+returns-in-Commit-clause-served g c = λ list agrees within.
+    let state = c.args.state.now in
+    let c1 = g.V.Shelf.cloud_at c.commit.new.shelf state.header.cloud.0 in
+    subst (λ (r : Request). OnOk c.commit.result (Served state c.commit.new.state c1 list r c.commit.new.reply)) (ap request_of (sym c.in-Commit.is)) (c.commit.ensures.served list agrees within)
+
+pub returns-in-Commit-clause-moments : goal.returns-in-Commit-clause-moments
+returns-in-Commit-clause-moments g c = λ list agrees within.
+    let state = c.args.state.now in
+    let c0 = g.V.Shelf.cloud_at c.args.shelf.now state.header.cloud.0 in
+    let c1 = g.V.Shelf.cloud_at c.commit.new.shelf state.header.cloud.0 in
+    subst (λ (r : Request). OnOk c.commit.result (moment c1 ≡ moment c0 + moments_of list (serves state list r).adds)) (ap request_of (sym c.in-Commit.is)) (c.commit.ensures.moments list agrees within)
+
+pub returns-in-Commit-clause-stays : goal.returns-in-Commit-clause-stays
+returns-in-Commit-clause-stays g c = λ list agrees within.
+    let state = c.args.state.now in
+    let c0 = g.V.Shelf.cloud_at c.args.shelf.now state.header.cloud.0 in
+    let c1 = g.V.Shelf.cloud_at c.commit.new.shelf state.header.cloud.0 in
+    subst (λ (r : Request). (serves state list r).adds ≡ None → Stays c0 c1 × (c.commit.new.state.index ≡ state.index)) (ap request_of (sym c.in-Commit.is))
+    (λ none. let s = c.commit.ensures.stays list agrees within none in (s.cloud, s.index))
+
+pub returns-in-Commit-clause-rotten : goal.returns-in-Commit-clause-rotten
+returns-in-Commit-clause-rotten g c = λ named found.
+    let state = c.args.state.now in
+    let cloud = g.V.Shelf.cloud_at c.args.shelf.now state.header.cloud.0 in
+    subst (λ (r : Request). OnOk c.commit.result (IsReply c.commit.new.reply (replies.Rotten named found) → IsFound cloud state.index r named found)) (ap request_of (sym c.in-Commit.is))
+    (c.commit.ensures.rotten named found)

@@ -1,0 +1,12 @@
+//! Each request of a server: read where its bytes lie, and executed by an open server.
+#![tactic(auto)]
+
+mod asked;
+mod reading;
+mod serving;
+
+pub use asked::Asked;
+pub use serving::dispatch;
+
+#[cfg(test)]
+mod tests;
