@@ -1,0 +1,11 @@
+pub mod Faults
+pub mod Rooming
+pub mod Walking
+pub mod Putting
+pub mod Brought
+pub mod Written
+pub mod Right
+pub mod PutsRight
+pub mod CommitsRight
+pub mod Judged
+pub mod OneAnswer

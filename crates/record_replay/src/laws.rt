@@ -1,0 +1,13 @@
+//! The laws of records, for the proofs of callers. The calls do nothing.
+
+ghost use Rattle.std.specs.Prelude.{◌≡◌, ℕ, List};
+ghost use Rattle.cd_base.specs.declared.rooms.Rooms.{Rooms};
+ghost use Rattle.cloud_index.specs.declared.index.CloudIndex.{CloudIndex};
+ghost use Rattle.record_replay.specs.declared.refusal.AreaLengths.{AreaLengths};
+ghost use Rattle.record_replay.specs.Judging.{Answer, Judged, KeepsAlike};
+
+/// Whatever the index holds and whatever the record's bytes are, one answer alone comes, and one memory alone is left.
+pub fn law_of_answers()
+    ensures { (rooms : Rooms) (areas : AreaLengths) (old : CloudIndex) (at : ℕ) (body : List ℕ) (new other : CloudIndex) (one two : Answer)
+        → Judged rooms areas old at body new one → Judged rooms areas old at body other two → (one ≡ two) × KeepsAlike new other }
+{}
