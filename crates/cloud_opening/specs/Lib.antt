@@ -1,0 +1,4 @@
+pub mod Exact
+pub mod Replied
+pub mod Steps
+pub mod Synced

@@ -1,0 +1,5 @@
+//! Openings of clouds in memory.
+#![tactic(auto)]
+
+#[cfg(test)]
+mod tests;
