@@ -1,0 +1,5 @@
+pub mod Headers
+pub mod Peers
+pub mod Openings
+pub mod Executed
+pub mod Bounds

@@ -1,0 +1,11 @@
+use Rattle.share_server.proofs.Openings.{reopens}
+use Rattle.share_server.proofs.Peers.{lists_of, images_among}
+use Rattle.share_server.proofs.server.Server.reopen.Goals as goal
+
+pub returns-clause-peer : goal.returns-clause-peer
+returns-clause-peer g c p told serving =
+    let old = c.args.self.now.state in let number = old.header.cloud.0 in let shelf = c.args.shelf.now in let d = c.reopen.ensures in
+    let c0 = g.V.Shelf.cloud_at shelf number in let c1 = g.V.Shelf.cloud_at c.reopen.new.shelf number in
+    let now = images_among p c0 old.header serving.stands.images in
+    reopens old c.reopen.new.state c0 c1 p c.args.begin serving d.same c.reopen.result (g.V.Shelf.faults shelf) (g.V.Shelf.faults c.reopen.new.shelf)
+    (g.met.V.Shelf.reads_image shelf number told) d.shut d.call.armings (d.kept told (lists_of p) now) (d.opened told (lists_of p) now) (d.whole told) (d.not_begun told) d.counts
