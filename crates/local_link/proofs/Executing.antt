@@ -1,0 +1,184 @@
+-- What executing a request does to the peer that a cloud stands as.
+use Rattle.std.proofs.Common.{◌≡◌, ℕ, ◌<◌, ◌≤◌, Bool, true, false, List, length, Option, Some, None, Ok, Err, refl, sym, ap, ◌∙◌, subst, arith, inl}
+use Rattle.std.specs.Prelude.{IsTrue, IsSomeAnd}
+use Rattle.cd_base.specs.Reading.{AreBytes}
+use Rattle.cd_base.specs.declared.shape.Shape.{Shape}
+use Rattle.cd_edges.specs.Causes.{Rose}
+use Rattle.cd_edges.specs.Disk.{Cloud}
+use Rattle.cd_edges.proofs.Moments.{started}
+use Rattle.messages.specs.declared.request.Request.{Request}
+use Rattle.messages.specs.declared.reply.Reply.{Reply}
+use Rattle.messages.specs.declared.reply.Reply.TheVariants as replies
+use Rattle.messages.specs.Replies.{IsReply, reply_bytes}
+use Rattle.user_dedup.specs.declared.command.Command.{Command}
+use Rattle.user_dedup.specs.Requests.{asked_at}
+use Rattle.user_dedup.specs.Dedup.{Outcome, FullRoom}
+use Rattle.user_dedup.specs.Exec.{Peer, Exec, StandsSound, served}
+use Rattle.user_dedup.proofs.Asked.{asked_law}
+use Rattle.user_dedup.proofs.Execs.{keeps_sound}
+use Rattle.cloud_store.specs.Space.{full_for}
+use Rattle.cloud_store.specs.Standing.{StandsForSome, ImagesSince, MayBecome}
+use Rattle.share_server.specs.declared.server.Server.{Server}
+use Rattle.share_server.specs.Serving.{number_of, IsServing, server_serves}
+use Rattle.local_link.specs.declared.servers.Servers.{Servers}
+use Rattle.local_link.specs.declared.link.LocalLink.{LocalLink}
+use Rattle.local_link.specs.Members.{IsServerOf}
+use Rattle.local_link.specs.Tells.{server_at, full_by, IsPeer}
+use Rattle.local_link.specs.Steps.{Puts, Executed, Replied, Executes}
+use Rattle.local_link.proofs.Standing.{server_of_put, here_now, said_of, known_of, peer_moves}
+use Rattle.local_link.proofs.Malformed.{place_fits}
+
+-- a cloud went on by a request
+pub record GoesOn (old_servers new_servers : Servers) (cloud : ℕ) (old new : Cloud) (p : Peer) (request : Request) (reply : List ℕ) : Type 0 where
+  pub peer : Peer
+  pub answer : Reply
+  pub stands : IsPeer new_servers.shape cloud new (server_at new_servers cloud) peer
+  pub is : IsReply reply answer
+  pub exec : Exec old_servers.shape old.told (served old_servers.shape cloud (full_by (server_at old_servers cloud))) p request answer peer
+
+module _ (old_servers new_servers : Servers) (cloud : ℕ) (before after : Server) (put : Puts old_servers new_servers cloud before after) (lt : cloud < old_servers.shape.n)
+    (old new : ℕ → Cloud) (faults_before faults_now : ℕ) (content reply : List ℕ) (x : Executes before after old new faults_before faults_now content reply) where
+  of : IsServerOf old_servers.shape cloud before
+  of = server_of_put old_servers new_servers cloud before after put
+
+  here : server_at new_servers cloud ≡ Some after
+  here = here_now old_servers new_servers cloud before after put lt
+
+  full_is : full_by (Some before) ≡ full_by (server_at old_servers cloud)
+  full_is = ap full_by (sym put.here)
+
+  -- the clauses at the cloud's number
+  exec_here : (p : Peer) (r : Request) → IsTrue (old cloud).told → IsServing before (old cloud) p → asked_at old_servers.shape content ≡ Ok r → Executed before after (new cloud) p r reply
+  exec_here p r =
+      let P : ℕ → Shape → Type 0 = λ n s. IsTrue (old n).told → IsServing before (old n) p → asked_at s content ≡ Ok r → Executed before after (new n) p r reply in
+      subst (λ (n : ℕ). P n old_servers.shape) of.number_is (subst (P (number_of before)) of.shape_is (x.exec p r))
+
+  replied_here : (r : Request) → asked_at old_servers.shape content ≡ Ok r → Replied old_servers.shape (old cloud) (new cloud) faults_before faults_now r reply
+  replied_here r =
+      let P : ℕ → Shape → Type 0 = λ n s. asked_at s content ≡ Ok r → Replied s (old n) (new n) faults_before faults_now r reply in
+      subst (λ (n : ℕ). P n old_servers.shape) of.number_is (subst (P (number_of before)) of.shape_is (x.untold r))
+
+  told_goes : (p : Peer) (r : Request) → AreBytes content → (old cloud).told ≡ true → IsPeer old_servers.shape cloud (old cloud) (server_at old_servers cloud) p → asked_at old_servers.shape content ≡ Ok r
+      → GoesOn old_servers new_servers cloud (old cloud) (new cloud) p r reply
+  told_goes p r known told is asked =
+      let asks = (asked_law old_servers.shape content r known).0 asked in
+      let serving = known_of (server_at old_servers cloud) before (λ (s : Server). IsServing s (old cloud) p) put.here (is.serving told) in
+      let e = exec_here p r told serving asked in
+      let F : Shape → ℕ → Bool → (List Command → Command → Option FullRoom) → Type 0 = λ s n b f. Exec s b (served s n f) p r e.answer e.left in
+      let by_shape : F old_servers.shape before.state.header.cloud.0 true (full_for before.state.rooms) =
+      subst (λ (s : Shape). F s before.state.header.cloud.0 true (full_for before.state.rooms)) of.shape_is e.exec in
+      let by_number : F old_servers.shape cloud true (full_for before.state.rooms) = subst (λ (n : ℕ). F old_servers.shape n true (full_for before.state.rooms)) of.number_is by_shape in
+      let by_full : F old_servers.shape cloud true (full_by (server_at old_servers cloud)) = subst (λ (f : List Command → Command → Option FullRoom). F old_servers.shape cloud true f) full_is by_number in
+      let sound = keeps_sound old_servers.shape cloud (full_by (server_at old_servers cloud)) p e.left r e.answer (is.sound told) asks.asked.fits asks.recipe by_full in
+      record {
+        peer = e.left;
+        answer = e.answer;
+        stands = record {
+          faults = e.stands.stands.faults;
+          armings = e.stands.stands.armings;
+          serving = λ t. said_of (server_at new_servers cloud) after (λ (s : Server). IsServing s (new cloud) e.left) here e.stands;
+          sound = λ t. subst (λ (s : Shape). StandsSound s cloud e.left) (sym put.shape) sound;
+        };
+        is = e.is;
+        exec = subst (λ (b : Bool). F old_servers.shape cloud b (full_by (server_at old_servers cloud))) (sym told) by_full;
+      }
+
+  told_call : (new cloud).told ≡ (old cloud).told
+  told_call = subst (λ (n : ℕ). (new n).told ≡ (old n).told) of.number_is x.call.told
+
+  armings_call : (new cloud).armings ≡ (old cloud).armings
+  armings_call = subst (λ (n : ℕ). (new n).armings ≡ (old n).armings) of.number_is x.call.armings
+
+  later_call : (old cloud).faults ≤ (new cloud).faults
+  later_call = subst (λ (n : ℕ). (old n).faults ≤ (new n).faults) of.number_is x.call.later
+
+  untold_goes : (p : Peer) (r : Request) → (old cloud).told ≡ false → IsPeer old_servers.shape cloud (old cloud) (server_at old_servers cloud) p → asked_at old_servers.shape content ≡ Ok r
+      → GoesOn old_servers new_servers cloud (old cloud) (new cloud) p r reply
+  untold_goes p r untold is asked =
+      let e = replied_here r asked in
+      let q : Peer = record { list = p.list; pending = p.pending; faults = (new cloud).faults; armings = (new cloud).armings } in
+      let shown : Exec old_servers.shape false (served old_servers.shape cloud (full_by (server_at old_servers cloud))) p r e.answer q = record {
+        counts = record { faults = let f = is.faults in let l = later_call in omega arith; armings = armings_call ∙ sym is.armings };
+        does = record {
+          kind = e.kind;
+          memory = e.memory;
+          fault = λ f. let rose = (e.fault f).cloud in let same = is.faults in rose_at (old cloud).faults p.faults (new cloud).faults (sym same) rose;
+          stays = record { list = refl; pending = refl };
+        };
+      } in
+      record {
+        peer = q;
+        answer = e.answer;
+        stands = record {
+          faults = refl;
+          armings = refl;
+          serving = λ told. absurd (let f : true ≡ false = sym told ∙ told_call ∙ untold in cc);
+          sound = λ told. absurd (let f : true ≡ false = sym told ∙ told_call ∙ untold in cc);
+        };
+        is = e.is;
+        exec = subst (λ (b : Bool). Exec old_servers.shape b (served old_servers.shape cloud (full_by (server_at old_servers cloud))) p r e.answer q) (sym untold) shown;
+      }
+    where
+      rose_at : (a b c : ℕ) → a ≡ b → Rose a c → Rose b c
+      rose_at a b c e rose = subst (λ (n : ℕ). Rose n c) e rose
+
+  pub goes_on : (p : Peer) (r : Request) → AreBytes content → IsPeer old_servers.shape cloud (old cloud) (server_at old_servers cloud) p → asked_at old_servers.shape content ≡ Ok r
+      → GoesOn old_servers new_servers cloud (old cloud) (new cloud) p r reply
+  goes_on p r known is asked = by_told (old cloud).told refl
+    where
+      by_told : (b : Bool) → (old cloud).told ≡ b → GoesOn old_servers new_servers cloud (old cloud) (new cloud) p r reply
+      by_told true told = told_goes p r known told is asked
+      by_told false untold = untold_goes p r untold is asked
+
+  -- content that asks nothing
+  refused : (at : ℕ) → asked_at old_servers.shape content ≡ Err at → (reply ≡ reply_bytes (replies.Malformed at)) × (after ≡ before) × (new ≡ old)
+  refused at = subst (λ (s : Shape). asked_at s content ≡ Err at → (reply ≡ reply_bytes (replies.Malformed at)) × (after ≡ before) × (new ≡ old)) of.shape_is (x.malformed at)
+
+  pub refused_clouds : (at : ℕ) → asked_at old_servers.shape content ≡ Err at → new ≡ old
+  refused_clouds at asked = (refused at asked).2
+
+  pub refuses : (at : ℕ) → asked_at old_servers.shape content ≡ Err at → (p : Peer) → IsPeer old_servers.shape cloud (old cloud) (server_at old_servers cloud) p
+      → IsPeer new_servers.shape cloud (new cloud) (server_at new_servers cloud) p
+  refuses at asked p is =
+      let r = refused at asked in
+      let same : server_at new_servers cloud ≡ server_at old_servers cloud = here ∙ ap Some r.1 ∙ sym put.here in
+      subst (λ (s : Shape). IsPeer s cloud (new cloud) (server_at new_servers cloud) p) (sym put.shape)
+      (peer_moves old_servers.shape cloud (old cloud) (new cloud) (server_at old_servers cloud) (server_at new_servers cloud) p (ap (λ f. f cloud) r.2) same is)
+
+  pub refused_reply : (at : ℕ) → AreBytes content → length content ≤ 4194304 → asked_at old_servers.shape content ≡ Err at → IsReply reply (replies.Malformed at)
+  refused_reply at known few asked = record { fits = place_fits old_servers.shape content at known few asked; spelled = (refused at asked).0 }
+
+  -- what a crash leaves meanwhile
+  pub images_since : (p : Peer) (r : Request) → IsTrue (old cloud).told → IsPeer old_servers.shape cloud (old cloud) (server_at old_servers cloud) p → asked_at old_servers.shape content ≡ Ok r
+      → IsSomeAnd (server_at old_servers cloud) (λ (s : Server). ImagesSince (old cloud) (new cloud) s.state.header (MayBecome (served old_servers.shape cloud (full_by (server_at old_servers cloud))) p r))
+  images_since p r told is asked =
+      let serving = known_of (server_at old_servers cloud) before (λ (s : Server). IsServing s (old cloud) p) put.here (is.serving told) in
+      let P : ℕ → Shape → Type 0 = λ n s. IsTrue (old n).told → IsServing before (old n) p → asked_at s content ≡ Ok r → ImagesSince (old n) (new n) before.state.header (MayBecome (server_serves before) p r) in
+      let at_shape : P (number_of before) old_servers.shape = subst (P (number_of before)) of.shape_is (x.images p r) in
+      let at_cloud : P cloud old_servers.shape = subst (λ (n : ℕ). P n old_servers.shape) of.number_is at_shape in
+      let F : Shape → ℕ → (List Command → Command → Option FullRoom) → Type 0 = λ s n f. ImagesSince (old cloud) (new cloud) before.state.header (MayBecome (served s n f) p r) in
+      let by_shape : F old_servers.shape before.state.header.cloud.0 (full_for before.state.rooms) =
+      subst (λ (s : Shape). F s before.state.header.cloud.0 (full_for before.state.rooms)) of.shape_is (at_cloud told serving asked) in
+      let by_number : F old_servers.shape cloud (full_for before.state.rooms) = subst (λ (n : ℕ). F old_servers.shape n (full_for before.state.rooms)) of.number_is by_shape in
+      said_of (server_at old_servers cloud) before (λ (s : Server). ImagesSince (old cloud) (new cloud) s.state.header (MayBecome (served old_servers.shape cloud (full_by (server_at old_servers cloud))) p r)) put.here
+      (subst (λ (f : List Command → Command → Option FullRoom). F old_servers.shape cloud f) full_is by_number)
+
+-- ---- nothing was executed
+
+pub images_stay : (server : Option Server) (serve : List Command → Request → Outcome) (c : Cloud) (p : Peer) (r : Request) → IsSomeAnd server (λ (s : Server). IsServing s c p)
+    → IsSomeAnd server (λ (s : Server). ImagesSince c c s.state.header (MayBecome serve p r))
+images_stay None serve c p r none = none
+images_stay (Some s) serve c p r is = started c (StandsForSome s.state.header (MayBecome serve p r)) (λ image left. let f = is.stands.images image left in (f.0, inl f.1, f.2))
+
+-- ---- a loss is counted, and nothing else
+
+pub peer_counted : {V : Type 0} (clouds : V → ℕ → Cloud) (a b : LocalLink V) (cloud : ℕ) (p : Peer) → b ≡ a
+    → IsPeer a.servers.shape cloud (clouds a.shelf.now cloud) (server_at a.servers cloud) p → IsPeer b.servers.shape cloud (clouds b.shelf.now cloud) (server_at b.servers cloud) p
+peer_counted {V} clouds a b cloud p e is = subst (λ (l : LocalLink V). IsPeer l.servers.shape cloud (clouds l.shelf.now cloud) (server_at l.servers cloud) p) (sym e) is
+
+pub images_counted : {V : Type 0} (clouds : V → ℕ → Cloud) (a b : LocalLink V) (cloud : ℕ) (old : Cloud) (server : Option Server) (P : List Command → Type 0) → b ≡ a
+    → IsSomeAnd server (λ (s : Server). ImagesSince old (clouds a.shelf.now cloud) s.state.header P) → IsSomeAnd server (λ (s : Server). ImagesSince old (clouds b.shelf.now cloud) s.state.header P)
+images_counted {V} clouds a b cloud old server P e is = subst (λ (l : LocalLink V). IsSomeAnd server (λ (s : Server). ImagesSince old (clouds l.shelf.now cloud) s.state.header P)) (sym e) is
+
+pub clouds_counted : {V : Type 0} (clouds : V → ℕ → Cloud) (a b : LocalLink V) (old : ℕ → Cloud) → b ≡ a → clouds a.shelf.now ≡ old → clouds b.shelf.now ≡ old
+clouds_counted {V} clouds a b old e is = ap (λ (l : LocalLink V). clouds l.shelf.now) e ∙ is

@@ -1,0 +1,5 @@
+pub mod Placing
+pub mod Standing
+pub mod Malformed
+pub mod Executing
+pub mod Calling

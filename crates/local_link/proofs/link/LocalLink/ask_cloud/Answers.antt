@@ -1,0 +1,117 @@
+use Rattle.std.proofs.Common.{refl, sym, subst, arith, inl, inr}
+use Rattle.std.proofs.lemmas.Bool.{ltb-true}
+use Rattle.user_dedup.specs.Link.{LeavesOthers, serves}
+use Rattle.cloud_store.specs.Standing.{MayBecome}
+use Rattle.local_link.specs.Tells.{server_at, telling, LeavesRest}
+use Rattle.local_link.proofs.Standing.{rest_by, others_by, full_same, here_now}
+use Rattle.local_link.proofs.Executing.{goes_on, refused_clouds, clouds_counted, refuses, refused_reply, images_since, images_stay, peer_counted, images_counted}
+use Rattle.local_link.proofs.link.LocalLink.ask_cloud.Goals as goal
+
+pub returns-in-Deliver-clause-executed : goal.returns-in-Deliver-clause-executed
+returns-in-Deliver-clause-executed g c = λ ne r asked p is.
+    let e = c.execute.ensures in
+    let x = goes_on c.args.self.now.servers c.execute.new.self c.args.cloud.0 e.0 e.1 e.2 (ltb-true c.args.cloud.0 c.args.self.now.servers.shape.n c.requires.reached)
+    (g.V.Shelf.cloud_at c.args.self.now.shelf.now) (g.V.Shelf.cloud_at c.execute.new.shelf) _ _ c.args.request.now c.execute.new.reply e.3 p r (λ i. omega (arith, c.type_inv.request i)) is asked in
+    (x.peer, x.answer, x.stands, x.exec)
+
+pub returns-in-Deliver-clause-exec : goal.returns-in-Deliver-clause-exec
+returns-in-Deliver-clause-exec g c = λ r asked p is.
+    let e = c.execute.ensures in
+    let x = goes_on c.args.self.now.servers c.execute.new.self c.args.cloud.0 e.0 e.1 e.2 (ltb-true c.args.cloud.0 c.args.self.now.servers.shape.n c.requires.reached)
+    (g.V.Shelf.cloud_at c.args.self.now.shelf.now) (g.V.Shelf.cloud_at c.execute.new.shelf) _ _ c.args.request.now c.execute.new.reply e.3 p r (λ i. omega (arith, c.type_inv.request i)) is asked in
+    (x.peer, x.stands, (x.answer, x.is, x.exec))
+
+pub returns-in-Deliver-clause-malformed : goal.returns-in-Deliver-clause-malformed
+returns-in-Deliver-clause-malformed g c = λ at asked.
+    let e = c.execute.ensures in
+    let lt = ltb-true c.args.cloud.0 c.args.self.now.servers.shape.n c.requires.reached in (
+      refuses c.args.self.now.servers c.execute.new.self c.args.cloud.0 e.0 e.1 e.2 lt (g.V.Shelf.cloud_at c.args.self.now.shelf.now) (g.V.Shelf.cloud_at c.execute.new.shelf) _ _ c.args.request.now c.execute.new.reply e.3 at asked,
+      refused_reply c.args.self.now.servers c.execute.new.self c.args.cloud.0 e.0 e.1 e.2 lt (g.V.Shelf.cloud_at c.args.self.now.shelf.now) (g.V.Shelf.cloud_at c.execute.new.shelf) _ _ c.args.request.now c.execute.new.reply e.3 at
+          (λ i. omega (arith, c.type_inv.request i)) c.requires.framed asked,
+    )
+
+pub returns-in-Deliver-clause-rest : goal.returns-in-Deliver-clause-rest
+returns-in-Deliver-clause-rest g c = let e = c.execute.ensures in rest_by g.V.Shelf.cloud_at c.args.cloud.0 c.args.self.now _ e.0 e.1 _ _ e.2 e.3.call
+
+pub returns-in-Deliver-clause-others : goal.returns-in-Deliver-clause-others
+returns-in-Deliver-clause-others g c =
+    let e = c.execute.ensures in
+    let lt = ltb-true c.args.cloud.0 c.args.self.now.servers.shape.n c.requires.reached in
+    others_by g.V.Shelf.cloud_at c.args.cloud.0 c.args.self.now _ (rest_by g.V.Shelf.cloud_at c.args.cloud.0 c.args.self.now _ e.0 e.1 _ _ e.2 e.3.call)
+    (full_same _ _ e.0 e.1 e.2.here (here_now c.args.self.now.servers c.execute.new.self c.args.cloud.0 e.0 e.1 e.2 lt) e.3.same.rooms)
+
+pub returns-in-Deliver-clause-images : goal.returns-in-Deliver-clause-images
+returns-in-Deliver-clause-images g c = λ p r told is asked.
+    let e = c.execute.ensures in
+    images_since c.args.self.now.servers c.execute.new.self c.args.cloud.0 e.0 e.1 e.2 (ltb-true c.args.cloud.0 c.args.self.now.servers.shape.n c.requires.reached)
+    (g.V.Shelf.cloud_at c.args.self.now.shelf.now) (g.V.Shelf.cloud_at c.execute.new.shelf) _ _ c.args.request.now c.execute.new.reply e.3 p r told is asked
+
+pub returns-in-LoseRequest-clause-exec : goal.returns-in-LoseRequest-clause-exec
+returns-in-LoseRequest-clause-exec g c = λ r asked p is. (
+  p,
+  peer_counted g.V.Shelf.cloud_at _ c.lose.new.self c.args.cloud.0 p c.lose.ensures.counted is,
+  inl (record { list = refl; pending = refl }, record { faults = omega arith; armings = refl }),
+)
+
+pub returns-in-LoseRequest-clause-images : goal.returns-in-LoseRequest-clause-images
+returns-in-LoseRequest-clause-images g c = λ p r told is asked.
+    images_counted g.V.Shelf.cloud_at _ c.lose.new.self c.args.cloud.0 (g.V.Shelf.cloud_at c.args.self.now.shelf.now c.args.cloud.0) (server_at c.args.self.now.servers c.args.cloud.0)
+    (MayBecome (serves (telling g.V.Shelf.cloud_at) c.args.self.now c.args.cloud.0) p r) c.lose.ensures.counted
+    (images_stay (server_at c.args.self.now.servers c.args.cloud.0) (serves (telling g.V.Shelf.cloud_at) c.args.self.now c.args.cloud.0) (g.V.Shelf.cloud_at c.args.self.now.shelf.now c.args.cloud.0) p r (is.serving told))
+
+pub returns-in-LoseReply-clause-executed : goal.returns-in-LoseReply-clause-executed
+returns-in-LoseReply-clause-executed g c = λ ne r asked p is.
+    let e = c.execute-in-LoseReply.ensures in
+    let x = goes_on c.args.self.now.servers c.execute-in-LoseReply.new.self c.args.cloud.0 e.0 e.1 e.2 (ltb-true c.args.cloud.0 c.args.self.now.servers.shape.n c.requires.reached)
+    (g.V.Shelf.cloud_at c.args.self.now.shelf.now) (g.V.Shelf.cloud_at c.execute-in-LoseReply.new.shelf) _ _ c.args.request.now c.execute-in-LoseReply.new.reply e.3 p r (λ i. omega (arith, c.type_inv.request i)) is asked in
+    (x.peer, x.answer, peer_counted g.V.Shelf.cloud_at _ c.lose-in-LoseReply.new.self c.args.cloud.0 x.peer c.lose-in-LoseReply.ensures.counted x.stands, x.exec)
+
+pub returns-in-LoseReply-clause-exec : goal.returns-in-LoseReply-clause-exec
+returns-in-LoseReply-clause-exec g c = λ r asked p is.
+    let e = c.execute-in-LoseReply.ensures in
+    let x = goes_on c.args.self.now.servers c.execute-in-LoseReply.new.self c.args.cloud.0 e.0 e.1 e.2 (ltb-true c.args.cloud.0 c.args.self.now.servers.shape.n c.requires.reached)
+    (g.V.Shelf.cloud_at c.args.self.now.shelf.now) (g.V.Shelf.cloud_at c.execute-in-LoseReply.new.shelf) _ _ c.args.request.now c.execute-in-LoseReply.new.reply e.3 p r (λ i. omega (arith, c.type_inv.request i)) is asked in
+    (x.peer, peer_counted g.V.Shelf.cloud_at _ c.lose-in-LoseReply.new.self c.args.cloud.0 x.peer c.lose-in-LoseReply.ensures.counted x.stands, inr (x.answer, x.exec))
+
+pub returns-in-LoseReply-clause-malformed : goal.returns-in-LoseReply-clause-malformed
+returns-in-LoseReply-clause-malformed g c = λ at asked.
+    let e = c.execute-in-LoseReply.ensures in
+    let lt = ltb-true c.args.cloud.0 c.args.self.now.servers.shape.n c.requires.reached in (
+      λ p is. peer_counted g.V.Shelf.cloud_at _ c.lose-in-LoseReply.new.self c.args.cloud.0 p c.lose-in-LoseReply.ensures.counted
+          (refuses c.args.self.now.servers c.execute-in-LoseReply.new.self c.args.cloud.0 e.0 e.1 e.2 lt (g.V.Shelf.cloud_at c.args.self.now.shelf.now) (g.V.Shelf.cloud_at c.execute-in-LoseReply.new.shelf) _ _ c.args.request.now c.execute-in-LoseReply.new.reply e.3 at asked p is),
+      tt,
+    )
+
+pub returns-in-LoseReply-clause-rest : goal.returns-in-LoseReply-clause-rest
+returns-in-LoseReply-clause-rest g c =
+    let e = c.execute-in-LoseReply.ensures in
+    subst (LeavesRest g.V.Shelf.cloud_at c.args.cloud.0 c.args.self.now) (sym c.lose-in-LoseReply.ensures.counted) (rest_by g.V.Shelf.cloud_at c.args.cloud.0 c.args.self.now _ e.0 e.1 _ _ e.2 e.3.call)
+
+pub returns-in-LoseReply-clause-others : goal.returns-in-LoseReply-clause-others
+returns-in-LoseReply-clause-others g c =
+    let e = c.execute-in-LoseReply.ensures in
+    let lt = ltb-true c.args.cloud.0 c.args.self.now.servers.shape.n c.requires.reached in
+    subst (LeavesOthers (telling g.V.Shelf.cloud_at) c.args.cloud.0 c.args.self.now) (sym c.lose-in-LoseReply.ensures.counted)
+    (others_by g.V.Shelf.cloud_at c.args.cloud.0 c.args.self.now _ (rest_by g.V.Shelf.cloud_at c.args.cloud.0 c.args.self.now _ e.0 e.1 _ _ e.2 e.3.call)
+    (full_same _ _ e.0 e.1 e.2.here (here_now c.args.self.now.servers c.execute-in-LoseReply.new.self c.args.cloud.0 e.0 e.1 e.2 lt) e.3.same.rooms))
+
+pub returns-in-LoseReply-clause-images : goal.returns-in-LoseReply-clause-images
+returns-in-LoseReply-clause-images g c = λ p r told is asked.
+    let e = c.execute-in-LoseReply.ensures in
+    images_counted g.V.Shelf.cloud_at _ c.lose-in-LoseReply.new.self c.args.cloud.0 (g.V.Shelf.cloud_at c.args.self.now.shelf.now c.args.cloud.0) (server_at c.args.self.now.servers c.args.cloud.0)
+    (MayBecome (serves (telling g.V.Shelf.cloud_at) c.args.self.now c.args.cloud.0) p r) c.lose-in-LoseReply.ensures.counted
+    (images_since c.args.self.now.servers c.execute-in-LoseReply.new.self c.args.cloud.0 e.0 e.1 e.2 (ltb-true c.args.cloud.0 c.args.self.now.servers.shape.n c.requires.reached)
+    (g.V.Shelf.cloud_at c.args.self.now.shelf.now) (g.V.Shelf.cloud_at c.execute-in-LoseReply.new.shelf) _ _ c.args.request.now c.execute-in-LoseReply.new.reply e.3 p r told is asked)
+
+pub returns-in-Deliver-clause-refused : goal.returns-in-Deliver-clause-refused
+returns-in-Deliver-clause-refused g c = λ at asked.
+    let e = c.execute.ensures in
+    refused_clouds c.args.self.now.servers c.execute.new.self c.args.cloud.0 e.0 e.1 e.2 (ltb-true c.args.cloud.0 c.args.self.now.servers.shape.n c.requires.reached)
+    (g.V.Shelf.cloud_at c.args.self.now.shelf.now) (g.V.Shelf.cloud_at c.execute.new.shelf) _ _ c.args.request.now c.execute.new.reply e.3 at asked
+
+pub returns-in-LoseReply-clause-refused : goal.returns-in-LoseReply-clause-refused
+returns-in-LoseReply-clause-refused g c = λ at asked.
+    let e = c.execute-in-LoseReply.ensures in
+    clouds_counted g.V.Shelf.cloud_at _ c.lose-in-LoseReply.new.self (g.V.Shelf.cloud_at c.args.self.now.shelf.now) c.lose-in-LoseReply.ensures.counted
+    (refused_clouds c.args.self.now.servers c.execute-in-LoseReply.new.self c.args.cloud.0 e.0 e.1 e.2 (ltb-true c.args.cloud.0 c.args.self.now.servers.shape.n c.requires.reached)
+    (g.V.Shelf.cloud_at c.args.self.now.shelf.now) (g.V.Shelf.cloud_at c.execute-in-LoseReply.new.shelf) _ _ c.args.request.now c.execute-in-LoseReply.new.reply e.3 at asked)

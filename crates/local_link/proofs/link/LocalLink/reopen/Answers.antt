@@ -1,0 +1,59 @@
+use Rattle.std.proofs.lemmas.Bool.{ltb-true}
+use Rattle.local_link.proofs.Standing.{rest_by, others_by, full_same, here_now}
+use Rattle.local_link.proofs.Calling.{reopens, opens_here, shut_here, not_begun_here, counts_here, untold_here, opened_images}
+use Rattle.local_link.proofs.link.LocalLink.reopen.Goals as goal
+
+pub returns-clause-peer : goal.returns-clause-peer
+returns-clause-peer g c = λ p told is.
+    let e = c.reopen.ensures in
+    reopens c.args.self.now.servers c.reopen.new.self c.args.cloud.0 e.0 e.1 e.2 (ltb-true c.args.cloud.0 c.args.self.now.servers.shape.n c.requires)
+    (g.V.Shelf.cloud_at c.args.self.now.shelf.now) (g.V.Shelf.cloud_at c.reopen.new.shelf) _ _ c.args.begin c.reopen.result e.3 p told is
+
+pub returns-clause-images : goal.returns-clause-images
+returns-clause-images g c = λ told lists.
+    let e = c.reopen.ensures in
+    opened_images c.args.self.now.servers c.reopen.new.self c.args.cloud.0 e.0 e.1 e.2 (ltb-true c.args.cloud.0 c.args.self.now.servers.shape.n c.requires)
+    (g.V.Shelf.cloud_at c.args.self.now.shelf.now) (g.V.Shelf.cloud_at c.reopen.new.shelf) _ _ c.args.begin c.reopen.result e.3 told lists
+
+pub returns-clause-rest : goal.returns-clause-rest
+returns-clause-rest g c = let e = c.reopen.ensures in rest_by g.V.Shelf.cloud_at c.args.cloud.0 c.args.self.now _ e.0 e.1 _ _ e.2 e.3.call
+
+pub returns-clause-others : goal.returns-clause-others
+returns-clause-others g c =
+    let e = c.reopen.ensures in
+    let lt = ltb-true c.args.cloud.0 c.args.self.now.servers.shape.n c.requires in
+    others_by g.V.Shelf.cloud_at c.args.cloud.0 c.args.self.now _ (rest_by g.V.Shelf.cloud_at c.args.cloud.0 c.args.self.now _ e.0 e.1 _ _ e.2 e.3.call)
+    (full_same _ _ e.0 e.1 e.2.here (here_now c.args.self.now.servers c.reopen.new.self c.args.cloud.0 e.0 e.1 e.2 lt) e.3.same.rooms)
+
+pub returns-clause-opens : goal.returns-clause-opens
+returns-clause-opens g c =
+    let e = c.reopen.ensures in
+    opens_here c.args.self.now.servers c.reopen.new.self c.args.cloud.0 e.0 e.1 e.2 (ltb-true c.args.cloud.0 c.args.self.now.servers.shape.n c.requires)
+    (g.V.Shelf.cloud_at c.args.self.now.shelf.now) (g.V.Shelf.cloud_at c.reopen.new.shelf) _ _ c.args.begin c.reopen.result e.3
+
+pub returns-clause-shut : goal.returns-clause-shut
+returns-clause-shut g c =
+    let e = c.reopen.ensures in
+    shut_here c.args.self.now.servers c.reopen.new.self c.args.cloud.0 e.0 e.1 e.2 (ltb-true c.args.cloud.0 c.args.self.now.servers.shape.n c.requires)
+    (g.V.Shelf.cloud_at c.args.self.now.shelf.now) (g.V.Shelf.cloud_at c.reopen.new.shelf) _ _ c.args.begin c.reopen.result e.3
+
+pub returns-clause-not_begun : goal.returns-clause-not_begun
+returns-clause-not_begun g c =
+    let e = c.reopen.ensures in
+    not_begun_here c.args.self.now.servers c.reopen.new.self c.args.cloud.0 e.0 e.1 e.2 (ltb-true c.args.cloud.0 c.args.self.now.servers.shape.n c.requires)
+    (g.V.Shelf.cloud_at c.args.self.now.shelf.now) (g.V.Shelf.cloud_at c.reopen.new.shelf) _ _ c.args.begin c.reopen.result e.3
+
+pub returns-clause-untold : goal.returns-clause-untold
+returns-clause-untold g c =
+    let e = c.reopen.ensures in
+    untold_here c.args.self.now.servers c.reopen.new.self c.args.cloud.0 e.0 e.1 e.2 (ltb-true c.args.cloud.0 c.args.self.now.servers.shape.n c.requires)
+    (g.V.Shelf.cloud_at c.args.self.now.shelf.now) (g.V.Shelf.cloud_at c.reopen.new.shelf) _ _ c.args.begin c.reopen.result e.3
+
+pub returns-clause-memory : goal.returns-clause-memory
+returns-clause-memory g c = c.reopen.ensures.3.memory
+
+pub returns-clause-counts : goal.returns-clause-counts
+returns-clause-counts g c =
+    let e = c.reopen.ensures in
+    counts_here c.args.self.now.servers c.reopen.new.self c.args.cloud.0 e.0 e.1 e.2 (ltb-true c.args.cloud.0 c.args.self.now.servers.shape.n c.requires)
+    (g.V.Shelf.cloud_at c.args.self.now.shelf.now) (g.V.Shelf.cloud_at c.reopen.new.shelf) _ _ c.args.begin c.reopen.result e.3

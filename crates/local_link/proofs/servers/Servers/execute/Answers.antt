@@ -1,0 +1,22 @@
+use Rattle.std.proofs.Common.{refl, ap}
+use Rattle.local_link.proofs.Placing.{stands_at}
+use Rattle.local_link.proofs.servers.Servers.execute.Goals as goal
+
+pub returns : goal.returns
+returns g c = (
+  c.index_mut.result.now,
+  c.execute.new.self,
+  record {
+    here = stands_at c.args.self.now.shape c.args.self.now.list.items c.args.cloud.0 c.index_mut.result.now c.args.self.now.are_servers c.requires.reached c.index_mut.ensures.value;
+    list = refl;
+    shape = refl;
+  },
+  record {
+    same = c.execute.ensures.same;
+    exec = λ p r told is asked. let e = c.execute.ensures.exec p r told is asked in record { left = e.0; answer = e.1; stands = e.2; is = e.3; exec = e.4 };
+    images = c.execute.ensures.images;
+    malformed = λ at asked. let e = c.execute.ensures.malformed at asked in (e.0, e.1, ap g.V.Shelf.cloud_at e.2);
+    untold = λ r asked. let e = c.execute.ensures.untold r asked in record { answer = e.0; is = e.1; kind = e.2; memory = e.3; fault = λ f. (e.4 f).0 };
+    call = c.execute.ensures.call;
+  },
+)

@@ -1,0 +1,5 @@
+pub mod Members
+pub mod Tells
+pub mod Steps
+pub mod Calls
+pub mod Sounds

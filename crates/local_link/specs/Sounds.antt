@@ -1,0 +1,9 @@
+-- A told cloud stands for sound lists alone.
+use Rattle.std.specs.Prelude.{ℕ}
+use Rattle.cd_edges.specs.Disk.{Cloud}
+use Rattle.user_dedup.specs.Link.{TellsSound}
+use Rattle.local_link.specs.declared.link.LocalLink.{LocalLink}
+use Rattle.local_link.specs.Tells.{telling}
+
+pub tells_sound : {V : Type 0} (clouds : V → ℕ → Cloud) (link : LocalLink V) → TellsSound (telling clouds) link
+tells_sound clouds link cloud p told is = is.sound told

@@ -1,0 +1,89 @@
+-- What a call does to one of the servers.
+use Rattle.std.specs.Prelude.{◌≡◌, ◌≢◌, ℕ, Bool, true, IsTrue, List, Some, Result, Ok, Err, OnOk, OnErr, slice_set}
+use Rattle.std.specs.List.{Contains}
+use Rattle.cd_base.specs.declared.rooms.Rooms.{Rooms}
+use Rattle.cd_base.specs.declared.shape.Shape.{Shape}
+use Rattle.cd_edges.specs.Disk.{Cloud}
+use Rattle.cd_edges.specs.Shelf.{IsCall, HasFailed, KeepsCounts}
+use Rattle.commit_journal.specs.declared.errors.OpenErr.{OpenErr}
+use Rattle.commit_journal.specs.declared.errors.OpenErr.TheVariants as errors
+use Rattle.commit_journal.specs.declared.journal.Stage.TheVariants.{Shut}
+use Rattle.messages.specs.declared.request.Request.{Request}
+use Rattle.messages.specs.declared.reply.Reply.{Reply}
+use Rattle.messages.specs.declared.reply.Reply.TheVariants as replies
+use Rattle.messages.specs.Answering.{IsReplyTo}
+use Rattle.messages.specs.Replies.{IsReply, reply_bytes}
+use Rattle.user_dedup.specs.declared.command.Command.{Command}
+use Rattle.user_dedup.specs.Requests.{asked_at}
+use Rattle.user_dedup.specs.Exec.{Peer, Exec, items_of}
+use Rattle.commit_journal.specs.Openings.{OnFault}
+use Rattle.cloud_opening.specs.Replied.{NotBegunIs}
+use Rattle.cloud_state.specs.State.{IsOpen, IsSameServer}
+use Rattle.cloud_store.specs.Standing.{ImagesNow, ImagesSince, MayBecome}
+use Rattle.share_server.specs.declared.server.Server.{Server}
+use Rattle.share_server.specs.Serving.{number_of, IsServing, server_serves, ReopensAs}
+use Rattle.local_link.specs.declared.servers.Servers.{Servers}
+use Rattle.local_link.specs.Tells.{server_at}
+
+-- One server stood at this place, and another stands there now. The others are as they were.
+pub record Puts (old new : Servers) (cloud : ℕ) (before after : Server) : Type 0 where
+  pub here : server_at old cloud ≡ Some before
+  pub list : new.list.items ≡ slice_set old.list.items cloud after
+  pub shape : new.shape ≡ old.shape
+
+-- A closed server in these rooms.
+pub record IsClosedIn (rooms : Rooms) (server : Server) : Type 0 where
+  pub rooms_are : server.state.rooms ≡ rooms
+  pub shut : server.state.log.journal.stage ≡ Shut
+
+-- The server is closed, and else what it was.
+pub record Closes (before after : Server) : Type 0 where
+  pub same : IsSameServer before.state after.state
+  pub shut : after.state.log.journal.stage ≡ Shut
+
+-- what a server does to a peer that it serves, and what it replies
+pub record Executed (before after : Server) (cloud : Cloud) (p : Peer) (request : Request) (reply : List ℕ) : Type 0 where
+  pub left : Peer
+  pub answer : Reply
+  pub stands : IsServing after cloud left
+  pub is : IsReply reply answer
+  pub exec : Exec before.state.header.shape true (server_serves before) p request answer left
+
+-- what it replies whatever is told of its cloud
+pub record Replied (shape : Shape) (old new : Cloud) (faults_before faults_after : ℕ) (request : Request) (reply : List ℕ) : Type 0 where
+  pub answer : Reply
+  pub is : IsReply reply answer
+  pub kind : IsReplyTo (items_of shape request) request answer
+  pub memory : answer ≢ replies.NoMemory
+  pub fault : answer ≡ replies.Fault → HasFailed old new faults_before faults_after
+
+-- A server executed the content, over the clouds of a shelf.
+pub record Executes (before after : Server) (old new : ℕ → Cloud) (faults_before faults_after : ℕ) (content reply : List ℕ) : Type 0 where
+  pub same : IsSameServer before.state after.state
+  pub exec : (p : Peer) (request : Request) → IsTrue (old (number_of before)).told → IsServing before (old (number_of before)) p
+      → asked_at before.state.header.shape content ≡ Ok request → Executed before after (new (number_of before)) p request reply
+  pub images : (p : Peer) (request : Request) → IsTrue (old (number_of before)).told → IsServing before (old (number_of before)) p
+      → asked_at before.state.header.shape content ≡ Ok request
+      → ImagesSince (old (number_of before)) (new (number_of before)) before.state.header (MayBecome (server_serves before) p request)
+  pub malformed : (at : ℕ) → asked_at before.state.header.shape content ≡ Err at
+      → (reply ≡ reply_bytes (replies.Malformed at)) × (after ≡ before) × (new ≡ old)
+  pub untold : (request : Request) → asked_at before.state.header.shape content ≡ Ok request
+      → Replied before.state.header.shape (old (number_of before)) (new (number_of before)) faults_before faults_after request reply
+  pub call : IsCall old new (number_of before) faults_before faults_after
+
+-- A server was opened, over the clouds of a shelf.
+pub record Reopens (before after : Server) (old new : ℕ → Cloud) (faults_before faults_after : ℕ) (begin : Bool) (result : Result ℕ OpenErr) : Type 0 where
+  pub same : IsSameServer before.state after.state
+  pub opens : OnOk result (IsOpen after.state)
+  pub shut : OnErr result (after.state.log.journal.stage ≡ Shut)
+  pub memory : result ≢ Err errors.NoMemory
+  pub counts : OnFault result
+      (HasFailed (old (number_of before)) (new (number_of before)) faults_before faults_after)
+      (KeepsCounts (old (number_of before)) (new (number_of before)) faults_before faults_after)
+  pub not_begun : IsTrue (old (number_of before)).told → NotBegunIs (old (number_of before)) (new (number_of before)) begin result
+  pub peer : (p : Peer) → IsTrue (old (number_of before)).told → IsServing before (old (number_of before)) p
+      → (q : Peer) × IsServing after (new (number_of before)) q × ReopensAs begin p q result
+  pub images : IsTrue (old (number_of before)).told → (lists : List (List Command))
+      → ImagesNow (old (number_of before)) before.state.header (Contains lists)
+      → ImagesSince (old (number_of before)) (new (number_of before)) before.state.header (Contains lists)
+  pub call : IsCall old new (number_of before) faults_before faults_after

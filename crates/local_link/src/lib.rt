@@ -1,0 +1,9 @@
+//! The servers of all clouds in one process, and the link that asks them: it passes on each request, or loses it or its reply where it was told to.
+#![tactic(auto)]
+
+mod fate;
+mod link;
+mod servers;
+
+pub use fate::Fate;
+pub use link::LocalLink;

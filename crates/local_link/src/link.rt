@@ -1,0 +1,276 @@
+//! The link to all clouds of a shelf.
+
+use crate::Fate;
+use crate::servers::Servers;
+use cd_base::{CloudNo, NoMemory, Rooms, Shape};
+use cd_edges::{Failed, Shelf};
+use frames::ReplyBuf;
+use share_server::OpenErr;
+use std::alloc::Global;
+use user_dedup::{Link, Lost};
+
+/// A link to the n clouds of a shelf, with their servers in this process.
+///
+/// A server is closed at first, and opens its cloud at the first request. The next ask may be lost, on its way there or back.
+#[derive(Drop)]
+pub struct LocalLink<'a, V: Shelf> {
+    pub(crate) shelf: &'a mut V,
+    pub(crate) servers: Servers,
+    pub(crate) fate: Fate,
+    pub(crate) losses: u64,
+    pub(crate) alloc: Global,
+}
+
+impl<'a, V: Shelf> LocalLink<'a, V> {
+    ghost use Rattle.std.specs.Prelude.{◌≡◌, ◌≢◌, ◌↔◌, ℕ, false, ◌+◌, ◌-◌, ◌^◌, ◌<◌, ◌≤◌, List, [], length, min, IsTrue, IsOk, IfOk, OnOk, OnErr, IsSomeAnd, Some, Ok, Err, if◌then◌else◌};
+    ghost use Rattle.std.specs.List.{Contains};
+    ghost use Rattle.cd_edges.specs.Causes.{Rose};
+    ghost use Rattle.cd_edges.specs.Shelf.{HasFailed, KeepsCounts, Arms};
+    ghost use Rattle.commit_journal.specs.declared.journal.Stage.TheVariants.{Shut};
+    ghost use Rattle.messages.specs.declared.request.Request.{Request};
+    ghost use Rattle.messages.specs.declared.reply.Reply.{Reply};
+    ghost use Rattle.user_dedup.specs.declared.command.Command.{Command};
+    ghost use Rattle.user_dedup.specs.Requests.{asked_at};
+    ghost use Rattle.user_dedup.specs.Exec.{Peer, MaySettleAs, Stays, CountsOn};
+    ghost use Rattle.user_dedup.specs.Link.{Asks, AsksNothing, LeavesOthers, Does, serves};
+    ghost use Rattle.commit_journal.specs.Openings.{OnFault};
+    ghost use Rattle.cloud_opening.specs.Replied.{NotBegunIs};
+    ghost use Rattle.cloud_state.specs.State.{AreRooms, IsOpen};
+    ghost use Rattle.cloud_store.specs.Space.{IsWithin};
+    ghost use Rattle.cloud_store.specs.Standing.{ImagesNow, ImagesSince, MayBecome};
+    ghost use Rattle.share_server.specs.declared.server.Server.{Server};
+    ghost use Rattle.share_server.specs.Serving.{ReopensAs};
+    ghost use Rattle.local_link.specs.declared.fate.Fate.TheVariants.{Deliver, LoseRequest};
+    ghost use Rattle.local_link.specs.Tells.{server_at, is_delivered, telling, LeavesRest};
+    ghost use Rattle.local_link.specs.Steps.{IsClosedIn};
+    ghost use Rattle.local_link.specs.Calls.{MayServe, Replaces, Armed, WasBefore, no_commands};
+
+    /// A link to the clouds of this shelf, over a closed server for each, all in these rooms. The next ask is delivered, and none was lost.
+    /// The only error is want of memory.
+    pub fn over(
+        alloc: Global,
+        shelf: &'a mut V,
+        shape: Shape,
+        rooms: Rooms,
+    ) -> Result<LocalLink<'a, V>, NoMemory>
+        requires { AreRooms rooms }
+        ensures shape { IfOk result (λ link. (telling V.cloud_at).shape link ≡ shape) }
+        ensures delivers { IfOk result (λ link. (link.fate ≡ Deliver) × (link.losses ≡ 0)) }
+        ensures closed { IfOk result (λ link. (cloud : ℕ) (server : Server) → server_at link.servers cloud ≡ Some server → IsClosedIn rooms server) }
+        ensures shelf { IfOk result (λ link. link.shelf.now ≡ shelf.old) }
+        ensures same_reference { IfOk result (λ link. link.shelf.ghost_name ≡ shelf.entry.ghost_name) }
+
+        // A cloud stands as each peer that it may be served as.
+        ensures stands { IfOk result (λ link. (cloud : ℕ) (p : Peer) → cloud < shape.n → MayServe shape cloud rooms (V.cloud_at shelf.old cloud) p
+            → (telling V.cloud_at).stands link cloud p) }
+    {
+        let servers = Servers::make(alloc, shape, rooms)?;
+        Ok(LocalLink {
+            shelf,
+            servers,
+            fate: Fate::Deliver,
+            losses: 0,
+            alloc,
+        })
+    }
+
+    /// Whether there is a cloud of this number.
+    pub fn reaches(&self, cloud: CloudNo) -> bool
+        ensures { result ≡ (telling V.cloud_at).reaches self.now cloud.0 }
+    {
+        cloud.0 < self.servers.shape.n
+    }
+
+    /// The shape of the store.
+    pub fn shape(&self) -> Shape
+        ensures { result ≡ (telling V.cloud_at).shape self.now }
+    {
+        self.servers.shape
+    }
+
+    /// How many asks were lost, a count that stays at its last value, that of a u64.
+    pub fn losses(&self) -> u64
+        ensures { result ≡ (telling V.cloud_at).losses self.now }
+    {
+        self.losses
+    }
+
+    /// The fate of the next ask alone; behind it the fate is `Deliver` again. Nothing else changes.
+    pub fn next_fate(&mut self, fate: Fate)
+        ensures { self.new ≡ record self.old { fate = fate } }
+    {
+        self.fate = fate;
+    }
+
+    /// Puts a closed server in these rooms in the cloud's place. Nothing else changes, and for want of memory nothing does.
+    pub fn set_rooms(&mut self, cloud: CloudNo, rooms: Rooms) -> Result<(), NoMemory>
+        requires reached { IsTrue ((telling V.cloud_at).reaches self.old cloud.0) }
+        requires rooms { AreRooms rooms }
+        ensures closed { OnOk result (IsSomeAnd (server_at self.new.servers cloud.0) (IsClosedIn rooms)) }
+        ensures stands { (p : Peer) → (telling V.cloud_at).stands self.old cloud.0 p → ((list : List Command) → MaySettleAs p list → IsWithin rooms list)
+            → OnOk result ((telling V.cloud_at).stands self.new cloud.0 p) }
+        ensures others { LeavesRest V.cloud_at cloud.0 self.old self.new }
+        ensures still { (self.new.shelf ≡ self.old.shelf) × (self.new.fate ≡ self.old.fate) × (self.new.losses ≡ self.old.losses) }
+        ensures err { OnErr result (self.new ≡ self.old) }
+    {
+        self.servers.renew(self.alloc, cloud, rooms)
+    }
+
+    /// Opens the cloud's server, and answers how many commands the cloud has: `share_server::Server::reopen`. After an Err the server is
+    /// closed. Where the cloud's journal isn't begun it is begun, where `begin` is true.
+    pub fn reopen(&mut self, cloud: CloudNo, begin: bool) -> Result<u64, OpenErr>
+        requires { IsTrue ((telling V.cloud_at).reaches self.old cloud.0) }
+        ensures opens { OnOk result (IsSomeAnd (server_at self.new.servers cloud.0) (λ server. IsOpen server.state)) }
+        ensures shut { OnErr result (IsSomeAnd (server_at self.new.servers cloud.0) (λ server. server.state.log.journal.stage ≡ Shut)) }
+        ensures memory { result ≢ Err OpenErr.NoMemory }
+
+        // Fault comes only where the cloud's count of faults and the one in all rose; with any other answer both stay.
+        ensures counts { OnFault result
+            (HasFailed (V.cloud_at self.old.shelf.now cloud.0) (V.cloud_at self.new.shelf.now cloud.0) (V.faults self.old.shelf.now) (V.faults self.new.shelf.now))
+            (KeepsCounts (V.cloud_at self.old.shelf.now cloud.0) (V.cloud_at self.new.shelf.now cloud.0) (V.faults self.old.shelf.now) (V.faults self.new.shelf.now)) }
+
+        // NotBegun comes where the journal isn't begun and `begin` is false, after three syncs alone, and no other answer but Fault there.
+        ensures not_begun { IsTrue ((telling V.cloud_at).told self.old cloud.0)
+            → NotBegunIs (V.cloud_at self.old.shelf.now cloud.0) (V.cloud_at self.new.shelf.now cloud.0) begin result }
+
+        ensures peer { (p : Peer) → IsTrue ((telling V.cloud_at).told self.old cloud.0) → (telling V.cloud_at).stands self.old cloud.0 p
+            → (q : Peer) × (telling V.cloud_at).stands self.new cloud.0 q × ReopensAs begin p q result }
+        ensures untold { (p : Peer) → (telling V.cloud_at).told self.old cloud.0 ≡ false → (telling V.cloud_at).stands self.old cloud.0 p
+            → (q : Peer) × (telling V.cloud_at).stands self.new cloud.0 q × Stays p q × CountsOn p q }
+
+        // Whenever a crash comes it leaves a list that it might have left before.
+        ensures images { IsTrue ((telling V.cloud_at).told self.old cloud.0) → (lists : List (List Command)) → IsSomeAnd (server_at self.old.servers cloud.0) (λ server.
+            ImagesNow (V.cloud_at self.old.shelf.now cloud.0) server.state.header (Contains lists)
+            → ImagesSince (V.cloud_at self.old.shelf.now cloud.0) (V.cloud_at self.new.shelf.now cloud.0) server.state.header (Contains lists)) }
+
+        ensures others { LeavesOthers (telling V.cloud_at) cloud.0 self.old self.new }
+        ensures rest { LeavesRest V.cloud_at cloud.0 self.old self.new }
+        ensures still { (self.new.fate ≡ self.old.fate) × (self.new.losses ≡ self.old.losses) }
+        ensures same_reference { self.new.shelf.ghost_name ≡ self.old.shelf.ghost_name }
+    {
+        self.servers.reopen(cloud, self.shelf, begin)
+    }
+
+    /// Makes the cloud's areas empty, and disarms it. Its server is closed after it, whatever the answer. After Ok the cloud stands for no
+    /// commands; after `Failed`, which comes only where its count of faults rose, for what it stood for.
+    pub fn replace(&mut self, cloud: CloudNo) -> Result<(), Failed>
+        requires { IsTrue ((telling V.cloud_at).reaches self.old cloud.0) }
+        ensures closed { IsSomeAnd (server_at self.old.servers cloud.0) (λ server. IsSomeAnd (server_at self.new.servers cloud.0) (IsClosedIn server.state.rooms)) }
+        ensures replaced { (p : Peer) → (telling V.cloud_at).stands self.old cloud.0 p
+            → (q : Peer) × (telling V.cloud_at).stands self.new cloud.0 q × Replaces p q result }
+
+        // Whatever the cloud stood for, it stands for no commands where the rooms hold the header.
+        ensures fresh { IsSomeAnd (server_at self.old.servers cloud.0) (λ server. IsWithin server.state.rooms []
+            → OnOk result ((telling V.cloud_at).stands self.new cloud.0 (no_commands (V.cloud_at self.old.shelf.now cloud.0)))) }
+
+        // Whenever a crash comes it leaves what it might have left before, or empty areas.
+        ensures images { IsTrue ((telling V.cloud_at).told self.old cloud.0) → WasBefore (V.cloud_at self.old.shelf.now cloud.0) (V.cloud_at self.new.shelf.now cloud.0) }
+
+        ensures others { LeavesOthers (telling V.cloud_at) cloud.0 self.old self.new }
+        ensures rest { LeavesRest V.cloud_at cloud.0 self.old self.new }
+        ensures still { (self.new.fate ≡ self.old.fate) × (self.new.losses ≡ self.old.losses) }
+        ensures same_reference { self.new.shelf.ghost_name ≡ self.old.shelf.ghost_name }
+    {
+        self.servers.close(cloud);
+        self.shelf.fresh(cloud)
+    }
+
+    /// Cuts a later write or sync of the cloud: `cd_edges::Shelf::arm`. No list, no pending command and no fault changes.
+    pub fn arm(&mut self, cloud: CloudNo, calls: u32, keep: u32)
+        requires { IsTrue ((telling V.cloud_at).reaches self.old cloud.0) }
+        ensures arms { Arms (V.cloud_at self.old.shelf.now cloud.0) (V.cloud_at self.new.shelf.now cloud.0) calls keep }
+        ensures armed { (p : Peer) → (telling V.cloud_at).stands self.old cloud.0 p
+            → (q : Peer) × (telling V.cloud_at).stands self.new cloud.0 q × Armed p q }
+        ensures others { LeavesOthers (telling V.cloud_at) cloud.0 self.old self.new }
+        ensures rest { LeavesRest V.cloud_at cloud.0 self.old self.new }
+        ensures still { (self.new.servers ≡ self.old.servers) × (self.new.fate ≡ self.old.fate) × (self.new.losses ≡ self.old.losses) }
+        ensures same_reference { self.new.shelf.ghost_name ≡ self.old.shelf.ghost_name }
+    {
+        self.shelf.arm(cloud, calls, keep);
+    }
+
+    // Counts a loss. The reply buffer is empty then.
+    fn lose(&mut self, reply: &mut ReplyBuf)
+        ensures counted { self.new ≡ record self.old { losses = min (self.old.losses + 1) (2 ^ 64 - 1) } }
+        ensures later { self.old.losses ≤ self.new.losses }
+        ensures empty { reply.new ≡ [] }
+    {
+        reply.clear();
+        self.losses = self.losses.saturating_add(1);
+    }
+
+    /// Asks a cloud, as `Link::ask` does, by the fate that was set: `Deliver` has the cloud's server execute the request, and gives its reply;
+    /// `LoseRequest` does nothing; `LoseReply` has the request executed, and loses the reply. Where the ask was lost the reply buffer is empty.
+    pub fn ask_cloud(
+        &mut self,
+        cloud: CloudNo,
+        request: &[u8],
+        reply: &mut ReplyBuf,
+    ) -> Result<(), Lost>
+        requires reached { IsTrue ((telling V.cloud_at).reaches self.old cloud.0) }
+        requires framed { length request.now ≤ 4194304 }
+        ensures delivered { IsOk result ↔ IsTrue (is_delivered self.old.fate) }
+        ensures next { self.new.fate ≡ Deliver }
+        ensures counted { self.new.losses ≡ (if is_delivered self.old.fate then self.old.losses else min (self.old.losses + 1) (2 ^ 64 - 1)) }
+        ensures later { self.old.losses ≤ self.new.losses }
+        ensures empty { OnErr result (reply.new ≡ []) }
+
+        // What was lost before the cloud took it changes nothing else.
+        ensures unheard { self.old.fate ≡ LoseRequest → (self.new.servers ≡ self.old.servers) × (self.new.shelf ≡ self.old.shelf) }
+
+        // Content that asks nothing changes no cloud.
+        ensures refused { (at : ℕ) → asked_at ((telling V.cloud_at).shape self.old) request.now ≡ Err at → V.cloud_at self.new.shelf.now ≡ V.cloud_at self.old.shelf.now }
+
+        // Any request that wasn't lost on its way there is executed.
+        ensures executed { self.old.fate ≢ LoseRequest → (r : Request) → asked_at ((telling V.cloud_at).shape self.old) request.now ≡ Ok r
+            → (p : Peer) → (telling V.cloud_at).stands self.old cloud.0 p
+            → (q : Peer) × (answer : Reply) × (telling V.cloud_at).stands self.new cloud.0 q × Does (telling V.cloud_at) cloud.0 self.old p r answer q }
+
+        // As the trait says.
+        ensures exec { (r : Request) → asked_at ((telling V.cloud_at).shape self.old) request.now ≡ Ok r
+            → Asks (telling V.cloud_at) cloud.0 self.old r reply.new result self.new }
+        ensures malformed { (at : ℕ) → asked_at ((telling V.cloud_at).shape self.old) request.now ≡ Err at
+            → AsksNothing (telling V.cloud_at) cloud.0 self.old at reply.new result self.new }
+        ensures others { LeavesOthers (telling V.cloud_at) cloud.0 self.old self.new }
+
+        // Whenever a crash comes it leaves a list that the cloud might have settled as, or one with the command that the request adds.
+        ensures images { (p : Peer) (r : Request) → IsTrue ((telling V.cloud_at).told self.old cloud.0) → (telling V.cloud_at).stands self.old cloud.0 p
+            → asked_at ((telling V.cloud_at).shape self.old) request.now ≡ Ok r
+            → IsSomeAnd (server_at self.old.servers cloud.0) (λ server. ImagesSince (V.cloud_at self.old.shelf.now cloud.0) (V.cloud_at self.new.shelf.now cloud.0)
+            server.state.header (MayBecome (serves (telling V.cloud_at) self.old cloud.0) p r)) }
+
+        ensures rest { LeavesRest V.cloud_at cloud.0 self.old self.new }
+        ensures same_reference { self.new.shelf.ghost_name ≡ self.old.shelf.ghost_name }
+    {
+        let fate = self.fate;
+        self.fate = Fate::Deliver;
+        match fate {
+            Fate::Deliver => {
+                self.servers.execute(cloud, self.shelf, request, reply);
+                Ok(())
+            }
+            Fate::LoseRequest => {
+                self.lose(reply);
+                Err(Lost)
+            }
+            Fate::LoseReply => {
+                self.servers.execute(cloud, self.shelf, request, reply);
+                self.lose(reply);
+                Err(Lost)
+            }
+        }
+    }
+}
+
+impl<'a, V: Shelf> Link for LocalLink<'a, V> {
+    ghost use Rattle.local_link.specs.Tells.{telling};
+    ghost use Rattle.local_link.specs.Sounds.{tells_sound};
+
+    ghost tells = { telling V.cloud_at };
+
+    fn ask(&mut self, cloud: CloudNo, request: &[u8], reply: &mut ReplyBuf) -> Result<(), Lost> {
+        self.ask_cloud(cloud, request, reply)
+    }
+
+    ghost sound = { tells_sound V.cloud_at };
+}
