@@ -1,0 +1,17 @@
+-- The lanes to which a job comes: those of some version of a file, and then one reply after the other.
+use Rattle.std.specs.Prelude.{ℕ, ◌<◌, ◌≤◌, ◌^◌, List, length, Result}
+use Rattle.cd_base.specs.Limits.{IsPath}
+use Rattle.cd_base.specs.declared.shape.Shape.{Shape}
+use Rattle.recipe.specs.Spelling.{file_limit}
+use Rattle.upload_job.specs.declared.news.LaneNews.{LaneNews}
+use Rattle.upload_job.specs.declared.news.LaneErr.{LaneErr}
+use Rattle.upload_job.specs.Upload.{FileVersion}
+use Rattle.upload_job.specs.Lanes.{LaneView, lanes_begun, AnswersAt}
+
+-- The lanes are those of a job that was made of a version of a file and then took some contents as replies, whatever they are.
+pub data IsReached (shape : Shape) : List LaneView → Type 0 where
+  Begun : (v : FileVersion) → IsPath v.path → length v.file ≤ file_limit → v.user.0 < 2 ^ 32 → v.number.0 < 2 ^ 64
+      → IsReached shape (lanes_begun shape v)
+  Answered : (old new : List LaneView) (lane : ℕ) (content : List ℕ) (result : Result LaneNews LaneErr) → IsReached shape old
+      → AnswersAt old lane content result new
+      → IsReached shape new

@@ -1,0 +1,27 @@
+//! What a job asks, a cloud reads.
+#![tactic(auto)]
+
+ghost use Rattle.std.specs.Prelude.{◌≡◌, ◌≤◌, ℕ, List, length, Some, Ok};
+ghost use Rattle.cd_base.specs.declared.shape.Shape.{Shape};
+ghost use Rattle.messages.specs.declared.request.Request.{Request};
+ghost use Rattle.messages.specs.Requests.{request_bytes, FitsRequest};
+ghost use Rattle.messages.specs.Replies.{frame_limit};
+ghost use Rattle.user_dedup.specs.Requests.{HasRecipe, asked_at};
+ghost use Rattle.upload_job.specs.Lanes.{LaneView, request_at};
+ghost use Rattle.lane_requests.specs.Reached.{IsReached};
+
+/// Each request of a lane to which a job comes is one that a cloud of the shape reads as it is, and fits into a frame.
+pub fn law_of_lane_requests()
+    // a cloud of the shape reads what is written as the request
+    ensures read { (shape : Shape) (lanes : List LaneView) (i : ℕ) (request : Request) → IsReached shape lanes → request_at lanes i ≡ Some request
+        → asked_at shape (request_bytes request) ≡ Ok request }
+    // it has a byte at least
+    ensures some { (shape : Shape) (lanes : List LaneView) (i : ℕ) (request : Request) → IsReached shape lanes → request_at lanes i ≡ Some request
+        → 1 ≤ length (request_bytes request) }
+    // and no more than a frame takes
+    ensures framed { (shape : Shape) (lanes : List LaneView) (i : ℕ) (request : Request) → IsReached shape lanes → request_at lanes i ≡ Some request
+        → length (request_bytes request) ≤ frame_limit }
+    // each field is in its range, and the recipe of a Commit is one of the shape
+    ensures fits { (shape : Shape) (lanes : List LaneView) (i : ℕ) (request : Request) → IsReached shape lanes → request_at lanes i ≡ Some request
+        → FitsRequest request × HasRecipe shape request }
+{}
