@@ -120,10 +120,10 @@ wide_enough rooms areas others now at journal index answer wide shares recipes s
     Wide answer wide (subst (λ (a : AreaLengths). From rooms a at journal index answer) are (subst (λ (s : Store). From rooms areas s journal index answer) same from))
 
 -- nothing comes behind a closed gate
-not_open : (rest body : List ℕ) → IsClosed rest → IsRecord rest body → ⊥
+pub not_open : (rest body : List ℕ) → IsClosed rest → IsRecord rest body → ⊥
 not_open rest body c r = c.shut (head_of c.gate 1 c.behind (sized body ++ r.gate ∷ r.behind) (sym c.spelled ∙ r.spelled))
 
-not_broken : (rest : List ℕ) (gate at byte : ℕ) → IsClosed rest → IsDamage rest gate at byte → ⊥
+pub not_broken : (rest : List ℕ) (gate at byte : ℕ) → IsClosed rest → IsDamage rest gate at byte → ⊥
 not_broken rest gate at byte c (LastGate is place same) = c.shut (head_of c.gate 1 c.behind [] (sym c.spelled ∙ is))
 not_broken rest gate at byte c (BadLength tail is none place) = c.shut (head_of c.gate 1 c.behind (byte ∷ tail) (sym c.spelled ∙ is))
 

@@ -6,3 +6,5 @@ pub mod Loaded
 pub mod Replied
 pub mod Synced
 pub mod Taken
+pub mod OneHeader
+pub mod OneOpening

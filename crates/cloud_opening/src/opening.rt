@@ -37,7 +37,8 @@ fn set_ends(log: &mut CommandLog, shares_end: u64, recipes_end: u64)
 ///
 /// Whenever a crash comes, and after an Err too, each image of the cloud stands for one of the lists that the images stood for
 /// before. After Ok requests may be executed, over the list that what the areas read stands for. After an Err none may: only
-/// `reopen` may be called. It takes no memory, and `NoMemory` never comes. Places are those of the area Journal, from 0.
+/// `reopen` may be called. It takes no memory, and `NoMemory` never comes. Where no device call fails, the bytes of the areas give
+/// the answer, and one alone (`laws::law_of_openings`). Places are those of the area Journal, from 0.
 ///
 /// - `Fault`: a device call failed. It comes only where the cloud's count of faults rose.
 /// - `NotBegun`: the journal isn't begun, has so many bytes, and `begin` is false. Only the three syncs were made.

@@ -1,12 +1,14 @@
 -- One answer alone comes.
 use Rattle.std.proofs.Common.{◌≡◌, ℕ, ◌+◌, List, length, refl, sym, ap, ◌∙◌, subst, arith}
 use Rattle.std.specs.Prelude.{◌↔◌, Result, Ok, Err, IsSome, IfSome, None}
-use Rattle.std.specs.FinMap.{FinMap, get, insert}
+use Rattle.std.specs.FinMap.{FinMap, get, insert, len}
 use Rattle.cd_base.specs.declared.ids.UserId.{UserId}
 use Rattle.cd_base.specs.declared.rooms.Room.{Room}
 use Rattle.cd_base.specs.declared.rooms.Room.TheVariants as names
 use Rattle.cd_base.specs.declared.rooms.Rooms.{Rooms}
-use Rattle.file_index.specs.Files.{Files}
+use Rattle.file_index.specs.declared.key.Entry.{Entry}
+use Rattle.file_index.specs.Files.{Files, key_of}
+use Rattle.file_index.specs.Order.{key_cmp}
 use Rattle.record_body.specs.declared.body.BodyErr.{BodyErr}
 use Rattle.record_body.specs.declared.body.CommitBody.{CommitBody}
 use Rattle.record_body.specs.declared.body.FoundItem.{FoundItem}
@@ -20,12 +22,15 @@ use Rattle.cloud_index.specs.declared.index.CloudIndex.{CloudIndex}
 use Rattle.cloud_index.specs.Taking.{places_with, end_with, TakesItem, TakesCommit}
 use Rattle.record_replay.specs.declared.refusal.AreaLengths.{AreaLengths}
 use Rattle.record_replay.specs.declared.refusal.Refusal.{Refusal}
-use Rattle.record_replay.specs.Checks.{damaged_at, Lies, IsRightItem, IsItemFault, Owned, Flag, Place as Misplaced, IsCommitFault, Unplaced, Entered}
+use Rattle.record_replay.specs.Checks.{damaged_at, Lies, IsRightItem, IsItemFault, Owned, Flag, Place as Misplaced, IsEntered, RecipeLies, IsRightCommit, IsCommitFault, Unplaced, Entered}
 use Rattle.record_replay.specs.Judging.{Answer, KeepsAlike, found_at, HasBytes, LacksBytes, Blobs, Journal, Replays, Done, Fault, Next, HasNumbers, LacksNumbers, Fps, Owners, JudgedPut, Number, Item, Bytes, Taken, JudgedCommit, File, Field, Length, Entry as Enters, JudgedBy, Judged}
 use Rattle.record_replay.proofs.Right.{not_both, not_both_ways}
 
 pub alike_itself : (index : CloudIndex) → KeepsAlike index index
 alike_itself index = record { places = refl; owners = refl; files = refl; shares_end = refl; recipes_end = refl }
+
+alike_back : (a b : CloudIndex) → KeepsAlike a b → KeepsAlike b a
+alike_back a b k = record { places = sym k.places; owners = sym k.owners; files = sym k.files; shares_end = sym k.shares_end; recipes_end = sym k.recipes_end }
 
 -- ---- items
 
@@ -78,6 +83,26 @@ one_room room end end2 limit used journal one two same (Blobs more) (Journal few
 one_room room end end2 limit used journal one two same (Journal few more) (Blobs more2) = absurd (omega (arith, few, more2, same))
 one_room room end end2 limit used journal one two same (Journal few more) (Journal few2 more2) = refl
 
+-- ---- numbers
+
+-- the two have as many places and as many owners
+record AsMany (a b : CloudIndex) : Type 0 where
+  places : len a.shares.places ≡ len b.shares.places
+  owners : len a.shares.owners ≡ len b.shares.owners
+
+as_many : (a b : CloudIndex) → KeepsAlike a b → AsMany a b
+as_many a b k = record { places = ap (λ (m : FinMap fp_cmp Place). len m) k.places; owners = ap (λ (m : FinMap owner_cmp ℕ). len m) k.owners }
+
+no_numbers : (rooms : Rooms) (a b : CloudIndex) (items : List PutItem) (refusal : Refusal) → AsMany a b → LacksNumbers rooms a items refusal → HasNumbers rooms b items → ⊥
+no_numbers rooms a b items refusal same (Fps more) has = let few = has.fps in omega (arith, few, more, same.places)
+no_numbers rooms a b items refusal same (Owners first more) has = let few = has.owners in omega (arith, few, more, same.owners)
+
+one_number : (rooms : Rooms) (a b : CloudIndex) (items : List PutItem) (one two : Refusal) → AsMany a b → LacksNumbers rooms a items one → LacksNumbers rooms b items two → one ≡ two
+one_number rooms a b items one two same (Fps more) (Fps more2) = refl
+one_number rooms a b items one two same (Fps more) (Owners few more2) = absurd (omega (arith, few, more, same.places))
+one_number rooms a b items one two same (Owners few more) (Fps more2) = absurd (omega (arith, few, more2, same.places))
+one_number rooms a b items one two same (Owners few more) (Owners few2 more2) = refl
+
 -- ---- runs
 
 -- the two answers, and what they leave
@@ -106,99 +131,108 @@ module _ (area at : ℕ) (body : List ℕ) (user : UserId) where
 
   -- ---- a Put
 
-  no_numbers : (rooms : Rooms) (old : CloudIndex) (items : List PutItem) (refusal : Refusal) → LacksNumbers rooms old items refusal → HasNumbers rooms old items → ⊥
-  no_numbers rooms old items refusal (Fps more) has = let few = has.fps in omega (arith, few, more)
-  no_numbers rooms old items refusal (Owners first more) has = let few = has.owners in omega (arith, few, more)
-
-  one_number : (rooms : Rooms) (old : CloudIndex) (items : List PutItem) (one two : Refusal) → LacksNumbers rooms old items one → LacksNumbers rooms old items two → one ≡ two
-  one_number rooms old items one two (Fps more) (Fps more2) = refl
-  one_number rooms old items one two (Fps more) (Owners few more2) = absurd (omega (arith, few, more))
-  one_number rooms old items one two (Owners few more) (Fps more2) = absurd (omega (arith, few, more2))
-  one_number rooms old items one two (Owners few more) (Owners few2 more2) = refl
-
-  pub puts_agree : (rooms : Rooms) (old : CloudIndex) (items : List PutItem) (new other : CloudIndex) (one two : Answer) → JudgedPut Plain rooms area old at body user items new one
-      → JudgedPut Plain rooms area old at body user items other two → Agree new other one two
-  puts_agree rooms old items new other one two (Number a lacks) (Number b lacks2) = record { answers = ap (λ (r : Refusal). Err r) (one_number rooms old items a b lacks lacks2); alike = alike_itself old }
-  puts_agree rooms old items new other one two (Number a lacks) (Item new2 b numbers run) = absurd (no_numbers rooms old items a lacks numbers)
-  puts_agree rooms old items new other one two (Number a lacks) (Bytes new2 b numbers run lacks2) = absurd (no_numbers rooms old items a lacks numbers)
-  puts_agree rooms old items new other one two (Number a lacks) (Taken new2 numbers run has) = absurd (no_numbers rooms old items a lacks numbers)
-  puts_agree rooms old items new other one two (Item new1 a numbers run) (Number b lacks) = absurd (no_numbers rooms old items b lacks numbers)
-  puts_agree rooms old items new other one two (Item new1 a numbers run) (Item new2 b numbers2 run2) = runs_agree old old 7 items new1 new2 (Err a) (Err b) (alike_itself old) run run2
-  puts_agree rooms old items new other one two (Item new1 a numbers run) (Bytes new2 b numbers2 run2 lacks) =
-      let r = runs_agree old old 7 items new1 new2 (Err a) (Ok tt) (alike_itself old) run run2 in absurd (let never : Err a ≡ Ok tt = r.answers in cc)
-  puts_agree rooms old items new other one two (Item new1 a numbers run) (Taken new2 numbers2 run2 has) =
-      let r = runs_agree old old 7 items new1 new2 (Err a) (Ok tt) (alike_itself old) run run2 in absurd (let never : Err a ≡ Ok tt = r.answers in cc)
-  puts_agree rooms old items new other one two (Bytes new1 a numbers run lacks) (Number b lacks2) = absurd (no_numbers rooms old items b lacks2 numbers)
-  puts_agree rooms old items new other one two (Bytes new1 a numbers run lacks) (Item new2 b numbers2 run2) =
-      let r = runs_agree old old 7 items new1 new2 (Ok tt) (Err b) (alike_itself old) run run2 in absurd (let never : Ok tt ≡ Err b = r.answers in cc)
-  puts_agree rooms old items new other one two (Bytes new1 a numbers run lacks) (Bytes new2 b numbers2 run2 lacks2) =
-      let r = runs_agree old old 7 items new1 new2 (Ok tt) (Ok tt) (alike_itself old) run run2 in
-      record { answers = ap (λ (x : Refusal). Err x) (one_room names.Shares new1.shares_end new2.shares_end rooms.shares (at + length body + 1) rooms.journal a b r.alike.shares_end lacks lacks2); alike = r.alike }
-  puts_agree rooms old items new other one two (Bytes new1 a numbers run lacks) (Taken new2 numbers2 run2 has) =
-      let r = runs_agree old old 7 items new1 new2 (Ok tt) (Ok tt) (alike_itself old) run run2 in
-      absurd (no_room names.Shares new1.shares_end new2.shares_end rooms.shares (at + length body + 1) rooms.journal a r.alike.shares_end lacks has)
-  puts_agree rooms old items new other one two (Taken new1 numbers run has) (Number b lacks) = absurd (no_numbers rooms old items b lacks numbers)
-  puts_agree rooms old items new other one two (Taken new1 numbers run has) (Item new2 b numbers2 run2) =
-      let r = runs_agree old old 7 items new1 new2 (Ok tt) (Err b) (alike_itself old) run run2 in absurd (let never : Ok tt ≡ Err b = r.answers in cc)
-  puts_agree rooms old items new other one two (Taken new1 numbers run has) (Bytes new2 b numbers2 run2 lacks) =
-      let r = runs_agree old old 7 items new1 new2 (Ok tt) (Ok tt) (alike_itself old) run run2 in
-      absurd (no_room names.Shares new2.shares_end new1.shares_end rooms.shares (at + length body + 1) rooms.journal b (sym r.alike.shares_end) lacks has)
-  puts_agree rooms old items new other one two (Taken new1 numbers run has) (Taken new2 numbers2 run2 has2) = runs_agree old old 7 items new1 new2 (Ok tt) (Ok tt) (alike_itself old) run run2
+  pub puts_agree : (rooms : Rooms) (a b : CloudIndex) (items : List PutItem) (new other : CloudIndex) (one two : Answer) → KeepsAlike a b
+      → JudgedPut Plain rooms area a at body user items new one → JudgedPut Plain rooms area b at body user items other two → Agree new other one two
+  puts_agree rooms a b items new other one two k (Number r lacks) (Number s lacks2) = record { answers = ap (λ (x : Refusal). Err x) (one_number rooms a b items r s (as_many a b k) lacks lacks2); alike = k }
+  puts_agree rooms a b items new other one two k (Number r lacks) (Item new2 s numbers run) = absurd (no_numbers rooms a b items r (as_many a b k) lacks numbers)
+  puts_agree rooms a b items new other one two k (Number r lacks) (Bytes new2 s numbers run lacks2) = absurd (no_numbers rooms a b items r (as_many a b k) lacks numbers)
+  puts_agree rooms a b items new other one two k (Number r lacks) (Taken new2 numbers run has) = absurd (no_numbers rooms a b items r (as_many a b k) lacks numbers)
+  puts_agree rooms a b items new other one two k (Item new1 r numbers run) (Number s lacks) = absurd (no_numbers rooms b a items s (as_many b a (alike_back a b k)) lacks numbers)
+  puts_agree rooms a b items new other one two k (Item new1 r numbers run) (Item new2 s numbers2 run2) = runs_agree a b 7 items new1 new2 (Err r) (Err s) k run run2
+  puts_agree rooms a b items new other one two k (Item new1 r numbers run) (Bytes new2 s numbers2 run2 lacks) =
+      let both = runs_agree a b 7 items new1 new2 (Err r) (Ok tt) k run run2 in absurd (let never : Err r ≡ Ok tt = both.answers in cc)
+  puts_agree rooms a b items new other one two k (Item new1 r numbers run) (Taken new2 numbers2 run2 has) =
+      let both = runs_agree a b 7 items new1 new2 (Err r) (Ok tt) k run run2 in absurd (let never : Err r ≡ Ok tt = both.answers in cc)
+  puts_agree rooms a b items new other one two k (Bytes new1 r numbers run lacks) (Number s lacks2) = absurd (no_numbers rooms b a items s (as_many b a (alike_back a b k)) lacks2 numbers)
+  puts_agree rooms a b items new other one two k (Bytes new1 r numbers run lacks) (Item new2 s numbers2 run2) =
+      let both = runs_agree a b 7 items new1 new2 (Ok tt) (Err s) k run run2 in absurd (let never : Ok tt ≡ Err s = both.answers in cc)
+  puts_agree rooms a b items new other one two k (Bytes new1 r numbers run lacks) (Bytes new2 s numbers2 run2 lacks2) =
+      let both = runs_agree a b 7 items new1 new2 (Ok tt) (Ok tt) k run run2 in
+      record { answers = ap (λ (x : Refusal). Err x) (one_room names.Shares new1.shares_end new2.shares_end rooms.shares (at + length body + 1) rooms.journal r s both.alike.shares_end lacks lacks2); alike = both.alike }
+  puts_agree rooms a b items new other one two k (Bytes new1 r numbers run lacks) (Taken new2 numbers2 run2 has) =
+      let both = runs_agree a b 7 items new1 new2 (Ok tt) (Ok tt) k run run2 in
+      absurd (no_room names.Shares new1.shares_end new2.shares_end rooms.shares (at + length body + 1) rooms.journal r both.alike.shares_end lacks has)
+  puts_agree rooms a b items new other one two k (Taken new1 numbers run has) (Number s lacks) = absurd (no_numbers rooms b a items s (as_many b a (alike_back a b k)) lacks numbers)
+  puts_agree rooms a b items new other one two k (Taken new1 numbers run has) (Item new2 s numbers2 run2) =
+      let both = runs_agree a b 7 items new1 new2 (Ok tt) (Err s) k run run2 in absurd (let never : Ok tt ≡ Err s = both.answers in cc)
+  puts_agree rooms a b items new other one two k (Taken new1 numbers run has) (Bytes new2 s numbers2 run2 lacks) =
+      let both = runs_agree a b 7 items new1 new2 (Ok tt) (Ok tt) k run run2 in
+      absurd (no_room names.Shares new2.shares_end new1.shares_end rooms.shares (at + length body + 1) rooms.journal s (sym both.alike.shares_end) lacks has)
+  puts_agree rooms a b items new other one two k (Taken new1 numbers run has) (Taken new2 numbers2 run2 has2) = runs_agree a b 7 items new1 new2 (Ok tt) (Ok tt) k run run2
 
 -- ---- a Commit
 
-module _ (rooms : Rooms) (area : ℕ) (old : CloudIndex) (at : ℕ) (body : List ℕ) (c : CommitBody) where
+lies_alike : (area : ℕ) (a b : CloudIndex) (c : CommitBody) → KeepsAlike a b → RecipeLies area a c → RecipeLies area b c
+lies_alike area a b c k lies = (lies.0, subst (λ (end : ℕ). Lies end area c.at c.len) k.recipes_end lies.1)
+
+entered_alike : (a b : CloudIndex) (c : CommitBody) → KeepsAlike a b → IsEntered a c → IsEntered b c
+entered_alike a b c k entered = subst (λ (m : FinMap key_cmp Entry). IsSome (get m (key_of c.user.0 c.tag.0 c.version.0))) k.files entered
+
+field_alike : (area : ℕ) (a b : CloudIndex) (c : CommitBody) (place : ℕ) → KeepsAlike a b → IsCommitFault area a c place → IsCommitFault area b c place
+field_alike area a b c place k (Unplaced other) = Unplaced (λ lies. other (lies_alike area b a c (alike_back a b k) lies))
+field_alike area a b c place k (Entered lies entered) = Entered (lies_alike area a b c k lies) (entered_alike a b c k entered)
+
+one_field : (area : ℕ) (index : CloudIndex) (c : CommitBody) (p q : ℕ) → IsCommitFault area index c p → IsCommitFault area index c q → p ≡ q
+one_field area index c p q (Unplaced other) (Unplaced other2) = refl
+one_field area index c p q (Unplaced other) (Entered lies entered) = absurd (other lies)
+one_field area index c p q (Entered lies entered) (Unplaced other) = absurd (other lies)
+one_field area index c p q (Entered lies entered) (Entered lies2 entered2) = refl
+
+module _ (rooms : Rooms) (area : ℕ) (a b : CloudIndex) (alike : KeepsAlike a b) (at : ℕ) (body : List ℕ) (c : CommitBody) where
   abbrev Enter : CloudIndex → CloudIndex → Type 0
   Enter before after = TakesCommit before after c
 
-  one_field : (p q : ℕ) → IsCommitFault area old c p → IsCommitFault area old c q → p ≡ q
-  one_field p q (Unplaced other) (Unplaced other2) = refl
-  one_field p q (Unplaced other) (Entered lies entered) = absurd (other lies)
-  one_field p q (Entered lies entered) (Unplaced other) = absurd (other lies)
-  one_field p q (Entered lies entered) (Entered lies2 entered2) = refl
+  as_many_files : len a.files.files ≡ len b.files.files
+  as_many_files = ap (λ (m : FinMap key_cmp Entry). len m) alike.files
 
-  enters_alike : (new other : CloudIndex) → Enter old new → Enter old other → KeepsAlike new other
+  enters_alike : (new other : CloudIndex) → Enter a new → Enter b other → KeepsAlike new other
   enters_alike new other one two = record {
-    places = ap (λ (s : Shares). s.places) (one.shares ∙ sym two.shares);
-    owners = ap (λ (s : Shares). s.owners) (one.shares ∙ sym two.shares);
-    files = one.files ∙ sym two.files;
-    shares_end = one.shares_end ∙ sym two.shares_end;
+    places = ap (λ (s : Shares). s.places) one.shares ∙ alike.places ∙ ap (λ (s : Shares). s.places) (sym two.shares);
+    owners = ap (λ (s : Shares). s.owners) one.shares ∙ alike.owners ∙ ap (λ (s : Shares). s.owners) (sym two.shares);
+    files = one.files ∙ ap (λ (m : FinMap key_cmp Entry). insert m (key_of c.user.0 c.tag.0 c.version.0) (record { at = c.at; len = c.len; fp = c.fp })) alike.files ∙ sym two.files;
+    shares_end = one.shares_end ∙ alike.shares_end ∙ sym two.shares_end;
     recipes_end = one.end ∙ sym two.end;
   }
 
-  pub commits_agree : (new other : CloudIndex) (one two : Answer) → JudgedCommit Enter rooms area old at body c new one → JudgedCommit Enter rooms area old at body c other two → Agree new other one two
-  commits_agree new other one two (File more) (File more2) = record { answers = refl; alike = alike_itself old }
-  commits_agree new other one two (File more) (Field q few fault) = absurd (omega (arith, few, more))
-  commits_agree new other one two (File more) (Length new2 b few right takes lacks) = absurd (omega (arith, few, more))
-  commits_agree new other one two (File more) (Enters new2 few right takes has) = absurd (omega (arith, few, more))
-  commits_agree new other one two (Field p few fault) (File more) = absurd (omega (arith, few, more))
-  commits_agree new other one two (Field p few fault) (Field q few2 fault2) = record { answers = ap (λ (n : ℕ). Err (damaged_at at body n)) (one_field p q fault fault2); alike = alike_itself old }
-  commits_agree new other one two (Field p few fault) (Length new2 b few2 right takes lacks) = absurd (not_both_ways area old c p right fault)
-  commits_agree new other one two (Field p few fault) (Enters new2 few2 right takes has) = absurd (not_both_ways area old c p right fault)
-  commits_agree new other one two (Length new1 a few right takes lacks) (File more) = absurd (omega (arith, few, more))
-  commits_agree new other one two (Length new1 a few right takes lacks) (Field q few2 fault) = absurd (not_both_ways area old c q right fault)
-  commits_agree new other one two (Length new1 a few right takes lacks) (Length new2 b few2 right2 takes2 lacks2) =
+  -- what passes every check of the one fails none of the other
+  no_fault : (p : ℕ) → IsRightCommit area a c → IsCommitFault area b c p → ⊥
+  no_fault p right fault = not_both_ways area a c p right (field_alike area b a c p (alike_back a b alike) fault)
+
+  pub commits_agree : (new other : CloudIndex) (one two : Answer) → JudgedCommit Enter rooms area a at body c new one → JudgedCommit Enter rooms area b at body c other two → Agree new other one two
+  commits_agree new other one two (File more) (File more2) = record { answers = refl; alike = alike }
+  commits_agree new other one two (File more) (Field q few fault) = absurd (omega (arith, few, more, as_many_files))
+  commits_agree new other one two (File more) (Length new2 s few right takes lacks) = absurd (omega (arith, few, more, as_many_files))
+  commits_agree new other one two (File more) (Enters new2 few right takes has) = absurd (omega (arith, few, more, as_many_files))
+  commits_agree new other one two (Field p few fault) (File more) = absurd (omega (arith, few, more, as_many_files))
+  commits_agree new other one two (Field p few fault) (Field q few2 fault2) =
+      record { answers = ap (λ (n : ℕ). Err (damaged_at at body n)) (one_field area b c p q (field_alike area a b c p alike fault) fault2); alike = alike }
+  commits_agree new other one two (Field p few fault) (Length new2 s few2 right takes lacks) = absurd (not_both_ways area b c p right (field_alike area a b c p alike fault))
+  commits_agree new other one two (Field p few fault) (Enters new2 few2 right takes has) = absurd (not_both_ways area b c p right (field_alike area a b c p alike fault))
+  commits_agree new other one two (Length new1 r few right takes lacks) (File more) = absurd (omega (arith, few, more, as_many_files))
+  commits_agree new other one two (Length new1 r few right takes lacks) (Field q few2 fault) = absurd (no_fault q right fault)
+  commits_agree new other one two (Length new1 r few right takes lacks) (Length new2 s few2 right2 takes2 lacks2) =
       let k = enters_alike new1 new2 takes takes2 in
-      record { answers = ap (λ (x : Refusal). Err x) (one_room names.Recipes new1.recipes_end new2.recipes_end rooms.recipes (at + length body + 1) rooms.journal a b k.recipes_end lacks lacks2); alike = k }
-  commits_agree new other one two (Length new1 a few right takes lacks) (Enters new2 few2 right2 takes2 has) =
+      record { answers = ap (λ (x : Refusal). Err x) (one_room names.Recipes new1.recipes_end new2.recipes_end rooms.recipes (at + length body + 1) rooms.journal r s k.recipes_end lacks lacks2); alike = k }
+  commits_agree new other one two (Length new1 r few right takes lacks) (Enters new2 few2 right2 takes2 has) =
       let k = enters_alike new1 new2 takes takes2 in
-      absurd (no_room names.Recipes new1.recipes_end new2.recipes_end rooms.recipes (at + length body + 1) rooms.journal a k.recipes_end lacks has)
-  commits_agree new other one two (Enters new1 few right takes has) (File more) = absurd (omega (arith, few, more))
-  commits_agree new other one two (Enters new1 few right takes has) (Field q few2 fault) = absurd (not_both_ways area old c q right fault)
-  commits_agree new other one two (Enters new1 few right takes has) (Length new2 b few2 right2 takes2 lacks) =
+      absurd (no_room names.Recipes new1.recipes_end new2.recipes_end rooms.recipes (at + length body + 1) rooms.journal r k.recipes_end lacks has)
+  commits_agree new other one two (Enters new1 few right takes has) (File more) = absurd (omega (arith, few, more, as_many_files))
+  commits_agree new other one two (Enters new1 few right takes has) (Field q few2 fault) = absurd (no_fault q right fault)
+  commits_agree new other one two (Enters new1 few right takes has) (Length new2 s few2 right2 takes2 lacks) =
       let k = enters_alike new1 new2 takes takes2 in
-      absurd (no_room names.Recipes new2.recipes_end new1.recipes_end rooms.recipes (at + length body + 1) rooms.journal b (sym k.recipes_end) lacks has)
+      absurd (no_room names.Recipes new2.recipes_end new1.recipes_end rooms.recipes (at + length body + 1) rooms.journal s (sym k.recipes_end) lacks has)
   commits_agree new other one two (Enters new1 few right takes has) (Enters new2 few2 right2 takes2 has2) = record { answers = refl; alike = enters_alike new1 new2 takes takes2 }
 
 -- ---- a record
 
-pub one_answer : (rooms : Rooms) (areas : AreaLengths) (old : CloudIndex) (at : ℕ) (body : List ℕ) (new other : CloudIndex) (one two : Answer)
-    → Judged rooms areas old at body new one → Judged rooms areas old at body other two → Agree new other one two
-one_answer rooms areas old at body new other one two = go (body_at body)
+pub one_answer : (rooms : Rooms) (areas : AreaLengths) (a b : CloudIndex) (at : ℕ) (body : List ℕ) (new other : CloudIndex) (one two : Answer)
+    → KeepsAlike a b → Judged rooms areas a at body new one → Judged rooms areas b at body other two → Agree new other one two
+one_answer rooms areas a b at body new other one two k = go (body_at body)
   where
-    go : (read : Result Body BodyErr) → JudgedBy rooms areas old at body new one read → JudgedBy rooms areas old at body other two read → Agree new other one two
-    go (Ok (Put user items)) a b = puts_agree areas.shares at body user rooms old items new other one two a b
-    go (Ok (Commit c)) a b = commits_agree rooms areas.recipes old at body c new other one two a b
-    go (Err err) a b =
-        let same : new ≡ other = a.0 ∙ sym b.0 in
-        record { answers = a.1 ∙ sym b.1; alike = subst (λ (x : CloudIndex). KeepsAlike new x) same (alike_itself new) }
+    go : (read : Result Body BodyErr) → JudgedBy rooms areas a at body new one read → JudgedBy rooms areas b at body other two read → Agree new other one two
+    go (Ok (Put user items)) first second = puts_agree areas.shares at body user rooms a b items new other one two k first second
+    go (Ok (Commit c)) first second = commits_agree rooms areas.recipes a b k at body c new other one two first second
+    go (Err err) first second = record {
+      answers = first.1 ∙ sym second.1;
+      alike = subst (λ (x : CloudIndex). KeepsAlike new x) (sym second.0) (subst (λ (x : CloudIndex). KeepsAlike x b) (sym first.0) k);
+    }
