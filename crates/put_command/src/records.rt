@@ -8,22 +8,22 @@ use cd_base::UserId;
 use record_body::{PutItem, RecordBuf};
 
 // Appends one part.
-fn put_one(record: &mut RecordBuf, item: PutItem)
-    requires { length record.old + 45 ≤ 65535 }
-    ensures value { record.new ≡ record.old ++ item_bytes item }
-    ensures len { length record.new ≡ length record.old + item_len item }
+fn put_one(body: &mut RecordBuf, item: PutItem)
+    requires { length body.old + 45 ≤ 65535 }
+    ensures value { body.new ≡ body.old ++ item_bytes item }
+    ensures len { length body.new ≡ length body.old + item_len item }
 {
-    record.put_item(&item);
+    body.put_item(&item);
 }
 
 /// The body of a Put's record with these parts: 7 bytes, 33 for each part, and 12 more for each that has a place.
-pub(crate) fn write_record(record: &mut RecordBuf, user: UserId, items: &[PutItem])
+pub(crate) fn write_record(body: &mut RecordBuf, user: UserId, items: &[PutItem])
     requires { length items.now ≤ 256 }
-    ensures value { record.new ≡ body_bytes (Put user items.now) }
-    ensures len { length record.new ≡ 7 + items_len items.now }
+    ensures value { body.new ≡ body_bytes (Put user items.now) }
+    ensures len { length body.new ≡ 7 + items_len items.now }
 {
-    record.start_put(user, items.len() as u16);
+    body.start_put(user, items.len() as u16);
     for item in items {
-        put_one(record, *item);
+        put_one(body, *item);
     }
 }
