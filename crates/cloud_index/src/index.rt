@@ -173,10 +173,13 @@ impl CloudIndex {
         ensures taken { TakesItem self.old self.new user item.now }
         ensures rooms { (rooms : Rooms) → HasRooms rooms self.old → HasRooms rooms self.new }
     {
-        self.own(user, item.fp);
         match item.place {
-            Some(place) => self.lay(item.fp, place),
-            None => {}
+            Some(place) => {
+                // the place first: for an owner without one the index would look through all owners
+                self.lay(item.fp, place);
+                self.own(user, item.fp);
+            }
+            None => self.own(user, item.fp),
         }
     }
 
