@@ -4,10 +4,7 @@
 #
 # A put needs two hashes of the file (the key and the package) and one of its four thirds (the shares), a get two of the
 # file: 5.33 times the file's SHA-256 in all.
-set -eu
-top="$(cd "$(dirname "$0")/.." && pwd)"
-work="$(mktemp -d)"
-trap 'rm -rf "$work"' EXIT
+. "$(dirname "$0")/build.sh"
 size=67108864
 head -c "$size" /dev/urandom | od -An -v -tx1 | tr -d ' \n' > "$work/sent"
 {
@@ -16,18 +13,13 @@ head -c "$size" /dev/urandom | od -An -v -tx1 | tr -d ' \n' > "$work/sent"
     printf '\nget 7 66 1 1,2,3\n'
 } > "$work/script"
 
-mkdir -p "$work/crates/sessions_bench/src" "$work/crates/cd_base"
-(cd "$top/crates/cd_base" && tar cf - --exclude=./out --exclude=./must-fail .) | (cd "$work/crates/cd_base" && tar xf -)
-grep '^cd_base:' "$top/crates.txt" > "$work/crates.txt"
-echo 'sessions_bench: cd_base' >> "$work/crates.txt"
-cp "$top/HANDLES" "$work/HANDLES"
-cp "$top/bench/sessions.rt.txt" "$work/crates/sessions_bench/src/main.rt"
-(cd "$work/crates/sessions_bench" && rt run > "$work/hash" 2> "$work/log") || { cat "$work/log"; exit 1; }
+build sessions cd_base
+hashed="$("$program" | cut -d ' ' -f 1)"
 
 cd "$top/crates/cdstore"
 echo 'cdstore 1 4 3' | rt run -- replay d > "$work/log" 2>&1 || { cat "$work/log"; exit 1; }
 program="$top/crates/cdstore/out/cdstore"
-python3 - "$program" "$work/script" "$work/transcript" "$(tail -n 1 "$work/hash" | cut -d ' ' -f 1)" "$size" <<'PY'
+python3 - "$program" "$work/script" "$work/transcript" "$hashed" "$size" <<'PY'
 import resource, subprocess, sys, time
 program, script, transcript, hashed, size = sys.argv[1:]
 begun = time.time()

@@ -1,22 +1,9 @@
 #!/usr/bin/env bash
 # Times the making of a job for a file of 64 MiB, shape 4 3, beside the SHA-256 that it needs: two passes for the secrets and one
 # over the shares, which have four thirds of the file's bytes: 3.33 passes. And the memory that it takes at most.
-set -eu
-top="$(cd "$(dirname "$0")/.." && pwd)"
-work="$(mktemp -d)"
-trap 'rm -rf "$work"' EXIT
-mkdir -p "$work/crates/upload_bench/src"
-for name in cd_base cd_edges gf256 reed_solomon aes256 caont_rs rabin_chunker grammar recipe file_recipe frames message_fields messages user_dedup upload_job; do
-    mkdir "$work/crates/$name"
-    (cd "$top/crates/$name" && tar cf - --exclude=./out --exclude=./must-fail .) | (cd "$work/crates/$name" && tar xf -)
-    grep "^$name:" "$top/crates.txt" >> "$work/crates.txt"
-done
-echo 'upload_bench: cd_base upload_job' >> "$work/crates.txt"
-cp "$top/HANDLES" "$work/HANDLES"
-cp "$top/bench/upload.rt.txt" "$work/crates/upload_bench/src/main.rt"
-cd "$work/crates/upload_bench"
-rt run > "$work/out" 2> "$work/log" || { cat "$work/log"; exit 1; }
-python3 - out/upload_bench <<'PY'
+. "$(dirname "$0")/build.sh"
+build upload cd_base upload_job
+python3 - "$program" <<'PY'
 import resource, subprocess, sys
 told = subprocess.run([sys.argv[1]], capture_output=True, text=True, check=True).stdout
 job, hashed = (float(word) for word in told.split()[:2])

@@ -1,0 +1,41 @@
+# Builds a program of this folder in a folder of its own, which is removed at the end. The scripts here begin with
+#
+#     . "$(dirname "$0")/build.sh"
+#     build NAME CRATE..
+#
+# NAME.rt.txt is the program, and the crates are those that it names; of this repository's the ones below them come too. `build`
+# runs the program once, and leaves it in $program, what that run said in $work/log, and the folder in $work.
+set -eu
+top="$(cd "$(dirname "${BASH_SOURCE[0]}")/.." && pwd)"
+work="$(mktemp -d)"
+trap 'rm -rf "$work"' EXIT
+
+# Copies a crate of this repository, and those below it, unless they are there.
+take() {
+    local line
+    [ ! -d "$work/crates/$1" ] || return 0
+    line="$(grep "^$1:" "$top/crates.txt")" || return 0
+    mkdir -p "$work/crates/$1"
+    (cd "$top/crates/$1" && tar cf - --exclude=./out --exclude=./must-fail .) | (cd "$work/crates/$1" && tar xf -)
+    echo "$line" >> "$work/crates.txt"
+    for below in ${line#*:}; do
+        take "$below"
+    done
+}
+
+build() {
+    local name="bench_$1"
+    mkdir -p "$work/crates/$name/src"
+    cp "$top/HANDLES" "$work/HANDLES"
+    cp "$top/bench/$1.rt.txt" "$work/crates/$name/src/main.rt"
+    shift
+    echo "$name: $*" >> "$work/crates.txt"
+    for crate in "$@"; do
+        take "$crate"
+    done
+    (cd "$work/crates/$name" && rt run) > "$work/log" 2>&1 || {
+        tail -50 "$work/log"
+        exit 1
+    }
+    program="$work/crates/$name/out/$name"
+}
