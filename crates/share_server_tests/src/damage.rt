@@ -1,9 +1,10 @@
 //! Journals with a record that no server wrote.
 
+use crate::answers::is_stored;
 use crate::asking::{Cloud, TWO, WIDE};
 use crate::replies::{COMMITTED, ONE_NEW};
-use crate::requests::{commit_of, fp_of, put_of, recipe_of};
-use cd_base::{Bytes, Fp, NoMemory};
+use crate::requests::{commit_of, fp_of, put_of, recipe_of, share_of};
+use cd_base::{Bytes, Fp, NoMemory, sha256};
 use cd_edges::{Area, Shelf};
 use share_server::OpenErr;
 use std::alloc::Global;
@@ -43,22 +44,19 @@ pub fn filled(alloc: Global) -> Result<Cloud, Fail> {
 }
 
 impl Cloud {
-    // What an opening finds where these bytes lie from the gate on.
-    fn found_with(&mut self, bytes: &[u8]) -> Result<u64, OpenErr> {
-        if self.shelf.write(TWO, Area::Journal, GATE, bytes).is_err() {
-            return Ok(999);
-        }
-        self.reopen(false)
-    }
-
-    // What it finds where an open record of this body lies there.
+    // What an opening finds where an open record of this body lies at the gate.
     fn found(&mut self, alloc: Global, body: &[u8]) -> Result<Result<u64, OpenErr>, NoMemory> {
         let mut bytes = Bytes::new(alloc);
         bytes.extend(&[1, 0, 0])?;
         bytes.extend(&[(body.len() / 256 % 256) as u8, (body.len() % 256) as u8])?;
         bytes.extend(body)?;
         bytes.push(0)?;
-        Ok(self.found_with(bytes.as_slice()))
+        let written = self.shelf.write(TWO, Area::Journal, GATE, bytes.as_slice());
+        Ok(if written.is_ok() {
+            self.reopen(false)
+        } else {
+            Ok(999)
+        })
     }
 
     // What it finds where a Put of these parts lies there.
@@ -120,20 +118,66 @@ fn commit_body(alloc: Global, version: u8, at: u64, len: u32) -> Result<Bytes, N
     Ok(body)
 }
 
-fn has_gates(cloud: &mut Cloud) -> bool {
-    cloud.found_with(&[0]) == Ok(2)
-        && cloud.found_with(&[1]) == damaged(GATE, 1)
-        && cloud.found_with(&[1, 9]) == damaged(165, 9)
-        && cloud.found_with(&[1, 0, 0, 0, 0, 0]) == damaged(165, 0)
-        && cloud.found_with(&[1, 0, 0, 0, 1, 9]) == damaged(165, 0)
+// The byte at a place of the journal.
+fn byte_at(cloud: &mut Cloud, at: u64) -> u8 {
+    let mut bytes = [0; 1];
+    match cloud.shelf.read(TWO, Area::Journal, at, &mut bytes) {
+        Ok(1) => bytes[0],
+        _ => 255,
+    }
+}
+
+// A place of the journal, another byte there, and the place of the damage that is found then.
+type Change = (u64, u8, u64);
+
+// The journal of a Put of a share of 11 bytes and of the Commit of a file of one byte. In order: an open gate at the end; a length that is
+// too long, and one that is too short; a Put of nothing; a flag of 0 where the share has a place, and one of 2; the share's place beyond
+// the area, and the recipe's.
+const CHANGES: [Change; 8] = [
+    (164, 1, 164),
+    (14, 1, 14),
+    (18, 9, 18),
+    (24, 0, 23),
+    (57, 0, 58),
+    (57, 2, 57),
+    (65, 1, 58),
+    (128, 1, 120),
+];
+
+// Whether an opening finds the damage that a change makes. The byte is put back.
+fn is_damage(cloud: &mut Cloud, change: Change) -> bool {
+    let (place, byte, at) = change;
+    let old = byte_at(cloud, place);
+    cloud.shelf.set_byte(TWO, Area::Journal, place, byte);
+    let byte = byte_at(cloud, at);
+    let found = cloud.reopen(false) == damaged(at, byte);
+    cloud.shelf.set_byte(TWO, Area::Journal, place, old);
+    found
+}
+
+// Whether each change of a byte is found, and then a second version of the file that is made the first, and another user who is made the
+// same.
+fn has_changes(alloc: Global, cloud: &mut Cloud) -> Result<bool, NoMemory> {
+    let share = share_of(alloc, 1, 11)?;
+    let recipe = recipe_of(alloc, 5, &[sha256(share.as_slice())])?;
+    let commit = commit_of(alloc, 7, 1, 2, recipe.as_slice())?;
+    let mut well = is_stored(alloc, cloud, 7, share.as_slice())?;
+    for change in CHANGES {
+        well = is_damage(cloud, change) && well;
+    }
+    let again = cloud.answers(&[(commit.as_slice(), COMMITTED)]);
+    let second = is_damage(cloud, (213, 1, 174));
+    let anew = cloud.is_cleared() && is_stored(alloc, cloud, 7, share.as_slice())?;
+    let other = is_stored(alloc, cloud, 8, share.as_slice())?;
+    Ok(well && again && second && anew && other && is_damage(cloud, (173, 7, 176)))
 }
 
 #[test]
-fn gates_and_lengths(rt: HostRuntime) -> Result<(), Fail> {
-    let mut cloud = filled(rt.alloc())?;
-    let well = has_gates(&mut cloud);
+fn bytes_of_a_journal(rt: HostRuntime) -> Result<(), Fail> {
+    let mut cloud = Cloud::make(rt.alloc(), 10_000, WIDE)?;
+    let well = has_changes(rt.alloc(), &mut cloud);
     drop(cloud);
-    assert!(rt; well);
+    assert!(rt; well?);
     Ok(())
 }
 
