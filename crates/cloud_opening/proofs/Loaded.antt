@@ -142,3 +142,18 @@ loaded (Ok count) lists list header rooms journal c1 c2 index contains sound has
   },
 )
 loaded (Err e) lists list header rooms journal c1 c2 index contains sound has disk stays all = tt
+
+pub loaded_one : (result : Result ℕ OpenErr) (list : List Command) (header : Header) (rooms : Rooms) (journal : State) (c1 c2 : Cloud) (index : CloudIndex)
+    → IsSound header.shape header.cloud.0 list → HasList (reads c1.now) header list → ((area : Area) → c1.now area ≡ stable (c1.now area).read) → Stays c1 c2
+    → AllIs header list rooms journal (c2.now Journal) index result
+    → IfOk result (λ (commands : ℕ). (commands ≡ length list) × IsLoaded header list rooms journal c2 index)
+loaded_one (Ok count) list header rooms journal c1 c2 index sound has disk stays all = (
+  all.0,
+  record {
+    sound = sound;
+    has = subst (λ (a : Areas). HasList (reads a) header list) (sym stays.now) has;
+    on_disk = subst (λ (a : Areas). (area : Area) → a area ≡ stable (a area).read) (sym stays.now) disk;
+    all = all.1;
+  },
+)
+loaded_one (Err e) list header rooms journal c1 c2 index sound has disk stays all = tt

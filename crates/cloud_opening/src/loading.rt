@@ -92,6 +92,8 @@ pub(crate) fn load<V: Shelf>(
         → ImagesSince (V.cloud_at shelf.old header.now.cloud.0) (V.cloud_at shelf.new header.now.cloud.0) header.now (Contains lists) }
     ensures opened { IsTrue (V.cloud_at shelf.old header.now.cloud.0).told → (lists : List (List Command)) → ImagesNow (V.cloud_at shelf.old header.now.cloud.0) header.now (Contains lists)
         → IfOk result (λ commands. (list : List Command) × Contains lists list × (commands ≡ length list) × IsLoaded header.now list rooms.now (state_of journal.new) (V.cloud_at shelf.new header.now.cloud.0) index.new) }
+    ensures loaded { IsTrue (V.cloud_at shelf.old header.now.cloud.0).told → (list : List Command) → StandsFor (reads (V.cloud_at shelf.old header.now.cloud.0).now) header.now list
+        → IfOk result (λ commands. (commands ≡ length list) × IsLoaded header.now list rooms.now (state_of journal.new) (V.cloud_at shelf.new header.now.cloud.0) index.new) }
     ensures whole { IsTrue (V.cloud_at shelf.old header.now.cloud.0).told → (list : List Command) → StandsFor (reads (V.cloud_at shelf.old header.now.cloud.0).now) header.now list → IsWithin rooms.now list
         → MayBegin ((V.cloud_at shelf.old header.now.cloud.0).now Area.Journal).read begin → IsOkOrFault result }
     ensures not_begun { IsTrue (V.cloud_at shelf.old header.now.cloud.0).told → NotBegunIs (V.cloud_at shelf.old header.now.cloud.0) (V.cloud_at shelf.new header.now.cloud.0) begin result }

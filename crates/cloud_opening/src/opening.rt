@@ -58,6 +58,8 @@ pub fn reopen<V: Shelf>(state: &mut CloudState, shelf: &mut V, begin: bool) -> R
         → ImagesSince (V.cloud_at shelf.old state.old.header.cloud.0) (V.cloud_at shelf.new state.old.header.cloud.0) state.old.header (Contains lists) }
     ensures opened { IsTrue (V.cloud_at shelf.old state.old.header.cloud.0).told → (lists : List (List Command)) → ImagesNow (V.cloud_at shelf.old state.old.header.cloud.0) state.old.header (Contains lists)
         → IfOk result (λ commands. (list : List Command) × Contains lists list × (commands ≡ length list) × Agrees state.new (V.cloud_at shelf.new state.old.header.cloud.0) list × IsWithin state.old.rooms list) }
+    ensures loaded { IsTrue (V.cloud_at shelf.old state.old.header.cloud.0).told → (list : List Command) → StandsFor (reads (V.cloud_at shelf.old state.old.header.cloud.0).now) state.old.header list
+        → IfOk result (λ commands. (commands ≡ length list) × Agrees state.new (V.cloud_at shelf.new state.old.header.cloud.0) list × IsWithin state.old.rooms list) }
     ensures whole { IsTrue (V.cloud_at shelf.old state.old.header.cloud.0).told → (list : List Command) → StandsFor (reads (V.cloud_at shelf.old state.old.header.cloud.0).now) state.old.header list → IsWithin state.old.rooms list
         → MayBegin ((V.cloud_at shelf.old state.old.header.cloud.0).now Area.Journal).read begin → IsOkOrFault result }
     ensures not_begun { IsTrue (V.cloud_at shelf.old state.old.header.cloud.0).told → NotBegunIs (V.cloud_at shelf.old state.old.header.cloud.0) (V.cloud_at shelf.new state.old.header.cloud.0) begin result }

@@ -84,6 +84,13 @@ impl Framer {
         content_of(self.standing.as_slice())
     }
 
+    /// How many bytes stand in it.
+    pub fn len(&self) -> u32
+        ensures { result ≡ length self.now }
+    {
+        standing_len(self.standing.as_slice())
+    }
+
     /// Drops the whole frame, and keeps the memory. Pushes go on behind it.
     pub fn clear(&mut self)
         requires { IsFrame self.old }
@@ -121,6 +128,14 @@ fn length_at(standing: &[u8]) -> u32
     ensures { result ≡ length_in standing.now }
 {
     BigEndian::read_u32(&standing[..4])
+}
+
+// How many bytes stand there: the four of a length, and at most so many as it says.
+fn standing_len(standing: &[u8]) -> u32
+    requires { IsStanding standing.now }
+    ensures { result ≡ length standing.now }
+{
+    standing.len() as u32
 }
 
 // The content of a whole frame.

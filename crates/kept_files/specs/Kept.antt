@@ -1,12 +1,13 @@
 -- What a cloud keeps of a version of a file.
 use Rattle.std.specs.Prelude.{◌≡◌, ℕ, List, All, Some, option_map}
+use Rattle.std.specs.List.{Contains, flat_map}
 use Rattle.cd_base.specs.declared.ids.Tag.{Tag}
 use Rattle.cd_base.specs.declared.ids.UserId.{UserId}
 use Rattle.cd_base.specs.declared.ids.Version.{Version}
 use Rattle.cd_base.specs.declared.shape.Shape.{Shape}
 use Rattle.caont_rs.specs.Package.{share, tag}
 use Rattle.file_recipe.specs.FileRecipe.{secrets, recipe_bytes}
-use Rattle.user_dedup.specs.Cloud.{fingerprint, user_view, held_string}
+use Rattle.user_dedup.specs.Cloud.{fingerprint, user_view, strings_of, held_string}
 use Rattle.user_dedup.specs.Pages.{entry_at}
 use Rattle.user_dedup.specs.declared.command.Command.{Command}
 
@@ -18,3 +19,8 @@ key_of shape path version = (record { 0 = tag shape path }, version)
 pub record Keeps (shape : Shape) (cloud : ℕ) (list : List Command) (user : UserId) (path : List ℕ) (version : Version) (file : List ℕ) : Type 0 where
   pub entry : option_map (λ entry. entry.recipe) (entry_at (user_view shape list user).files (key_of shape path version)) ≡ Some (recipe_bytes shape cloud path file)
   pub shares : All (λ secret. held_string list (fingerprint (share shape cloud secret)) ≡ Some (share shape cloud secret)) (secrets file)
+
+-- No string of the list has the SHA-256 of a share of the file at this cloud, but for that share itself.
+abbrev pub IsApart : Shape → ℕ → List Command → List ℕ → Type 0
+IsApart shape cloud list file = (string secret : List ℕ) → Contains (flat_map strings_of list) string → Contains (secrets file) secret
+    → fingerprint string ≡ fingerprint (share shape cloud secret) → string ≡ share shape cloud secret

@@ -1,7 +1,7 @@
 //! What clouds keep of a file, they give back.
 #![tactic(auto)]
 
-ghost use Rattle.std.specs.Prelude.{◌≡◌, ◌<◌, ◌≤◌, ℕ, List, All, length, slice_index, Ok};
+ghost use Rattle.std.specs.Prelude.{◌≡◌, ◌<◌, ◌≤◌, ◌++◌, ℕ, List, All, length, slice_index, option_to_list, Ok};
 ghost use Rattle.std.specs.List.{Contains};
 ghost use Rattle.std.specs.List.Sorted.{IsStrictlyIncreasing};
 ghost use Rattle.cd_base.specs.Limits.{IsPath};
@@ -12,7 +12,13 @@ ghost use Rattle.recipe.specs.Spelling.{file_limit};
 ghost use Rattle.reed_solomon.specs.Dispersal.{AreChoice};
 ghost use Rattle.user_dedup.specs.declared.command.Command.{Command};
 ghost use Rattle.restore_job.specs.Restored.{restored_file};
-ghost use Rattle.kept_files.specs.Kept.{Keeps, key_of};
+ghost use Rattle.cd_base.specs.declared.ids.Tag.{Tag};
+ghost use Rattle.caont_rs.specs.Package.{tag};
+ghost use Rattle.file_recipe.specs.FileRecipe.{recipe_bytes};
+ghost use Rattle.messages.specs.declared.request.Request.TheVariants as requests;
+ghost use Rattle.messages.specs.declared.reply.Reply.TheVariants as replies;
+ghost use Rattle.user_dedup.specs.Dedup.{answer_over};
+ghost use Rattle.kept_files.specs.Kept.{Keeps, IsApart, key_of};
 
 /// Where each of k clouds keeps a version of a file, what they give is the file. No premise on SHA-256 is needed.
 pub fn law_of_kept_files()
@@ -20,4 +26,15 @@ pub fn law_of_kept_files()
         → IsPath path → ((i : ℕ) → slice_index file i < 256) → length file ≤ file_limit → AreChoice shape clouds
         → ((cloud : ℕ) → Contains clouds cloud → Keeps shape cloud (lists cloud) user path version file)
         → restored_file shape lists user (key_of shape path version) clouds ≡ Ok file }
+{}
+
+/// What a cloud keeps it goes on keeping, whichever commands follow; and what a Commit of a version enters it keeps, where no other string
+/// that was put there has the SHA-256 of one of its shares.
+pub fn law_of_keeping()
+    ensures stays { (shape : Shape) (cloud : ℕ) (list more : List Command) (user : UserId) (path : List ℕ) (version : Version) (file : List ℕ)
+        → Keeps shape cloud list user path version file → Keeps shape cloud (list ++ more) user path version file }
+    ensures committed { (shape : Shape) (cloud : ℕ) (list : List Command) (user : UserId) (path : List ℕ) (version : Version) (file : List ℕ)
+        → IsPath path → length file ≤ file_limit → IsApart shape cloud list file
+        → (answer_over shape cloud list (requests.Commit user (record { 0 = tag shape path }) version (recipe_bytes shape cloud path file))).reply ≡ replies.Committed
+        → Keeps shape cloud (list ++ option_to_list (answer_over shape cloud list (requests.Commit user (record { 0 = tag shape path }) version (recipe_bytes shape cloud path file))).adds) user path version file }
 {}

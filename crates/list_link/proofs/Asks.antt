@@ -176,8 +176,9 @@ module _ (old new : ListLink) (cloud : ℕ) (content reply : List ℕ) (t : Take
       let outcome = refused_by old.shape cloud (list_of old cloud) (asked_at old.shape content) t.served at t.answer e in
       let adds : t.served.adds ≡ None = ap (λ (o : Outcome). o.adds) outcome in
       let reply_is : t.served.reply ≡ replies.Malformed at = ap (λ (o : Outcome). o.reply) outcome in
-      let stays : list_of new cloud ≡ list_of old cloud = grown ∙ ap (λ (o : Option Command). list_of old cloud ++ option_to_list o) adds ∙ append-nil (list_of old cloud) in (
-        λ p is. record { list = is.list ∙ sym stays; pending = is.pending; sound = subst (λ (s : Shape). IsSound s cloud p.list) (sym t.shape) is.sound },
+      let stays : list_of new cloud ≡ list_of old cloud = grown ∙ ap (λ (o : Option Command). list_of old cloud ++ option_to_list o) adds ∙ append-nil (list_of old cloud) in
+      λ p is. (
+        record { list = is.list ∙ sym stays; pending = is.pending; sound = subst (λ (s : Shape). IsSound s cloud p.list) (sym t.shape) is.sound },
         record { fits = place_fits old.shape content at known few e; spelled = t.written ∙ ap reply_bytes reply_is },
       )
 

@@ -30,6 +30,7 @@ telling = record {
   full = λ link cloud list command. None;
   losses = λ link. link.losses;
   lossless = λ link. false;
+  passes = λ old exchange new. Unit {0};
 }
 
 -- The content was answered by the list of the cloud, which grew by the command that the answer adds; nothing else changed.

@@ -1,6 +1,6 @@
 -- What the calls beside an ask do to the peer that a cloud stands as.
 use Rattle.std.proofs.Common.{◌≡◌, ℕ, ◌+◌, ◌-◌, ◌<◌, ◌≤◌, ◌^◌, Bool, true, false, List, [], ◌∷◌, ◌++◌, min, Option, Some, None, Result, Ok, Err, refl, sym, ap, ◌∙◌, subst, arith, inl, inr, ◌⊎◌}
-use Rattle.std.specs.Prelude.{IsTrue, IsSomeAnd, OnOk, OnErr}
+use Rattle.std.specs.Prelude.{IsTrue, IsSomeAnd, IfOk, OnOk, OnErr, length}
 use Rattle.std.specs.List.{Contains}
 use Rattle.cd_base.specs.declared.rooms.Rooms.{Rooms}
 use Rattle.cd_base.specs.declared.shape.Shape.{Shape}
@@ -8,7 +8,7 @@ use Rattle.cd_edges.specs.declared.area.Area.{Area}
 use Rattle.cd_edges.specs.declared.area.Area.TheVariants.{Journal}
 use Rattle.cd_edges.specs.declared.stream.Failed.{Failed}
 use Rattle.cd_edges.specs.Causes.{Rose}
-use Rattle.cd_edges.specs.Disk.{Store, MayLeave, Cloud, Image, IsImage}
+use Rattle.cd_edges.specs.Disk.{Store, MayLeave, Cloud, Image, IsImage, reads}
 use Rattle.cd_edges.specs.Shelf.{stable, IsCall, HasFailed, KeepsCounts, IsFresh, Refreshes, Arms}
 use Rattle.cd_edges.specs.Shelf as shelves
 use Rattle.cd_edges.proofs.Moments.{moved, stayed}
@@ -21,14 +21,14 @@ use Rattle.user_dedup.specs.declared.command.Command.{Command}
 use Rattle.user_dedup.specs.Dedup.{IsSound, Begun}
 use Rattle.user_dedup.specs.Exec.{Peer, MaySettleAs, Settles, Stays as PeerStays, CountsOn, StandsSound}
 use Rattle.commit_journal.specs.Openings.{OnFault}
-use Rattle.cloud_opening.specs.Replied.{NotBegunIs}
+use Rattle.cloud_opening.specs.Replied.{IsOkOrFault, MayBegin, NotBegunIs}
 use Rattle.cloud_state.specs.State.{IsOpen}
 use Rattle.cloud_store.specs.Space.{IsWithin}
 use Rattle.cloud_store.specs.Standing.{ImagesNow, ImagesSince}
 use Rattle.cloud_store.specs.Store.{StandsFor}
 use Rattle.command_log.proofs.Both.{as_read}
 use Rattle.share_server.specs.declared.server.Server.{Server}
-use Rattle.share_server.specs.Serving.{IsServing, ReopensAs}
+use Rattle.share_server.specs.Serving.{IsServing, ReopensAs, settled_with}
 use Rattle.local_link.specs.declared.servers.Servers.{Servers}
 use Rattle.local_link.specs.declared.link.LocalLink.{LocalLink}
 use Rattle.local_link.specs.Members.{IsServerOf}
@@ -102,6 +102,10 @@ opened_sound begin shape cloud p q (Err (errors.Damaged at byte)) r sound = absu
 opened_sound begin shape cloud p q (Err (errors.RoomsTooSmall room limit at)) r sound = absurd r
 opened_sound begin shape cloud p q (Err errors.NoMemory) r sound = absurd r
 
+stands_sound : (image : Image) (header : Header) (list : List Command) → StandsFor image header list → IsSound header.shape header.cloud.0 list
+unfolding StandsFor
+stands_sound image header list s = s.0
+
 module _ (old_servers new_servers : Servers) (cloud : ℕ) (before after : Server) (put : Puts old_servers new_servers cloud before after) (lt : cloud < old_servers.shape.n)
     (old new : ℕ → Cloud) (faults_before faults_now : ℕ) (begin : Bool) (result : Result ℕ OpenErr) (x : Reopens before after old new faults_before faults_now begin result) where
   of : IsServerOf old_servers.shape cloud before
@@ -126,6 +130,36 @@ module _ (old_servers new_servers : Servers) (cloud : ℕ) (before after : Serve
         },
         e.2,
       )
+
+  pub whole_here : IsTrue (old cloud).told → (list : List Command) → StandsFor (reads (old cloud).now) (header_of old_servers.shape cloud) list
+      → IsSomeAnd (server_at old_servers cloud) (λ (s : Server). IsWithin s.state.rooms list → MayBegin ((old cloud).now Journal).read begin → IsOkOrFault result)
+  whole_here told list stands =
+      let P : ℕ → Type 0 = λ n. IsTrue (old n).told → StandsFor (reads (old n).now) before.state.header list → IsWithin before.state.rooms list → MayBegin ((old n).now Journal).read begin → IsOkOrFault result in
+      said_of (server_at old_servers cloud) before (λ (s : Server). IsWithin s.state.rooms list → MayBegin ((old cloud).now Journal).read begin → IsOkOrFault result) put.here
+      (subst P of.number_is (λ t st. x.whole t list st) told (subst (λ (h : Header). StandsFor (reads (old cloud).now) h list) (sym (header_same old_servers.shape cloud before of)) stands))
+
+  pub loaded_here : IsTrue (old cloud).told → (list : List Command) → StandsFor (reads (old cloud).now) (header_of old_servers.shape cloud) list
+      → IfOk result (λ (commands : ℕ). (commands ≡ length list) × IsPeer new_servers.shape cloud (new cloud) (server_at new_servers cloud) (settled_with list (new cloud)))
+  loaded_here told list stands =
+      let P : ℕ → Type 0 = λ n. IsTrue (old n).told → StandsFor (reads (old n).now) before.state.header list → IfOk result (λ (commands : ℕ). (commands ≡ length list) × IsServing after (new n) (settled_with list (new n))) in
+      by_result result (subst P of.number_is (λ t s. x.loaded t list s) told (subst (λ (h : Header). StandsFor (reads (old cloud).now) h list) (sym (header_same old_servers.shape cloud before of)) stands))
+    where
+      sound_one : (l : List Command) → MaySettleAs (settled_with list (new cloud)) l → IsSound old_servers.shape cloud l
+      sound_one l (inl same) = subst (IsSound old_servers.shape cloud) (sym same) (stands_sound (reads (old cloud).now) (header_of old_servers.shape cloud) list stands)
+      sound_one l (inr none) = absurd none
+
+      by_result : (r : Result ℕ OpenErr) → IfOk r (λ (commands : ℕ). (commands ≡ length list) × IsServing after (new cloud) (settled_with list (new cloud)))
+          → IfOk r (λ (commands : ℕ). (commands ≡ length list) × IsPeer new_servers.shape cloud (new cloud) (server_at new_servers cloud) (settled_with list (new cloud)))
+      by_result (Ok commands) e = (
+        e.0,
+        record {
+          faults = refl;
+          armings = refl;
+          serving = λ t. said_of (server_at new_servers cloud) after (λ (s : Server). IsServing s (new cloud) (settled_with list (new cloud))) (here_now old_servers new_servers cloud before after put lt) e.1;
+          sound = λ t. subst (λ (s : Shape). StandsSound s cloud (settled_with list (new cloud))) (sym put.shape) sound_one;
+        },
+      )
+      by_result (Err e) y = tt
 
   opened_at : server_at new_servers cloud ≡ Some after
   opened_at = here_now old_servers new_servers cloud before after put lt

@@ -3,3 +3,4 @@ pub mod Standing
 pub mod Malformed
 pub mod Executing
 pub mod Calling
+pub mod Passing

@@ -1,9 +1,10 @@
 -- What a call does to one of the servers.
-use Rattle.std.specs.Prelude.{◌≡◌, ◌≢◌, ℕ, Bool, true, IsTrue, List, Some, Result, Ok, Err, OnOk, OnErr, slice_set}
+use Rattle.std.specs.Prelude.{◌≡◌, ◌≢◌, ℕ, Bool, true, IsTrue, List, length, Some, Result, Ok, Err, IfOk, OnOk, OnErr, slice_set}
 use Rattle.std.specs.List.{Contains}
 use Rattle.cd_base.specs.declared.rooms.Rooms.{Rooms}
 use Rattle.cd_base.specs.declared.shape.Shape.{Shape}
-use Rattle.cd_edges.specs.Disk.{Cloud}
+use Rattle.cd_edges.specs.declared.area.Area.TheVariants.{Journal}
+use Rattle.cd_edges.specs.Disk.{Cloud, reads}
 use Rattle.cd_edges.specs.Shelf.{IsCall, HasFailed, KeepsCounts}
 use Rattle.commit_journal.specs.declared.errors.OpenErr.{OpenErr}
 use Rattle.commit_journal.specs.declared.errors.OpenErr.TheVariants as errors
@@ -16,12 +17,14 @@ use Rattle.messages.specs.Replies.{IsReply, reply_bytes}
 use Rattle.user_dedup.specs.declared.command.Command.{Command}
 use Rattle.user_dedup.specs.Requests.{asked_at}
 use Rattle.user_dedup.specs.Exec.{Peer, Exec, items_of}
-use Rattle.commit_journal.specs.Openings.{OnFault}
-use Rattle.cloud_opening.specs.Replied.{NotBegunIs}
+use Rattle.commit_journal.specs.Openings.{OnFault, HasBegun}
+use Rattle.cloud_opening.specs.Replied.{IsOkOrFault, MayBegin, NotBegunIs}
+use Rattle.cloud_store.specs.Space.{IsWithin}
 use Rattle.cloud_state.specs.State.{IsOpen, IsSameServer}
 use Rattle.cloud_store.specs.Standing.{ImagesNow, ImagesSince, MayBecome}
+use Rattle.cloud_store.specs.Store.{StandsFor}
 use Rattle.share_server.specs.declared.server.Server.{Server}
-use Rattle.share_server.specs.Serving.{number_of, IsServing, server_serves, ReopensAs}
+use Rattle.share_server.specs.Serving.{number_of, IsServing, server_serves, settled_with, ReopensAs}
 use Rattle.local_link.specs.declared.servers.Servers.{Servers}
 use Rattle.local_link.specs.Tells.{server_at}
 
@@ -83,6 +86,11 @@ pub record Reopens (before after : Server) (old new : ℕ → Cloud) (faults_bef
   pub not_begun : IsTrue (old (number_of before)).told → NotBegunIs (old (number_of before)) (new (number_of before)) begin result
   pub peer : (p : Peer) → IsTrue (old (number_of before)).told → IsServing before (old (number_of before)) p
       → (q : Peer) × IsServing after (new (number_of before)) q × ReopensAs begin p q result
+  pub begins : IsTrue begin → HasBegun result
+  pub whole : IsTrue (old (number_of before)).told → (list : List Command) → StandsFor (reads (old (number_of before)).now) before.state.header list → IsWithin before.state.rooms list
+      → MayBegin ((old (number_of before)).now Journal).read begin → IsOkOrFault result
+  pub loaded : IsTrue (old (number_of before)).told → (list : List Command) → StandsFor (reads (old (number_of before)).now) before.state.header list
+      → IfOk result (λ commands. (commands ≡ length list) × IsServing after (new (number_of before)) (settled_with list (new (number_of before))))
   pub images : IsTrue (old (number_of before)).told → (lists : List (List Command))
       → ImagesNow (old (number_of before)) before.state.header (Contains lists)
       → ImagesSince (old (number_of before)) (new (number_of before)) before.state.header (Contains lists)

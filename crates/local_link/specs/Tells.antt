@@ -1,16 +1,23 @@
 -- What the link tells of its clouds.
-use Rattle.std.specs.Prelude.{◌≡◌, ◌≢◌, ℕ, Bool, true, false, IsTrue, List, Option, Some, None, IsSomeAnd, nat_lt, slice_get}
+use Rattle.std.specs.Prelude.{◌≡◌, ◌≢◌, ◌⊎◌, ℕ, ◌<◌, Bool, true, false, IsTrue, List, Option, Some, None, Ok, IsSomeAnd, nat_lt, slice_get}
+use Rattle.cd_base.specs.Reading.{AreBytes}
 use Rattle.cd_base.specs.declared.shape.Shape.{Shape}
 use Rattle.cd_edges.specs.Disk.{Cloud}
 use Rattle.user_dedup.specs.declared.command.Command.{Command}
-use Rattle.user_dedup.specs.Dedup.{FullRoom}
-use Rattle.user_dedup.specs.Exec.{Peer, StandsSound}
-use Rattle.user_dedup.specs.Link.{LinkTelling}
+use Rattle.messages.specs.declared.request.Request.{Request}
+use Rattle.messages.specs.declared.reply.Reply.{Reply}
+use Rattle.user_dedup.specs.Dedup.{Outcome, FullRoom}
+use Rattle.user_dedup.specs.Requests.{asked_at}
+use Rattle.user_dedup.specs.Exec.{Peer, Stays, CountsOn, Exec, StandsSound, served}
+use Rattle.user_dedup.specs.Link.{LinkTelling, Exchange}
+use Rattle.cloud_store.specs.Standing.{ImagesSince, MayBecome}
+use Rattle.local_link.specs.Calls.{header_of}
 use Rattle.cloud_store.specs.Space.{full_for}
 use Rattle.share_server.specs.declared.server.Server.{Server}
 use Rattle.share_server.specs.Serving.{IsServing}
 use Rattle.local_link.specs.declared.fate.Fate.{Fate}
 use Rattle.local_link.specs.declared.fate.Fate.TheVariants as fates
+use Rattle.local_link.specs.declared.fate.Fate.TheVariants.{Deliver}
 use Rattle.local_link.specs.declared.servers.Servers.{Servers}
 use Rattle.local_link.specs.declared.link.LocalLink.{LocalLink}
 
@@ -37,6 +44,36 @@ is_delivered fates.Deliver = true
 is_delivered fates.LoseRequest = false
 is_delivered fates.LoseReply = false
 
+-- The other clouds, their servers, the store's shape, and of which clouds the shelf tells are as they were.
+pub record LeavesRest {V : Type 0} (clouds : V → ℕ → Cloud) (cloud : ℕ) (old new : LocalLink V) : Type 0 where
+  pub clouds_stay : (other : ℕ) → other ≢ cloud → clouds new.shelf.now other ≡ clouds old.shelf.now other
+  pub servers_stay : (other : ℕ) → other ≢ cloud → server_at new.servers other ≡ server_at old.servers other
+  pub shape_stays : new.servers.shape ≡ old.servers.shape
+  pub told_stays : (number : ℕ) → (clouds new.shelf.now number).told ≡ (clouds old.shelf.now number).told
+
+-- what the cloud of a link serves
+abbrev pub serving_at : {V : Type 0} → LocalLink V → ℕ → List Command → Request → Outcome
+serving_at link cloud = served link.servers.shape cloud (full_by (server_at link.servers cloud))
+
+-- how the cloud of a link stands
+abbrev pub StandsAt : {V : Type 0} → (V → ℕ → Cloud) → LocalLink V → ℕ → Peer → Type 0
+StandsAt clouds link cloud p = IsPeer link.servers.shape cloud (clouds link.shelf.now cloud) (server_at link.servers cloud) p
+
+-- Only its cloud was touched, and nothing but the fate beside it; the shelf is the same one; the cloud went on from each peer that it stood
+-- for; and whenever a crash came it left a list that the cloud might have settled as, or one with the command that the request adds.
+pub record PassesOn {V : Type 0} (clouds : V → ℕ → Cloud) (old : LocalLink V) (e : Exchange) (new : LocalLink V) : Type 0 where
+  pub reached : e.cloud < old.servers.shape.n
+  pub bytes : AreBytes e.content
+  pub rest : LeavesRest clouds e.cloud old new
+  pub full : full_by (server_at new.servers e.cloud) ≡ full_by (server_at old.servers e.cloud)
+  pub fate : new.fate ≡ Deliver
+  pub same_reference : new.shelf.ghost_name ≡ old.shelf.ghost_name
+  pub goes : (p : Peer) (r : Request) → asked_at old.servers.shape e.content ≡ Ok r → StandsAt clouds old e.cloud p
+      → (q : Peer) × StandsAt clouds new e.cloud q × ((Stays p q × CountsOn p q)
+      ⊎ ((answer : Reply) × Exec old.servers.shape (clouds old.shelf.now e.cloud).told (serving_at old e.cloud) p r answer q))
+  pub images : (p : Peer) (r : Request) → IsTrue (clouds old.shelf.now e.cloud).told → StandsAt clouds old e.cloud p → asked_at old.servers.shape e.content ≡ Ok r
+      → ImagesSince (clouds old.shelf.now e.cloud) (clouds new.shelf.now e.cloud) (header_of old.servers.shape e.cloud) (MayBecome (serving_at old e.cloud) p r)
+
 -- It reaches the clouds that have a server, and tells of those of which the shelf does.
 abbrev pub telling : {V : Type 0} → (V → ℕ → Cloud) → LinkTelling (LocalLink V)
 telling {V} clouds = record {
@@ -47,11 +84,5 @@ telling {V} clouds = record {
   full = λ link cloud. full_by (server_at link.servers cloud);
   losses = λ link. link.losses;
   lossless = λ link. is_delivered link.fate;
+  passes = PassesOn clouds;
 }
-
--- The other clouds, their servers, the store's shape, and of which clouds the shelf tells are as they were.
-pub record LeavesRest {V : Type 0} (clouds : V → ℕ → Cloud) (cloud : ℕ) (old new : LocalLink V) : Type 0 where
-  pub clouds_stay : (other : ℕ) → other ≢ cloud → clouds new.shelf.now other ≡ clouds old.shelf.now other
-  pub servers_stay : (other : ℕ) → other ≢ cloud → server_at new.servers other ≡ server_at old.servers other
-  pub shape_stays : new.servers.shape ≡ old.servers.shape
-  pub told_stays : (number : ℕ) → (clouds new.shelf.now number).told ≡ (clouds old.shelf.now number).told

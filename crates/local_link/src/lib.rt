@@ -6,4 +6,5 @@ mod link;
 mod servers;
 
 pub use fate::Fate;
-pub use link::LocalLink;
+pub use link::{LocalLink, law_of_readings};
+pub use servers::Servers;

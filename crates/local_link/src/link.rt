@@ -1,5 +1,14 @@
 //! The link to all clouds of a shelf.
 
+ghost use Rattle.std.specs.Prelude.{◌≡◌, ◌<◌, ℕ, List, IsTrue};
+ghost use Rattle.std.specs.List.{Contains};
+ghost use Rattle.user_dedup.specs.Exec.{Peer, MaySettleAs};
+ghost use Rattle.cloud_store.specs.Standing.{ImagesSince};
+ghost use Rattle.local_link.specs.declared.link.LocalLink.{LocalLink};
+ghost use Rattle.local_link.specs.Calls.{header_of};
+ghost use Rattle.user_dedup.specs.Link.{Exchange, Passes, ReadsFrom};
+ghost use Rattle.local_link.specs.Tells.{telling, StandsAt};
+
 use crate::Fate;
 use crate::servers::Servers;
 use cd_base::{CloudNo, NoMemory, Rooms, Shape};
@@ -33,17 +42,21 @@ impl<'a, V: Shelf> LocalLink<'a, V> {
     ghost use Rattle.user_dedup.specs.Requests.{asked_at};
     ghost use Rattle.user_dedup.specs.Exec.{Peer, MaySettleAs, Stays, CountsOn};
     ghost use Rattle.user_dedup.specs.Link.{Asks, AsksNothing, LeavesOthers, Does, serves};
-    ghost use Rattle.commit_journal.specs.Openings.{OnFault};
-    ghost use Rattle.cloud_opening.specs.Replied.{NotBegunIs};
+    ghost use Rattle.commit_journal.specs.Openings.{OnFault, HasBegun};
+    ghost use Rattle.cd_edges.specs.declared.area.Area.TheVariants.{Journal};
+    ghost use Rattle.cloud_opening.specs.Replied.{IsOkOrFault, MayBegin, NotBegunIs};
     ghost use Rattle.cloud_state.specs.State.{AreRooms, IsOpen};
     ghost use Rattle.cloud_store.specs.Space.{IsWithin};
     ghost use Rattle.cloud_store.specs.Standing.{ImagesNow, ImagesSince, MayBecome};
     ghost use Rattle.share_server.specs.declared.server.Server.{Server};
-    ghost use Rattle.share_server.specs.Serving.{ReopensAs};
+    ghost use Rattle.cd_base.specs.declared.rooms.Rooms.{Rooms};
+    ghost use Rattle.share_server.specs.Serving.{ReopensAs, settled_with};
+    ghost use Rattle.cloud_store.specs.Store.{StandsFor};
+    ghost use Rattle.cd_edges.specs.Disk.{reads};
     ghost use Rattle.local_link.specs.declared.fate.Fate.TheVariants.{Deliver, LoseRequest};
     ghost use Rattle.local_link.specs.Tells.{server_at, is_delivered, telling, LeavesRest};
     ghost use Rattle.local_link.specs.Steps.{IsClosedIn};
-    ghost use Rattle.local_link.specs.Calls.{MayServe, Replaces, Armed, WasBefore, no_commands};
+    ghost use Rattle.local_link.specs.Calls.{header_of, MayServe, Replaces, Armed, WasBefore, no_commands};
 
     /// A link to the clouds of this shelf, over a closed server for each, all in these rooms. The next ask is delivered, and none was lost.
     /// The only error is want of memory.
@@ -72,6 +85,35 @@ impl<'a, V: Shelf> LocalLink<'a, V> {
             losses: 0,
             alloc,
         })
+    }
+
+    /// A link to the clouds of this shelf, over these servers. The next ask is delivered, and none was lost. Who wants to know of the
+    /// shelf what came of it makes the servers first, and at the end takes it back by `release`.
+    pub fn of(alloc: Global, shelf: &'a mut V, servers: Servers) -> LocalLink<'a, V>
+        ensures servers { result.servers ≡ servers }
+        ensures delivers { (result.fate ≡ Deliver) × (result.losses ≡ 0) }
+        ensures shelf { result.shelf.now ≡ shelf.old }
+        ensures same_reference { result.shelf.ghost_name ≡ shelf.entry.ghost_name }
+        ensures stands { (rooms : Rooms) → ((cloud : ℕ) (server : Server) → server_at servers cloud ≡ Some server → IsClosedIn rooms server)
+            → (cloud : ℕ) (p : Peer) → cloud < servers.shape.n → MayServe servers.shape cloud rooms (V.cloud_at shelf.old cloud) p
+            → (telling V.cloud_at).stands result cloud p }
+    {
+        LocalLink {
+            shelf,
+            servers,
+            fate: Fate::Deliver,
+            losses: 0,
+            alloc,
+        }
+    }
+
+    /// Gives the shelf back.
+    pub fn release(self) -> &'a mut V
+        ensures shelf { result.now ≡ self.entry.shelf.now }
+        ensures same_reference { result.ghost_name ≡ self.entry.shelf.ghost_name }
+    {
+        let LocalLink { shelf, .. } = self;
+        shelf
     }
 
     /// Whether there is a cloud of this number.
@@ -135,6 +177,18 @@ impl<'a, V: Shelf> LocalLink<'a, V> {
 
         ensures peer { (p : Peer) → IsTrue ((telling V.cloud_at).told self.old cloud.0) → (telling V.cloud_at).stands self.old cloud.0 p
             → (q : Peer) × (telling V.cloud_at).stands self.new cloud.0 q × ReopensAs begin p q result }
+
+        // Where what the cloud reads stands for a list within its server's rooms, and the journal is begun or is to be begun, the answer is Ok or
+        // Fault.
+        ensures whole { IsTrue ((telling V.cloud_at).told self.old cloud.0) → (list : List Command)
+            → StandsFor (reads (V.cloud_at self.old.shelf.now cloud.0).now) (header_of ((telling V.cloud_at).shape self.old) cloud.0) list
+            → IsSomeAnd (server_at self.old.servers cloud.0) (λ server. IsWithin server.state.rooms list → MayBegin ((V.cloud_at self.old.shelf.now cloud.0).now Journal).read begin → IsOkOrFault result) }
+        ensures begins { IsTrue begin → HasBegun result }
+
+        // Where what the cloud reads stands for a list, the cloud stands for that list.
+        ensures loaded { IsTrue ((telling V.cloud_at).told self.old cloud.0) → (list : List Command)
+            → StandsFor (reads (V.cloud_at self.old.shelf.now cloud.0).now) (header_of ((telling V.cloud_at).shape self.old) cloud.0) list
+            → IfOk result (λ commands. (commands ≡ length list) × (telling V.cloud_at).stands self.new cloud.0 (settled_with list (V.cloud_at self.new.shelf.now cloud.0))) }
         ensures untold { (p : Peer) → (telling V.cloud_at).told self.old cloud.0 ≡ false → (telling V.cloud_at).stands self.old cloud.0 p
             → (q : Peer) × (telling V.cloud_at).stands self.new cloud.0 q × Stays p q × CountsOn p q }
 
@@ -261,6 +315,20 @@ impl<'a, V: Shelf> LocalLink<'a, V> {
         }
     }
 }
+
+/// What asks leave that add nothing, one after another.
+pub fn law_of_readings<V: Shelf>()
+    // each image since then stands for a list that the cloud might have settled as
+    ensures images { (named : List ℕ) (asks : List Exchange) (old new : LocalLink V) (cloud : ℕ) (p : Peer) → Passes (telling V.cloud_at) (ReadsFrom named) old asks new
+        → cloud < old.servers.shape.n → IsTrue (V.cloud_at old.shelf.now cloud).told → StandsAt V.cloud_at old cloud p
+        → ImagesSince (V.cloud_at old.shelf.now cloud) (V.cloud_at new.shelf.now cloud) (header_of old.servers.shape cloud) (MaySettleAs p) }
+    // the clouds that aren't named are as they were
+    ensures others { (named : List ℕ) (asks : List Exchange) (old new : LocalLink V) (cloud : ℕ) → Passes (telling V.cloud_at) (ReadsFrom named) old asks new
+        → ¬ Contains named cloud → V.cloud_at new.shelf.now cloud ≡ V.cloud_at old.shelf.now cloud }
+    // and it is the same shelf
+    ensures same_reference { (named : List ℕ) (asks : List Exchange) (old new : LocalLink V) → Passes (telling V.cloud_at) (ReadsFrom named) old asks new
+        → new.shelf.ghost_name ≡ old.shelf.ghost_name }
+{}
 
 impl<'a, V: Shelf> Link for LocalLink<'a, V> {
     ghost use Rattle.local_link.specs.Tells.{telling};

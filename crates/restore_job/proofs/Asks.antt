@@ -24,7 +24,7 @@ use Rattle.restore_job.specs.Restored.{Unrestored, recipe_in, missing}
 use Rattle.restore_job.specs.Steps.{RecipeTold, RecipesTold, RecipeCaused, RecipesCaused, ReadyWhere, recipes_in}
 use Rattle.restore_job.specs.declared.error.RestoreErr.{RestoreErr}
 use Rattle.restore_job.specs.declared.error.RestoreErr.TheVariants as errors
-use Rattle.restore_job.proofs.Leading.{settled_same, reads_on, fails_on, counts_on, settle_along, no_pending, leads_on, leads_to, leads_none, only_on, asked_on, asked_none}
+use Rattle.restore_job.proofs.Leading.{settled_same, reads_on, fails_on, counts_on, settle_along, no_pending, leads_on, leads_to, leads_none, only_on, asked_on, asked_none, asked_at}
 use Rattle.restore_job.proofs.Causing.{caused_on, ready_on, ready_push}
 
 pub may_reads : (a b c : Peer) → MayRead a b → Reads b c → Reads a c
@@ -72,7 +72,7 @@ pub record Fetched {L : Type 0} (t : LinkTelling L) (shape : Shape) (old now : L
   pub fits : All (Fits shape) recipes
   pub told : (user : UserId) (tag : Tag) (version : Version) → IsRequest content (requests.GetRecipe user tag version)
       → Leads t done old now (λ a b. ReadyWhere t old shape user (tag, version) done recipes b) (λ a b. AreRead done a b × (recipes_in shape user (tag, version) b done ≡ map Some recipes))
-  pub asked : Asked t old now false
+  pub asked : Asked t clouds old now false
 
 pub fetched_none : {L : Type 0} (t : LinkTelling L) (shape : Shape) (link : L) (content clouds : List ℕ) → Fetched t shape link link content clouds clouds []
 fetched_none t shape link content clouds = record {
@@ -81,7 +81,7 @@ fetched_none t shape link content clouds = record {
   count = refl;
   fits = All-nil (Fits shape);
   told = λ user tag version is. leads_none t [] link (λ a b. Unit {0}) (λ a b. AreRead [] a b × (recipes_in shape user (tag, version) b [] ≡ [])) (λ a. tt) (λ a. (λ x has. absurd (contains_nothing x has), refl));
-  asked = asked_none t link;
+  asked = asked_none t clouds link;
 }
 
 in_front : (done rest : List ℕ) (cloud : ℕ) (x : ℕ) → Contains done x → Contains (done ++ cloud ∷ rest) x
@@ -95,7 +95,7 @@ right_here done rest cloud x has =
     ]
 
 pub fetched_more : {L : Type 0} (t : LinkTelling L) (shape : Shape) (old mid new : L) (content clouds : List ℕ) (cloud : CloudNo) (rest : List ℕ) (recipes : List Recipe) (recipe : Recipe)
-    → Fetched t shape old mid content clouds (cloud.0 ∷ rest) recipes → Asked t mid new false → Fits shape recipe
+    → Fetched t shape old mid content clouds (cloud.0 ∷ rest) recipes → Asked t (cloud.0 ∷ []) mid new false → Fits shape recipe
     → ((user : UserId) (tag : Tag) (version : Version) → IsRequest content (requests.GetRecipe user tag version)
     → Leads t (cloud.0 ∷ []) mid new (RecipeCaused t mid shape user (tag, version) cloud.0 (Ok recipe)) (λ a b. RecipeTold shape user (tag, version) cloud (Ok recipe) (a cloud.0) (b cloud.0)))
     → Fetched t shape old new content clouds rest (recipes ++ recipe ∷ [])
@@ -117,7 +117,7 @@ fetched_more t shape old mid new content clouds cloud rest recipes recipe f aske
       (λ a b c one two r s. ready_push t old shape user (tag, version) f.done recipes cloud.0 recipe c f.count (ready_on t old old shape user (tag, version) f.done recipes b c refl two.read r)
       (λ told. s (subst (λ (g : ℕ → Bool). IsTrue (g cloud.0)) (sym f.asked.told) told)))
       (λ a b c one two r s. both user (tag, version) a b c one two r s);
-  asked = asked_on t old mid new false f.asked asked;
+  asked = asked_on t clouds old mid new false f.asked (asked_at t cloud.0 clouds mid new false (subst (λ (l : List ℕ). Contains l cloud.0) (sym f.split) (right_here f.done rest cloud.0 cloud.0 (contains_here cloud.0 []))) asked);
 }
   where
     both : (user : UserId) (key : Tag × Version) (a b c : ℕ → Peer) → OnlyRead f.done a b → OnlyRead (cloud.0 ∷ []) b c

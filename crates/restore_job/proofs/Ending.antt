@@ -136,7 +136,7 @@ left_from shape firsts all place = batches_opened shape firsts all (batch_count 
 pub record Restoring {L : Type 0} (t : LinkTelling L) (shape : Shape) (user : UserId) (clouds : List ℕ) (firsts : List Item) (recipes : List Recipe) (old now : L) (place : ℕ) (out out' : List ℕ) : Type 0 where
   pub told : (tag : Tag) (version : Version) → Leads t clouds old now (λ a b. Unit {0}) (λ a b. Ready shape user (tag, version) clouds recipes a
       → Opening (items_opened shape firsts (givens a clouds recipes)) (left_from shape firsts (givens a clouds recipes) place) out out')
-  pub asked : Asked t old now false
+  pub asked : Asked t clouds old now false
 
 pub restoring_none : {L : Type 0} (t : LinkTelling L) (shape : Shape) (user : UserId) (clouds : List ℕ) (firsts : List Item) (recipes : List Recipe) (link : L) (out : List ℕ) → Restoring t shape user clouds firsts recipes link link 0 out out
 restoring_none t shape user clouds firsts recipes link out = record {
@@ -144,7 +144,7 @@ restoring_none t shape user clouds firsts recipes link out = record {
       let due = items_opened shape firsts (givens a clouds recipes) in
       let e : length firsts ≡ length firsts - 0 = omega arith in
       opening_is due due (left_from shape firsts (givens a clouds recipes) 0) out out (λ i. batches_opened shape firsts (givens a clouds recipes) (batch_count (e i)) 0 (e i)) (opening_none due out));
-  asked = asked_none t link;
+  asked = asked_none t clouds link;
 }
 
 left_next : (shape : Shape) (firsts : List Item) (all : List Given) (place count : ℕ) → place < length firsts → count ≡ min 256 (length firsts - place)
@@ -164,7 +164,7 @@ BatchEnds t shape user clouds firsts recipes mid new place count res out out' =
     (tag : Tag) (version : Version) → Leads t clouds mid new (BatchCaused t mid shape user (tag, version) clouds recipes res) (λ a b. Ready shape user (tag, version) clouds recipes a → Ends (batch_opened shape firsts (givens a clouds recipes) place count) clouds res out out' a b)
 
 pub restoring_more : {L : Type 0} (t : LinkTelling L) (shape : Shape) (user : UserId) (clouds : List ℕ) (firsts : List Item) (recipes : List Recipe) (old mid new : L) (place count : ℕ) (out between out' : List ℕ)
-    → Restoring t shape user clouds firsts recipes old mid place out between → place < length firsts → count ≡ min 256 (length firsts - place) → Asked t mid new false
+    → Restoring t shape user clouds firsts recipes old mid place out between → place < length firsts → count ≡ min 256 (length firsts - place) → Asked t clouds mid new false
     → BatchEnds t shape user clouds firsts recipes mid new place count (Ok tt) between out' → Restoring t shape user clouds firsts recipes old new (place + count) out out'
 restoring_more t shape user clouds firsts recipes old mid new place count out between out' f lt is asked ends = record {
   told = λ tag version. leads_on t clouds clouds clouds old mid new _ _ _ _ _ _ (f.told tag version) f.asked.told (ends tag version) (λ x has. has) (λ x has. has)
@@ -176,7 +176,7 @@ restoring_more t shape user clouds firsts recipes old mid new place count out be
       let batch = subst (λ (l : List Given). Ends (batch_opened shape firsts l place count) clouds (Ok tt) between out' b d) same (s (ready_stays shape user (tag, version) clouds recipes a b ready one.read)) in
       opening_more due (batch_opened shape firsts all place count) (left_from shape firsts all (place + count)) out between out'
       (opening_is due (left_from shape firsts all place) _ out between (left_next shape firsts all place count lt is) (r ready)) batch);
-  asked = asked_on t old mid new false f.asked asked;
+  asked = asked_on t clouds old mid new false f.asked asked;
 }
 
 pub restoring_stops : {L : Type 0} (t : LinkTelling L) (shape : Shape) (user : UserId) (clouds : List ℕ) (firsts : List Item) (recipes : List Recipe) (old mid new : L) (place count : ℕ) (out between out' : List ℕ) (e : RestoreErr)

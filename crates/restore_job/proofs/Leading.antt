@@ -6,8 +6,8 @@ use Rattle.std.proofs.lemmas.Bool.{cases_eq, ne_eqb}
 use Rattle.cd_edges.specs.Causes.{Rose}
 use Rattle.user_dedup.specs.declared.command.Command.{Command}
 use Rattle.user_dedup.specs.Exec.{Peer, MaySettleAs, Settles, Stays, CountsOn}
-use Rattle.user_dedup.specs.Link.{LinkTelling, LeavesOthers}
-use Rattle.user_dedup.proofs.Owned.{contains_here}
+use Rattle.user_dedup.specs.Link.{LinkTelling, LeavesOthers, Exchange, Passes, IsReading, ReadsFrom}
+use Rattle.user_dedup.proofs.Owned.{contains_here, contains_cases, contains_nothing}
 use Rattle.restore_job.specs.Asking.{PeersOf, TellsAll, Reads, MayRead, ReadFails, OnlyRead, Leads, Asked}
 
 -- ---- one cloud
@@ -89,9 +89,9 @@ pub leads_on : {L : Type 0} (t : LinkTelling L) (xs ys zs : List ℕ) (old mid n
     → ((a b c : ℕ → Peer) → OnlyRead xs a b → OnlyRead ys b c → A a b → B b c → C a c)
     → ((a b c : ℕ → Peer) → OnlyRead xs a b → OnlyRead ys b c → R a b → S b c → T a c)
     → Leads t zs old new C T
-leads_on {L} t xs ys zs old mid new A B C R S T first same second xs_in ys_in always both before peers =
-    let x = first before peers in
-    let y = second x.0 x.1 in (
+leads_on {L} t xs ys zs old mid new A B C R S T first same second xs_in ys_in always both these all before peers =
+    let x = first these (λ c has. all c (xs_in c has)) before peers in
+    let y = second these (λ c has. all c (ys_in c has)) x.0 x.1 in (
       y.0,
       y.1,
       only_on xs ys zs before x.0 y.0 x.2 y.2 xs_in ys_in,
@@ -103,8 +103,8 @@ leads_on {L} t xs ys zs old mid new A B C R S T first same second xs_in ys_in al
 pub leads_to : {L : Type 0} (t : LinkTelling L) (xs zs : List ℕ) (old new : L) (A C R T : (ℕ → Peer) → (ℕ → Peer) → Type 0)
     → Leads t xs old new A R → ((x : ℕ) → Contains xs x → Contains zs x) → ((a b : ℕ → Peer) → OnlyRead xs a b → A a b → (TellsAll t old xs → R a b) → C a b)
     → ((a b : ℕ → Peer) → OnlyRead xs a b → R a b → T a b) → Leads t zs old new C T
-leads_to t xs zs old new A C R T first xs_in always then before peers =
-    let x = first before peers in (
+leads_to t xs zs old new A C R T first xs_in always then these all before peers =
+    let x = first these (λ c has. all c (xs_in c has)) before peers in (
       x.0,
       x.1,
       record { read = x.2.read; others = λ c no. x.2.others c (λ has. no (xs_in c has)) },
@@ -113,7 +113,7 @@ leads_to t xs zs old new A C R T first xs_in always then before peers =
     )
 
 pub leads_none : {L : Type 0} (t : LinkTelling L) (zs : List ℕ) (link : L) (C T : (ℕ → Peer) → (ℕ → Peer) → Type 0) → ((a : ℕ → Peer) → C a a) → ((a : ℕ → Peer) → T a a) → Leads t zs link link C T
-leads_none t zs link C T always same before peers = (before, peers, none_read zs before, always before, λ told. same before)
+leads_none t zs link C T always same these all before peers = (before, peers, none_read zs before, always before, λ told. same before)
 
 -- ---- one ask
 
@@ -132,10 +132,10 @@ put_other peers cloud q x ne = ap (λ (b : Bool). cond b q (peers x)) (ne_eqb x 
 
 pub one_step : {L : Type 0} (t : LinkTelling L) (cloud : ℕ) (old new : L) (B P : Peer → Peer → Type 0) → IsTrue (t.reaches old cloud)
     → LeavesOthers t cloud old new → Moves t cloud old new B P → Leads t (cloud ∷ []) old new (λ a b. B (a cloud) (b cloud)) (λ a b. P (a cloud) (b cloud))
-one_step {L} t cloud old new B P reached others moves before peers =
-    let m = moves (before cloud) (peers cloud reached) in
+one_step {L} t cloud old new B P reached others moves these all before peers =
+    let m = moves (before cloud) (peers cloud (all cloud (contains_here cloud []))) in
     let after : ℕ → Peer = put before cloud m.0 in
-    let stands : PeersOf t new after = λ x reach. by_place m.0 m.1 x (subst (λ (f : ℕ → Bool). IsTrue (f x)) others.reaches reach) (cases_eq x cloud) in
+    let stands : PeersOf t new these after = λ x one. by_place m.0 m.1 x one (cases_eq x cloud) in
     let read : (x : ℕ) → MayRead (before x) (after x) = λ x. may_place m.0 m.2 x (cases_eq x cloud) in (
       after,
       stands,
@@ -144,7 +144,7 @@ one_step {L} t cloud old new B P reached others moves before peers =
       λ told. subst (λ (q : Peer). P (before cloud) q) (sym (put_here before cloud m.0)) (m.4 (told cloud (contains_here cloud []))),
     )
   where
-    by_place : (q : Peer) → t.stands new cloud q → (x : ℕ) → IsTrue (t.reaches old x) → (x ≡ cloud) ⊎ (x ≡ cloud → ⊥) → t.stands new x (put before cloud q x)
+    by_place : (q : Peer) → t.stands new cloud q → (x : ℕ) → IsTrue (these x) → (x ≡ cloud) ⊎ (x ≡ cloud → ⊥) → t.stands new x (put before cloud q x)
     by_place q stands x reach (inl e) = subst (λ (y : ℕ). t.stands new y (put before cloud q y)) (sym e) (subst (t.stands new cloud) (sym (put_here before cloud q)) stands)
     by_place q stands x reach (inr ne) = subst (t.stands new x) (sym (put_other before cloud q x ne)) (others.stands x (before x) ne (peers x reach))
 
@@ -154,8 +154,19 @@ one_step {L} t cloud old new B P reached others moves before peers =
 
 -- ---- what the link tells beside its clouds
 
-pub asked_none : {L : Type 0} (t : LinkTelling L) (link : L) → Asked t link link false
-asked_none t link = record {
+-- so many asks, and then so many more
+passes_on : {L : Type 0} (t : LinkTelling L) (clouds : List ℕ) (old mid new : L) (es fs : List Exchange) → Passes t (ReadsFrom clouds) old es mid → Passes t (ReadsFrom clouds) mid fs new → Passes t (ReadsFrom clouds) old (es ++ fs) new
+passes_on t clouds old mid new [] fs one two = subst (λ x. Passes t (ReadsFrom clouds) x fs new) one two
+passes_on t clouds old mid new (e ∷ es) fs one two = (one.0, (one.1.0, one.1.1, passes_on t clouds one.1.0 mid new es fs one.1.2 two))
+
+passes_in : {L : Type 0} (t : LinkTelling L) (few clouds : List ℕ) (old new : L) (es : List Exchange) → ((x : ℕ) → Contains few x → Contains clouds x) → Passes t (ReadsFrom few) old es new → Passes t (ReadsFrom clouds) old es new
+passes_in t few clouds old new [] all one = one
+passes_in t few clouds old new (e ∷ es) all one = ((all e.cloud one.0.0, one.0.1), (one.1.0, one.1.1, passes_in t few clouds one.1.0 new es all one.1.2))
+
+pub asked_none : {L : Type 0} (t : LinkTelling L) (clouds : List ℕ) (link : L) → Asked t clouds link link false
+asked_none t clouds link = record {
+  asks = [];
+  passed = refl;
   reaches = refl;
   shape = refl;
   told = refl;
@@ -165,8 +176,10 @@ asked_none t link = record {
   lossless = λ h. (refl, h);
 }
 
-pub asked_on : {L : Type 0} (t : LinkTelling L) (old mid new : L) (loss : Bool) → Asked t old mid false → Asked t mid new loss → Asked t old new loss
-asked_on t old mid new loss one two = record {
+pub asked_on : {L : Type 0} (t : LinkTelling L) (clouds : List ℕ) (old mid new : L) (loss : Bool) → Asked t clouds old mid false → Asked t clouds mid new loss → Asked t clouds old new loss
+asked_on t clouds old mid new loss one two = record {
+  asks = one.asks ++ two.asks;
+  passed = passes_on t clouds old mid new one.asks two.asks one.passed two.passed;
   reaches = two.reaches ∙ one.reaches;
   shape = two.shape ∙ one.shape;
   told = two.told ∙ one.told;
@@ -176,6 +189,43 @@ asked_on t old mid new loss one two = record {
   lossless = λ h. two.lossless (one.lossless h).1;
 }
 
+-- asks of some of the clouds
+pub asked_in : {L : Type 0} (t : LinkTelling L) (few clouds : List ℕ) (old new : L) (loss : Bool) → ((x : ℕ) → Contains few x → Contains clouds x) → Asked t few old new loss → Asked t clouds old new loss
+asked_in t few clouds old new loss all one = record {
+  asks = one.asks;
+  passed = passes_in t few clouds old new one.asks all one.passed;
+  reaches = one.reaches;
+  shape = one.shape;
+  told = one.told;
+  full = one.full;
+  later = one.later;
+  lost = one.lost;
+  lossless = one.lossless;
+}
+
+pub asked_at : {L : Type 0} (t : LinkTelling L) (cloud : ℕ) (clouds : List ℕ) (old new : L) (loss : Bool) → Contains clouds cloud → Asked t (cloud ∷ []) old new loss → Asked t clouds old new loss
+asked_at t cloud clouds old new loss here one =
+    asked_in t (cloud ∷ []) clouds old new loss (λ x has. elim (contains_cases cloud [] x has) [
+      | inl same ↦ subst (Contains clouds) same here
+      | inr none ↦ absurd (contains_nothing x none)
+    ]) one
+
 -- where an ask wasn't lost, it counts as one that wasn't
-pub asked_as : {L : Type 0} (t : LinkTelling L) (old new : L) (a b : Bool) → a ≡ b → Asked t old new a → Asked t old new b
-asked_as t old new a b e asked = subst (λ (x : Bool). Asked t old new x) e asked
+pub asked_as : {L : Type 0} (t : LinkTelling L) (clouds : List ℕ) (old new : L) (a b : Bool) → a ≡ b → Asked t clouds old new a → Asked t clouds old new b
+asked_as t clouds old new a b e asked = subst (λ (x : Bool). Asked t clouds old new x) e asked
+
+-- one ask that adds nothing
+pub asked_once : {L : Type 0} (t : LinkTelling L) (old new : L) (e : Exchange) (loss : Bool)
+    → IsReading e.content → t.passes old e new → LeavesOthers t e.cloud old new → t.losses old ≤ t.losses new
+    → (loss ≡ true → Rose (t.losses old) (t.losses new)) → (IsTrue (t.lossless old) → (loss ≡ false) × IsTrue (t.lossless new)) → Asked t (e.cloud ∷ []) old new loss
+asked_once t old new e loss reading passes others later lost lossless = record {
+  asks = e ∷ [];
+  passed = ((contains_here e.cloud [], reading), (new, passes, refl));
+  reaches = others.reaches;
+  shape = others.shape;
+  told = others.told;
+  full = others.full;
+  later = later;
+  lost = lost;
+  lossless = lossless;
+}

@@ -8,3 +8,4 @@ pub mod Asks
 pub mod Sharing
 pub mod Batches
 pub mod Ending
+pub mod Speaking

@@ -3,13 +3,13 @@ use Rattle.std.specs.Prelude.{◌≡◌, ◌≢◌, ℕ, ◌≤◌, ◌⊎◌, B
 use Rattle.std.specs.List.{Contains}
 use Rattle.cd_edges.specs.Causes.{Rose}
 use Rattle.user_dedup.specs.Exec.{Peer, Settles, Stays, CountsOn}
-use Rattle.user_dedup.specs.Link.{LinkTelling}
+use Rattle.user_dedup.specs.Link.{LinkTelling, Exchange, Passes, ReadsFrom}
 use Rattle.restore_job.specs.declared.error.RestoreErr.{RestoreErr}
 use Rattle.restore_job.specs.declared.error.RestoreErr.TheVariants as errors
 
--- each cloud that the link reaches stands for its peer
-abbrev pub PeersOf : {L : Type 0} → LinkTelling L → L → (ℕ → Peer) → Type 0
-PeersOf t link peers = (cloud : ℕ) → IsTrue (t.reaches link cloud) → t.stands link cloud (peers cloud)
+-- each of these clouds stands for its peer
+abbrev pub PeersOf : {L : Type 0} → LinkTelling L → L → (ℕ → Bool) → (ℕ → Peer) → Type 0
+PeersOf t link these peers = (cloud : ℕ) → IsTrue (these cloud) → t.stands link cloud (peers cloud)
 
 abbrev pub TellsAll : {L : Type 0} → LinkTelling L → L → List ℕ → Type 0
 TellsAll t link clouds = (cloud : ℕ) → Contains clouds cloud → IsTrue (t.told link cloud)
@@ -31,11 +31,12 @@ pub record OnlyRead (clouds : List ℕ) (old new : ℕ → Peer) : Type 0 where
   pub read : (cloud : ℕ) → MayRead (old cloud) (new cloud)
   pub others : (cloud : ℕ) → (Contains clouds cloud → ⊥) → new cloud ≡ old cloud
 
--- From all peers that the clouds stood for they went on to others that they stand for now; only these clouds were asked; the peers
+-- From all peers that some clouds stood for, these ones among them, they went on to others that they stand for now; only these clouds were asked; the peers
 -- before and after are always so related, and further so where all of these clouds are told.
 abbrev pub Leads : {L : Type 0} → LinkTelling L → List ℕ → L → L → ((ℕ → Peer) → (ℕ → Peer) → Type 0) → ((ℕ → Peer) → (ℕ → Peer) → Type 0) → Type 0
 Leads t clouds old new Always Related =
-    (before : ℕ → Peer) → PeersOf t old before → (after : ℕ → Peer) × PeersOf t new after × OnlyRead clouds before after × Always before after
+    (these : ℕ → Bool) → ((cloud : ℕ) → Contains clouds cloud → IsTrue (these cloud)) → (before : ℕ → Peer) → PeersOf t old these before
+    → (after : ℕ → Peer) × PeersOf t new these after × OnlyRead clouds before after × Always before after
     × (TellsAll t old clouds → Related before after)
 
 -- these were read
@@ -71,9 +72,11 @@ abbrev pub is_lost : {A : Type 0} → Result A RestoreErr → Bool
 is_lost (Ok x) = false
 is_lost (Err e) = is_loss e
 
--- A link after some asks: what it tells beside its clouds stays. An ask is lost only where the count of losses rose, and never where
+-- A link after some asks of these clouds, each of which adds nothing: what it tells beside its clouds stays. An ask is lost only where the count of losses rose, and never where
 -- the link tells that it loses nothing, which it then tells still.
-pub record Asked {L : Type 0} (t : LinkTelling L) (old new : L) (loss : Bool) : Type 0 where
+pub record Asked {L : Type 0} (t : LinkTelling L) (clouds : List ℕ) (old new : L) (loss : Bool) : Type 0 where
+  pub asks : List Exchange
+  pub passed : Passes t (ReadsFrom clouds) old asks new
   pub reaches : t.reaches new ≡ t.reaches old
   pub shape : t.shape new ≡ t.shape old
   pub told : t.told new ≡ t.told old

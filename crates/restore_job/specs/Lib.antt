@@ -4,3 +4,4 @@ pub mod Refusals
 pub mod Brought
 pub mod Reading
 pub mod Steps
+pub mod Exchanges

@@ -9,6 +9,7 @@ ghost use Rattle.reed_solomon.specs.Dispersal.{AreChoice};
 ghost use Rattle.restore_job.specs.Asking.{Asked, Leads, is_lost};
 ghost use Rattle.restore_job.specs.Reading.{Ends};
 ghost use Rattle.restore_job.specs.Brought.{AreSecrets, Extends};
+ghost use Rattle.restore_job.specs.Exchanges.{BatchRun, Exchange, HasSpoken, ItemsRun, Unlost};
 ghost use Rattle.restore_job.specs.Refusals.{Names};
 ghost use Rattle.restore_job.specs.Restored.{batch_opened, items_opened};
 ghost use Rattle.restore_job.specs.Steps.{AreItemsAt, BatchCaused, Grows, Ready, givens};
@@ -62,7 +63,7 @@ fn restore_batch<L: Link>(
     requires items { All (λ recipe. AreItemsAt recipe.items) recipes.now }
     requires few { length firsts.now ≤ 32768 }
     requires room { count ≤ length rooms.old }
-    ensures asked { Asked L.tells link.old link.new (is_lost result) }
+    ensures asked { Asked L.tells (numbers_of clouds.now) link.old link.new (is_lost result) }
     ensures told { (tag : Tag) (version : Version) → Leads L.tells (numbers_of clouds.now) link.old link.new (BatchCaused L.tells link.old shape user (tag, version) (numbers_of clouds.now) recipes.now result) (λ before after.
         Ready shape user (tag, version) (numbers_of clouds.now) recipes.now before
         → Ends (batch_opened shape firsts.now (givens before (numbers_of clouds.now) recipes.now) place count) (numbers_of clouds.now) result out.old out.new before after) }
@@ -70,6 +71,7 @@ fn restore_batch<L: Link>(
     ensures brought { OnOk result (Extends shape (numbers_of clouds.now) firsts.now recipes.now place (place + count) out.old out.new) }
     ensures grows { Grows out.old out.new }
     ensures rooms { length rooms.new ≡ length rooms.old }
+    ensures said { Unlost result ((log : List Exchange) × HasSpoken L.talk link.old link.new log × BatchRun shape user clouds.now points.now firsts.now recipes.now place count log out.old out.new result) }
 {
     rooms.clear();
     match fetch_batch(
@@ -105,13 +107,14 @@ pub fn restore_items<L: Link>(
     requires lens { AreItemsAt firsts.now }
     requires items { All (λ recipe. AreItemsAt recipe.items) recipes.now }
     requires few { length firsts.now ≤ 32768 }
-    ensures asked { Asked L.tells link.old link.new (is_lost result) }
+    ensures asked { Asked L.tells (numbers_of clouds.now) link.old link.new (is_lost result) }
     ensures told { (tag : Tag) (version : Version) → Leads L.tells (numbers_of clouds.now) link.old link.new (BatchCaused L.tells link.old shape user (tag, version) (numbers_of clouds.now) recipes.now result) (λ before after.
         Ready shape user (tag, version) (numbers_of clouds.now) recipes.now before
         → Ends (items_opened shape firsts.now (givens before (numbers_of clouds.now) recipes.now)) (numbers_of clouds.now) result out.old out.new before after) }
     ensures named { IfErr result (Names (Contains (numbers_of clouds.now))) }
     ensures brought { OnOk result ((file : List ℕ) × (out.new ≡ out.old ++ file) × AreSecrets shape (numbers_of clouds.now) firsts.now recipes.now (length firsts.now) file) }
     ensures grows { Grows out.old out.new }
+    ensures said { Unlost result ((log : List Exchange) × HasSpoken L.talk link.old link.new log × ItemsRun shape user clouds.now points.now firsts.now recipes.now 0 log out.old out.new result) }
 {
     let mut rooms = match Rooms::make(alloc, BATCH) {
         Ok(rooms) => rooms,

@@ -8,6 +8,7 @@ ghost use Rattle.recipe.specs.declared.recipe.Recipe.{Recipe};
 ghost use Rattle.reed_solomon.specs.Dispersal.{AreChoice};
 ghost use Rattle.restore_job.specs.Asking.{is_lost};
 ghost use Rattle.restore_job.specs.Brought.{Extends, HasShares};
+ghost use Rattle.restore_job.specs.Exchanges.{OpensBatch};
 ghost use Rattle.restore_job.specs.Refusals.{Names};
 ghost use Rattle.restore_job.specs.Restored.{Given, item_of, of_secret, secrets_opened, string_at};
 ghost use Rattle.restore_job.specs.Steps.{AreItemsAt, Grows, OpensTo, room_of};
@@ -67,6 +68,7 @@ pub fn open_batch(
     ensures opens { (all : List Given) → points.now ≡ map (λ given. given.cloud) all
         → ((j : ℕ) → j < count → room_of rooms.now j ≡ flat_map (λ given. string_at given (place + j)) all)
         → OpensTo (secrets_opened shape firsts.now all place count) result out.old out.new }
+    ensures opened { OpensBatch shape points.now firsts.now rooms.now place count out.old out.new result }
     ensures brought { (recipes : List Recipe) → ((j : ℕ) → j < count → HasShares recipes (place + j) [] (room_of rooms.now j))
         → OnOk result (Extends shape points.now firsts.now recipes place (place + count) out.old out.new) }
     ensures grows { Grows out.old out.new }

@@ -1,6 +1,6 @@
 //! Restoring a version of a file.
 
-ghost use Rattle.std.specs.Prelude.{◌≡◌, ◌+◌, ◌≤◌, ◌<◌, ℕ, length, take, All, IsTrue, IfOk, IfErr, OnOk, OnErr};
+ghost use Rattle.std.specs.Prelude.{◌≡◌, ◌+◌, ◌≤◌, ◌<◌, ℕ, List, length, take, All, IsTrue, IfOk, IfErr, OnOk, OnErr};
 ghost use Rattle.std.specs.List.{Contains};
 ghost use Rattle.cd_base.specs.Limits.{IsPath};
 ghost use Rattle.cd_base.specs.Numbers.{numbers_of};
@@ -14,6 +14,7 @@ ghost use Rattle.reed_solomon.specs.Dispersal.{AreChoice};
 ghost use Rattle.restore_job.specs.Asking.{Asked, Leads, is_lost};
 ghost use Rattle.restore_job.specs.Reading.{Ends, Restores};
 ghost use Rattle.restore_job.specs.Brought.{Agree, Appends, Brought};
+ghost use Rattle.restore_job.specs.Exchanges.{AgreedRun, Exchange, HasSpoken, RestoreRun, RestoreSaid, Unlost};
 ghost use Rattle.restore_job.specs.Refusals.{Causes, Names};
 ghost use Rattle.restore_job.specs.Restored.{agreed};
 ghost use Rattle.restore_job.specs.Steps.{BatchCaused, Grows, Ready, givens};
@@ -71,13 +72,14 @@ fn restore_agreed<L: Link>(
     requires choice { AreChoice shape (numbers_of clouds.now) }
     requires pairs { length clouds.now ≡ length recipes.now }
     requires fits { All (Fits shape) recipes.now }
-    ensures asked { Asked L.tells link.old link.new (is_lost result) }
+    ensures asked { Asked L.tells (numbers_of clouds.now) link.old link.new (is_lost result) }
     ensures told { (tag : Tag) (version : Version) → Leads L.tells (numbers_of clouds.now) link.old link.new (BatchCaused L.tells link.old shape user (tag, version) (numbers_of clouds.now) recipes.now result) (λ before after.
         Ready shape user (tag, version) (numbers_of clouds.now) recipes.now before
         → Ends (agreed shape (givens before (numbers_of clouds.now) recipes.now)) (numbers_of clouds.now) result out.old out.new before after) }
     ensures named { IfErr result (Names (Contains (numbers_of clouds.now))) }
     ensures brought { OnOk result (Agree recipes.now × Appends shape (numbers_of clouds.now) recipes.now out.old out.new) }
     ensures grows { Grows out.old out.new }
+    ensures said { Unlost result ((log : List Exchange) × HasSpoken L.talk link.old link.new log × AgreedRun shape user clouds.now recipes.now log out.old out.new result) }
 {
     let Some((first, recipe, others, rest)) = next_pair(clouds, recipes) else {
         return Ok(());
@@ -114,13 +116,15 @@ fn restore_into<L: Link>(
     requires reached { (cloud : ℕ) → Contains (numbers_of clouds.now) cloud → IsTrue (L.tells.reaches link.old cloud) }
     requires choice { AreChoice shape (numbers_of clouds.now) }
     requires path { IsPath path.now }
-    ensures asked { Asked L.tells link.old link.new (is_lost result) }
+    ensures asked { Asked L.tells (numbers_of clouds.now) link.old link.new (is_lost result) }
     ensures restored { Leads L.tells (numbers_of clouds.now) link.old link.new
         (Causes L.tells link.old shape user (record { 0 = tag_at shape path.now }, version) result)
         (Restores shape user (record { 0 = tag_at shape path.now }, version) (numbers_of clouds.now) result out.old out.new) }
     ensures named { IfErr result (Names (Contains (numbers_of clouds.now))) }
     ensures brought { OnOk result (Brought shape (numbers_of clouds.now) out.old out.new) }
     ensures grows { Grows out.old out.new }
+    ensures said { Unlost result ((log : List Exchange) × HasSpoken L.talk link.old link.new log
+        × RestoreRun shape user (record { 0 = tag_at shape path.now }) version clouds.now log out.old out.new result) }
 {
     let request = match recipe_request(alloc, shape, user, path, version) {
         Ok(request) => request,
@@ -180,7 +184,7 @@ pub fn restore<L: Link>(
         (Restores shape user (record { 0 = tag_at shape path.now }, version) clouds.now result out.old out.new) }
 
     // An ask is lost only where the link's count of losses rose, and never where it tells that it loses nothing.
-    ensures asked { Asked L.tells link.old link.new (is_lost result) }
+    ensures asked { Asked L.tells clouds.now link.old link.new (is_lost result) }
 
     // A refusal names no other clouds.
     ensures named { IfErr result (Names (Contains clouds.now)) }
@@ -188,6 +192,10 @@ pub fn restore<L: Link>(
     // The appended bytes are what strings open to that have the fingerprints which recipes name that agree, told or not.
     ensures brought { OnOk result (Brought shape clouds.now out.old out.new) }
     ensures kept { OnErr result (out.new ≡ out.old) }
+
+    // Over a link that tells its replies: what was asked and what came, in order, and the result by it. Nothing is said where an ask was
+    // lost or memory ran out.
+    ensures said { Unlost result (RestoreSaid L.talk link.old link.new shape user (record { 0 = tag_at shape path.now }) version clouds.now out.old out.new result) }
 {
     clouds.rises();
     let before = out.len();

@@ -1,5 +1,5 @@
 -- What a link with prepared replies tells: nothing.
-use Rattle.std.specs.Prelude.{ℕ, true, false, None}
+use Rattle.std.specs.Prelude.{true, false, None}
 use Rattle.user_dedup.specs.Link.{LinkTelling, TellsSound}
 use Rattle.restore_job_tests.specs.declared.script.Script.{Script}
 
@@ -13,6 +13,7 @@ telling = record {
   full = λ link cloud list command. None;
   losses = λ link. link.losses;
   lossless = λ link. false;
+  passes = λ old exchange new. Unit {0};
 }
 
 pub tells_sound : (link : Script) → TellsSound telling link

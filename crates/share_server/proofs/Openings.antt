@@ -153,3 +153,10 @@ error_opens p q (errors.Damaged at byte) opens = opens
 error_opens p q (errors.OtherStore found asked) opens = opens
 error_opens p q (errors.RoomsTooSmall room limit at) opens = opens
 error_opens p q errors.NoMemory opens = opens
+
+-- an opening over areas that read as a list's
+pub loads : (old new : CloudState) (after : Cloud) (list : List Command) (r : Result ℕ OpenErr) → IsSameServer old new
+    → IfOk r (λ (commands : ℕ). (commands ≡ length list) × Agrees new after list × IsWithin old.rooms list)
+    → IfOk r (λ (commands : ℕ). (commands ≡ length list) × ServesAs new after (settled_peer list after))
+loads old new after list (Ok commands) same e = (e.0, open_serves new after list e.1 (subst (λ (rooms : Rooms). IsWithin rooms list) (sym same.rooms) e.2))
+loads old new after list (Err e) same x = tt

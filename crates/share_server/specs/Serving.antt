@@ -1,5 +1,5 @@
 -- A server over its cloud, as a peer that users ask.
-use Rattle.std.specs.Prelude.{◌≡◌, ◌≢◌, ℕ, Bool, IsTrue, true, false, List, [], length, Result, Ok, Err}
+use Rattle.std.specs.Prelude.{◌≡◌, ◌≢◌, ℕ, Bool, IsTrue, true, false, List, [], length, None, Result, Ok, Err}
 use Rattle.cd_base.specs.declared.ids.CloudNo.{CloudNo}
 use Rattle.cd_base.specs.declared.rooms.Rooms.{Rooms}
 use Rattle.cd_base.specs.declared.shape.Shape.{Shape}
@@ -46,6 +46,10 @@ IsServing server cloud p = Serves cloud server.state.header server.state.rooms (
 -- It is closed, and as it was but for that.
 abbrev pub IsClosedFrom : CloudState → CloudState → Type 0
 IsClosedFrom old new = new ≡ record old { log = record old.log { journal = record old.log.journal { stage = Shut } } }
+
+-- the peer of a list with nothing pending, and with the cloud's counts
+abbrev pub settled_with : List Command → Cloud → Peer
+settled_with list cloud = record { list = list; pending = None; faults = cloud.faults; armings = cloud.armings }
 
 -- the reply of a list, and the command that a request adds to it
 abbrev pub server_serves : Server → List Command → Request → Outcome

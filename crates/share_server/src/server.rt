@@ -46,7 +46,7 @@ impl Server {
     ghost use Rattle.cloud_opening.specs.Synced.{BeginsSynced};
     ghost use Rattle.cloud_opening.specs.Exact.{Opens};
     ghost use Rattle.cloud_opening.specs.Replied.{IsOkOrFault, HasMemory, MayBegin, NotBegunIs, OtherStoreIs};
-    ghost use Rattle.share_server.specs.Serving.{IsOf, number_of, IsServing, server_serves, ReopensAs, Executes, Answered, Refused, IsClosedFrom};
+    ghost use Rattle.share_server.specs.Serving.{IsOf, number_of, IsServing, server_serves, settled_with, ReopensAs, Executes, Answered, Refused, IsClosedFrom};
 
     /// A closed server of this cloud of a store of this shape, in these rooms. It takes all its memory here; the only error is want of memory.
     pub fn make(
@@ -108,6 +108,9 @@ impl Server {
             → ImagesNow (V.cloud_at shelf.old (number_of self.old)) self.old.state.header (Contains lists)
             → IfOk result (λ commands. (list : List Command) × Contains lists list × (commands ≡ length list)
             × Agrees self.new.state (V.cloud_at shelf.new (number_of self.old)) list × IsWithin self.old.state.rooms list) }
+        ensures loaded { IsTrue (V.cloud_at shelf.old (number_of self.old)).told → (list : List Command)
+            → StandsFor (reads (V.cloud_at shelf.old (number_of self.old)).now) self.old.state.header list
+            → IfOk result (λ commands. (commands ≡ length list) × IsServing self.new (V.cloud_at shelf.new (number_of self.old)) (settled_with list (V.cloud_at shelf.new (number_of self.old)))) }
         ensures whole { IsTrue (V.cloud_at shelf.old (number_of self.old)).told → (list : List Command)
             → StandsFor (reads (V.cloud_at shelf.old (number_of self.old)).now) self.old.state.header list → IsWithin self.old.state.rooms list
             → MayBegin ((V.cloud_at shelf.old (number_of self.old)).now Journal).read begin → IsOkOrFault result }

@@ -30,8 +30,9 @@ use Rattle.user_dedup.specs.Cloud.{fingerprint, user_of, view_after, user_view, 
 use Rattle.user_dedup.specs.Owning.{is_among, flag, first_lacking, FindsLacking, new_strings}
 use Rattle.user_dedup.specs.Pages.{key_of, entry_at, page_of}
 use Rattle.user_dedup.specs.Requests.{fps_read, fps_of, HasRecipe}
-use Rattle.user_dedup.specs.Dedup.{put_outcome, commit_outcome, recipe_reply, shares_reply, answer_over, IsSound, Begun, Added}
-use Rattle.user_dedup.specs.Exec.{Suits}
+use Rattle.messages.specs.Answering.{IsReplyTo}
+use Rattle.user_dedup.specs.Dedup.{put_outcome, commit_outcome, recipe_reply, shares_reply, answer_over, FullRoom, room_for, by_room, IsSound, Begun, Added}
+use Rattle.user_dedup.specs.Exec.{Suits, items_of, served}
 use Rattle.user_dedup.proofs.Owned.{finds, contains_here, contains_later, contains_nothing, contains_cases}
 use Rattle.user_dedup.proofs.New.{are_new}
 use Rattle.user_dedup.proofs.Views.{own_adds, others_stay, held_is, owned_is_held}
@@ -237,3 +238,27 @@ suits shape cloud list (requests.List user after) sound small fits has =
       writable = page.few;
       kind = page.rising;
     }
+
+-- ---- where a room may be full
+
+full_suits : (shape : Shape) (cloud : ℕ) (list : List Command) (request : Request) (command : Command) (f : FullRoom) → (answer_over shape cloud list request).adds ≡ Some command
+    → IsReplyTo (items_of shape request) request (replies.Full f.room f.used f.need f.limit)
+full_suits shape cloud list requests.Hello command f e = absurd (let g : None ≡ Some command = e in cc)
+full_suits shape cloud list (requests.Query user fps) command f e = absurd (let g : None ≡ Some command = e in cc)
+full_suits shape cloud list (requests.Put user shares) command f e = tt
+full_suits shape cloud list (requests.Commit user tag version recipe) command f e = tt
+full_suits shape cloud list (requests.GetRecipe user tag version) command f e = absurd (let g : None ≡ Some command = e in cc)
+full_suits shape cloud list (requests.GetShares user fps) command f e = absurd (let g : None ≡ Some command = e in cc)
+full_suits shape cloud list (requests.List user after) command f e = absurd (let g : None ≡ Some command = e in cc)
+
+pub served_suits : (shape : Shape) (cloud : ℕ) (full : List Command → Command → Option FullRoom) (list : List Command) (request : Request) → IsSound shape cloud list → cloud < 256 → FitsRequest request → HasRecipe shape request
+    → IsReplyTo (items_of shape request) request (served shape cloud full list request).reply
+served_suits shape cloud full list request sound small fits has = by_adds (answer_over shape cloud list request).adds refl
+  where
+    by_room_of : (command : Command) (room : Option FullRoom) → (answer_over shape cloud list request).adds ≡ Some command → IsReplyTo (items_of shape request) request (by_room (answer_over shape cloud list request) room).reply
+    by_room_of command None e = (suits shape cloud list request sound small fits has).kind
+    by_room_of command (Some f) e = full_suits shape cloud list request command f e
+
+    by_adds : (adds : Option Command) → (answer_over shape cloud list request).adds ≡ adds → IsReplyTo (items_of shape request) request (by_room (answer_over shape cloud list request) (room_for (full list) adds)).reply
+    by_adds None e = (suits shape cloud list request sound small fits has).kind
+    by_adds (Some command) e = by_room_of command (full list command) e

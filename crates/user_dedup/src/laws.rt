@@ -16,7 +16,8 @@ ghost use Rattle.user_dedup.specs.Owning.{is_among, new_strings, AreNew};
 ghost use Rattle.user_dedup.specs.Pages.{key_of, entry_at, AreApart, page_of, IsPage};
 ghost use Rattle.user_dedup.specs.declared.file_list.FileEntry.{FileEntry};
 ghost use Rattle.user_dedup.specs.Requests.{asker, fps_of, HasRecipe, IsAsked, asked_at};
-ghost use Rattle.user_dedup.specs.Exec.{Suits, Peer, Exec, StandsSound, served};
+ghost use Rattle.user_dedup.specs.Exec.{Suits, Peer, Exec, StandsSound, items_of, served};
+ghost use Rattle.messages.specs.Answering.{IsReplyTo};
 ghost use Rattle.messages.specs.declared.reply.Reply.{Reply};
 ghost use Rattle.user_dedup.specs.Dedup.{answer_over, HeldAlike, IsSound, IsAdded, FullRoom};
 
@@ -64,6 +65,12 @@ pub fn law_of_isolation()
 pub fn law_of_replies()
     ensures { (shape : Shape) (cloud : ℕ) (list : List Command) (request : Request) → IsSound shape cloud list → cloud < 256
         → FitsRequest request → HasRecipe shape request → Suits shape request (answer_over shape cloud list request).reply }
+{}
+
+/// So is the reply of a cloud that may have no room for a command.
+pub fn law_of_served_replies()
+    ensures { (shape : Shape) (cloud : ℕ) (full : List Command → Command → Option FullRoom) (list : List Command) (request : Request) → IsSound shape cloud list → cloud < 256
+        → FitsRequest request → HasRecipe shape request → IsReplyTo (items_of shape request) request (served shape cloud full list request).reply }
 {}
 
 /// A cloud whose list is told executes a request of sound lists, and its lists stay sound, whatever happens on the way.

@@ -4,7 +4,7 @@ ghost use Rattle.std.specs.Prelude.{◌≡◌, ℕ, ◌≤◌, IsTrue, IsOk, OnE
 ghost use Rattle.cd_edges.specs.Causes.{Rose};
 ghost use Rattle.messages.specs.declared.request.Request.{Request};
 ghost use Rattle.user_dedup.specs.Requests.{asked_at};
-ghost use Rattle.user_dedup.specs.Link.{LinkTelling, Asks, AsksNothing, TellsSound, LeavesOthers};
+ghost use Rattle.user_dedup.specs.Link.{LinkTelling, Talk, Asks, AsksNothing, TellsSound, LeavesOthers, Says, SaysNothingElse, exchange_of};
 
 use cd_base::CloudNo;
 use frames::ReplyBuf;
@@ -17,6 +17,9 @@ pub struct Lost;
 pub trait Link {
     // Which clouds it reaches, and what they stand for.
     ghost tells: { LinkTelling Self };
+
+    // What was said with a cloud, by its number. A link that tells none of it keeps the other clauses.
+    ghost talk: { Self → ℕ → Talk → Type 0 } = { λ _ _ _. ⊥ };
 
     /// Asks a cloud, which the link reaches, with content of a frame. After Ok the reply's content is that of the cloud's reply,
     /// in place of what stood there: that of the request, if the content is one, and else Malformed with the first place that
@@ -33,7 +36,12 @@ pub trait Link {
             → Asks tells cloud.0 self.old r reply.new result self.new }
         ensures malformed { (at : ℕ) → asked_at (tells.shape self.old) request.now ≡ Err at
             → AsksNothing tells cloud.0 self.old at reply.new result self.new }
-        ensures others { LeavesOthers tells cloud.0 self.old self.new };
+        ensures others { LeavesOthers tells cloud.0 self.old self.new }
+        // What else the link says of an ask.
+        ensures passes { tells.passes self.old (exchange_of cloud.0 request.now result reply.new) self.new }
+        // What was said with the clouds.
+        ensures says { Says talk cloud.0 self.old request.now reply.new result self.new }
+        ensures says_else { SaysNothingElse talk cloud.0 self.old self.new };
 
     // Each told cloud stands for sound lists.
     ghost sound: { (link : Self) → TellsSound tells link };

@@ -11,7 +11,7 @@ use Rattle.cloud_opening.specs.Exact.{Opens, lengths_of}
 use Rattle.cloud_opening.specs.Steps.{HeaderAs}
 use Rattle.cloud_opening.proofs.Along.{counted_behind}
 use Rattle.cloud_opening.proofs.Exact.{on_answer, opens_err, opens_ok}
-use Rattle.cloud_opening.proofs.Loaded.{kept, kept_still, has_after, on_disk, stands_sound, loaded}
+use Rattle.cloud_opening.proofs.Loaded.{kept, kept_still, has_after, on_disk, stands_sound, loaded, loaded_one}
 use Rattle.cloud_opening.proofs.Replied.{opens_whole, all_whole, not_begun_err, not_begun_ok, other_err, other_ok, begins_ok, begins_err, memory_ok, memory_err, same_err, synced_still}
 use Rattle.cloud_opening.proofs.loading.load.Goals as goal
 
@@ -146,3 +146,14 @@ returns-in-Ok-clause-exact g c told =
     on_answer result (HeaderAs rooms (lengths_of (reads c1.now)) (c1.now Journal) mid empty result) (Opens header rooms begin (reads c0.now) result)
     (opens_ok c0 c1 header rooms begin mid empty c.clear.ensures.remembers c.in-Ok.ensures.gate.place reading (c.in-Ok.ensures.others told) (c.in-Ok.ensures.opens told) (c.in-Ok.ensures.begun told) (c.in-Ok.ensures.unbegun told) result)
     (c.read_records.ensures.exact told1 (header_bytes header ∷ []) reading)
+
+pub returns-in-Ok-clause-loaded : goal.returns-in-Ok-clause-loaded
+returns-in-Ok-clause-loaded g c told list stands =
+    let header = c.args.header.now in let number = header.cloud.0 in let c0 = g.V.Shelf.cloud_at c.args.shelf.now number in let c1 = g.V.Shelf.cloud_at c.open_journal.new.shelf number in
+    let c2 = g.V.Shelf.cloud_at c.read_records.new.shelf number in let told1 = told_on c0 c1 c.open_journal.ensures.call.told told in
+    let mid = state_of c.open_journal.new.journal in
+    let begun = c.in-Ok.ensures.begun told in let unbegun = c.in-Ok.ensures.unbegun told in let others = c.in-Ok.ensures.others told in let reading = c.in-Ok.ensures.opened told in
+    let sound = stands_sound (reads c0.now) header list stands in
+    let has = has_after c0 c1 header mid begun unbegun others list stands in
+    loaded_one c.read_records.result list header c.args.rooms.now (state_of c.read_records.new.journal) c1 c2 c.read_records.new.index sound has (on_disk c0 c1 header mid begun unbegun others reading) c.read_records.ensures.stays
+    (c.read_records.ensures.replayed told1 header list sound has reading (c.clear.ensures.remembers header.shape))

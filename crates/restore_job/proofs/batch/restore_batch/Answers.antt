@@ -9,7 +9,14 @@ use Rattle.restore_job.specs.Steps.{room_of}
 use Rattle.restore_job.proofs.Causing.{names_to}
 use Rattle.restore_job.proofs.Leading.{asked_as}
 use Rattle.restore_job.proofs.Ending.{refused_batch, opened_batch}
+use Rattle.std.proofs.Common.{Result}
+use Rattle.restore_job.specs.declared.error.RestoreErr.{RestoreErr}
+use Rattle.restore_job.specs.Exchanges.{BatchOpened, BatchUnread}
+use Rattle.restore_job.proofs.Speaking.{unlost, unlost_as}
 use Rattle.restore_job.proofs.batch.restore_batch.Goals as goal
+
+abbrev bad : RestoreErr → Result (Unit {0}) RestoreErr
+bad e = Err e
 
 pub returns-in-Ok-open_batch-clause-told : goal.returns-in-Ok-open_batch-clause-told
 returns-in-Ok-open_batch-clause-told g c tag version =
@@ -17,7 +24,7 @@ returns-in-Ok-open_batch-clause-told g c tag version =
     c.requires.points (length-map c.args.clouds.now (λ (cloud : CloudNo). cloud.0) ∙ c.requires.pairs) (λ j lt. c.clear.ensures.empty j (let room = c.requires.room in omega arith)) (c.in-Ok.ensures.told tag version) c.in-Ok-open_batch.ensures.opens tt
 
 pub returns-in-Err-open_batch-clause-asked : goal.returns-in-Err-open_batch-clause-asked
-returns-in-Err-open_batch-clause-asked g c = asked_as g.L.Link.tells c.args.link.now c.fetch_batch.new.link _ (is_loss c.in-Err-open_batch.e) (sym c.in-Err-open_batch.ensures.found) c.in-Ok.ensures.asked
+returns-in-Err-open_batch-clause-asked g c = asked_as g.L.Link.tells (numbers_of c.args.clouds.now) c.args.link.now c.fetch_batch.new.link _ (is_loss c.in-Err-open_batch.e) (sym c.in-Err-open_batch.ensures.found) c.in-Ok.ensures.asked
 
 pub returns-in-Err-open_batch-clause-told : goal.returns-in-Err-open_batch-clause-told
 returns-in-Err-open_batch-clause-told g c tag version =
@@ -36,3 +43,26 @@ returns-in-Ok-open_batch-clause-brought g c =
     subst (λ (l : List ℕ). Extends c.args.shape l c.args.firsts.now c.args.recipes.now c.args.place (c.args.place + c.args.count) c.args.out.now c.open_batch.new.out) c.requires.points
     (c.in-Ok-open_batch.ensures.brought c.args.recipes.now
     (λ j lt. subst (λ (l : List ℕ). HasShares c.args.recipes.now (c.args.place + j) l (room_of c.fetch_batch.new.rooms j)) (c.clear.ensures.empty j (let room = c.requires.room in omega arith)) (c.in-Ok.ensures.came j lt)))
+
+pub returns-in-Ok-open_batch-clause-said : goal.returns-in-Ok-open_batch-clause-said
+returns-in-Ok-open_batch-clause-said g c =
+    let said = c.in-Ok.ensures.said in (
+      said.0,
+      said.1,
+      BatchOpened c.clear.new.self c.fetch_batch.new.rooms said.0 c.args.out.now c.open_batch.new.out (Ok tt) (λ j lt. c.clear.ensures.empty j (let room = c.requires.room in omega arith)) said.2 c.in-Ok-open_batch.ensures.opened,
+    )
+
+pub returns-in-Err-open_batch-clause-said : goal.returns-in-Err-open_batch-clause-said
+returns-in-Err-open_batch-clause-said g c =
+    let said = c.in-Ok.ensures.said in
+    unlost (bad c.in-Err-open_batch.e) _ (
+      said.0,
+      said.1,
+      BatchOpened c.clear.new.self c.fetch_batch.new.rooms said.0 c.args.out.now c.open_batch.new.out (Err c.in-Err-open_batch.e) (λ j lt. c.clear.ensures.empty j (let room = c.requires.room in omega arith)) said.2 c.in-Err-open_batch.ensures.opened,
+    )
+
+pub returns-in-Err-clause-said : goal.returns-in-Err-clause-said
+returns-in-Err-clause-said g c =
+    unlost_as Unit Unit c.in-Err.e _ _
+    (λ said. (said.0, said.1, BatchUnread c.clear.new.self c.fetch_batch.new.rooms said.0 c.args.out.now c.in-Err.e (λ j lt. c.clear.ensures.empty j (let room = c.requires.room in omega arith)) said.2))
+    c.in-Err.ensures.said

@@ -1,11 +1,12 @@
 use Rattle.std.proofs.Common.{◌≡◌, ◌≤◌, ◌<◌, ◌+◌, ◌-◌, ◌∙◌, ℕ, [], length, refl, subst, arith}
 use Rattle.std.specs.Prelude.{min}
 use Rattle.cd_base.specs.Numbers.{numbers_of}
-use Rattle.restore_job.proofs.Leading.{leads_none}
+use Rattle.restore_job.proofs.Leading.{leads_none, asked_on}
 use Rattle.restore_job.specs.Brought.{AreSecrets}
 use Rattle.restore_job.proofs.Bringing.{extends_none, extends_on}
 use Rattle.restore_job.proofs.Taking.{grows_on, grows_none}
 use Rattle.restore_job.proofs.Ending.{restoring_none, restoring_more, restoring_stops, restoring_all}
+use Rattle.restore_job.proofs.Speaking.{unlost_as, items_none, items_more, items_end, items_stop}
 use Rattle.restore_job.proofs.batch.restore_items.Goals as goal
 
 pub returns-in-Err-clause-told : goal.returns-in-Err-clause-told
@@ -18,6 +19,7 @@ loop-place-init g c = record {
   within = omega arith;
   extends = extends_none c.args.shape (numbers_of c.args.clouds.now) c.args.firsts.now c.args.recipes.now 0 0 c.args.out.now refl;
   rooms = c.in-Ok.ensures;
+  said = items_none g.L.Link.talk c.args.shape c.args.user c.args.clouds.now c.args.points.now c.args.firsts.now c.args.recipes.now c.args.link.now c.args.out.now;
 }
 
 pub returns-in-Err-restore_batch-clause-told : goal.returns-in-Err-restore_batch-clause-told
@@ -34,6 +36,8 @@ loop-place-preserved g c = record {
   extends = extends_on c.args.shape (numbers_of c.args.clouds.now) c.args.firsts.now c.args.recipes.now 0 c.loop-place.place (c.loop-place.place + c.size_of-count.result) c.args.out.now c.loop-place.out c.restore_batch.new.out
       c.loop-place.invariant.extends c.in-Ok-restore_batch.ensures.brought;
   rooms = c.in-Ok-restore_batch.ensures.rooms ∙ c.loop-place.invariant.rooms;
+  said = items_more g.L.Link.talk c.args.shape c.args.user c.args.clouds.now c.args.points.now c.args.firsts.now c.args.recipes.now c.args.link.now c.loop-place.link c.restore_batch.new.link c.loop-place.place c.size_of-count.result
+      c.args.out.now c.loop-place.out c.restore_batch.new.out c.loop-place-test.true c.size_of-count.ensures c.in-Ok-restore_batch.ensures.said c.loop-place.invariant.said;
 }
 
 pub returns-clause-told : goal.returns-clause-told
@@ -47,3 +51,18 @@ returns-clause-brought g c =
     let all : c.loop-place.place ≡ length c.args.firsts.now = omega arith in
     let e = c.loop-place.invariant.extends in
     (e.0, e.1, subst (λ (n : ℕ). AreSecrets c.args.shape (numbers_of c.args.clouds.now) c.args.firsts.now c.args.recipes.now n e.0) all (e.2 [] refl))
+
+pub returns-in-Err-restore_batch-clause-asked : goal.returns-in-Err-restore_batch-clause-asked
+returns-in-Err-restore_batch-clause-asked g c =
+    asked_on g.L.Link.tells (numbers_of c.args.clouds.now) c.args.link.now c.loop-place.link c.restore_batch.new.link _ c.loop-place.invariant.restoring.asked c.in-Err-restore_batch.ensures.asked
+
+pub returns-clause-said : goal.returns-clause-said
+returns-clause-said g c =
+    items_end g.L.Link.talk c.args.shape c.args.user c.args.clouds.now c.args.points.now c.args.firsts.now c.args.recipes.now c.args.link.now c.loop-place.link c.loop-place.place c.args.out.now c.loop-place.out c.loop-place-test.false c.loop-place.invariant.said
+
+pub returns-in-Err-restore_batch-clause-said : goal.returns-in-Err-restore_batch-clause-said
+returns-in-Err-restore_batch-clause-said g c =
+    unlost_as Unit Unit c.in-Err-restore_batch.e _ _
+    (items_stop g.L.Link.talk c.args.shape c.args.user c.args.clouds.now c.args.points.now c.args.firsts.now c.args.recipes.now c.args.link.now c.loop-place.link c.restore_batch.new.link c.loop-place.place c.size_of-count.result
+    c.args.out.now c.loop-place.out c.restore_batch.new.out c.in-Err-restore_batch.e c.loop-place-test.true c.size_of-count.ensures c.loop-place.invariant.said)
+    c.in-Err-restore_batch.ensures.said

@@ -1,4 +1,4 @@
-use Rattle.std.proofs.Common.{◌≡◌, ◌∷◌, ◌+◌, ℕ, Bool, List, [], length, Ok, Err, sym, ap, subst, arith, rules, ◌∙◌}
+use Rattle.std.proofs.Common.{◌≡◌, ◌∷◌, ◌+◌, ℕ, Bool, false, List, [], length, Ok, Err, sym, ap, subst, arith, rules, ◌∙◌}
 use Rattle.std.specs.Prelude.{All, IsTrue}
 use Rattle.std.specs.List.{Contains}
 use Rattle.std.proofs.lemmas.List.Elements.{All-tail}
@@ -11,6 +11,9 @@ use Rattle.restore_job.specs.Steps.{AreItemsAt, room_of}
 use Rattle.restore_job.proofs.Bringing.{has_none, has_more}
 use Rattle.restore_job.proofs.Causing.{names_to}
 use Rattle.restore_job.proofs.Batches.{batch_none, batch_more, batch_stops, batch_as}
+use Rattle.restore_job.specs.Asking.{Asked, is_loss}
+use Rattle.restore_job.proofs.Leading.{asked_on, asked_in, asked_at}
+use Rattle.restore_job.proofs.Speaking.{unlost_as, batch_said_none, batch_said_one, batch_said_stop}
 use Rattle.restore_job.proofs.fetching.+fetch_batch.Goals as goal
 
 pub returns-in_default-clause-told : goal.returns-in_default-clause-told
@@ -80,3 +83,45 @@ returns-in-Ok-fetch_batch-clause-came g t c j lt =
     let first = c.in-Ok.ensures.came j lt in
     subst (λ (l : List Recipe). HasShares l (c.args.place + j) (room_of c.args.rooms.now j) (room_of c.fetch_batch.new.rooms j)) (sym c.in-Some.ensures.recipes)
     (has_more c.in-Some.recipe.now c.in-Some.rest.now (c.args.place + j) (room_of c.args.rooms.now j) (room_of c.fetch_shares.new.rooms j) (room_of c.fetch_batch.new.rooms j) first.0 first.1 first.2 (c.in-Ok-fetch_batch.ensures.came j lt))
+
+pub returns-in-Err-clause-asked : goal.returns-in-Err-clause-asked
+returns-in-Err-clause-asked g t c =
+    subst (λ (l : List ℕ). Asked g.L.Link.tells l c.args.link.now c.fetch_shares.new.link (is_loss c.in-Err.e)) (sym (ap numbers_of c.in-Some.ensures.clouds))
+    (asked_at g.L.Link.tells c.in-Some.cloud.0 (c.in-Some.cloud.0 ∷ numbers_of c.in-Some.more.now) c.args.link.now c.fetch_shares.new.link _ (contains_here c.in-Some.cloud.0 (numbers_of c.in-Some.more.now)) c.in-Err.ensures.asked)
+
+pub returns-in-Ok-fetch_batch-clause-asked : goal.returns-in-Ok-fetch_batch-clause-asked
+returns-in-Ok-fetch_batch-clause-asked g t c =
+    subst (λ (l : List ℕ). Asked g.L.Link.tells l c.args.link.now c.fetch_batch.new.link false) (sym (ap numbers_of c.in-Some.ensures.clouds))
+    (asked_on g.L.Link.tells (c.in-Some.cloud.0 ∷ numbers_of c.in-Some.more.now) c.args.link.now c.fetch_shares.new.link c.fetch_batch.new.link _
+    (asked_at g.L.Link.tells c.in-Some.cloud.0 (c.in-Some.cloud.0 ∷ numbers_of c.in-Some.more.now) c.args.link.now c.fetch_shares.new.link _ (contains_here c.in-Some.cloud.0 (numbers_of c.in-Some.more.now)) c.in-Ok.ensures.asked)
+    (asked_in g.L.Link.tells (numbers_of c.in-Some.more.now) (c.in-Some.cloud.0 ∷ numbers_of c.in-Some.more.now) c.fetch_shares.new.link c.fetch_batch.new.link _ (contains_later c.in-Some.cloud.0 (numbers_of c.in-Some.more.now)) c.in-Ok-fetch_batch.ensures.asked))
+
+pub returns-in-Err-fetch_batch-clause-asked : goal.returns-in-Err-fetch_batch-clause-asked
+returns-in-Err-fetch_batch-clause-asked g t c =
+    subst (λ (l : List ℕ). Asked g.L.Link.tells l c.args.link.now c.fetch_batch.new.link (is_loss c.in-Err-fetch_batch.e)) (sym (ap numbers_of c.in-Some.ensures.clouds))
+    (asked_on g.L.Link.tells (c.in-Some.cloud.0 ∷ numbers_of c.in-Some.more.now) c.args.link.now c.fetch_shares.new.link c.fetch_batch.new.link _
+    (asked_at g.L.Link.tells c.in-Some.cloud.0 (c.in-Some.cloud.0 ∷ numbers_of c.in-Some.more.now) c.args.link.now c.fetch_shares.new.link _ (contains_here c.in-Some.cloud.0 (numbers_of c.in-Some.more.now)) c.in-Ok.ensures.asked)
+    (asked_in g.L.Link.tells (numbers_of c.in-Some.more.now) (c.in-Some.cloud.0 ∷ numbers_of c.in-Some.more.now) c.fetch_shares.new.link c.fetch_batch.new.link _ (contains_later c.in-Some.cloud.0 (numbers_of c.in-Some.more.now)) c.in-Err-fetch_batch.ensures.asked))
+
+pub returns-in_default-clause-said : goal.returns-in_default-clause-said
+returns-in_default-clause-said g t c =
+    batch_said_none g.L.Link.talk c.args.shape c.args.user c.args.firsts.now c.args.place c.args.count c.args.link.now c.args.clouds.now c.args.recipes.now c.args.rooms.now c.in_default.ensures.clouds c.in_default.ensures.recipes
+
+pub returns-in-Err-clause-said : goal.returns-in-Err-clause-said
+returns-in-Err-clause-said g t c =
+    unlost_as Unit Unit c.in-Err.e _ _
+    (batch_said_stop g.L.Link.talk c.args.shape c.args.user c.args.firsts.now c.args.place c.args.count c.args.link.now c.fetch_shares.new.link c.args.clouds.now c.args.recipes.now
+    c.in-Some.cloud c.in-Some.more.now c.in-Some.recipe.now c.in-Some.rest.now c.args.rooms.now c.fetch_shares.new.rooms c.in-Err.e c.in-Some.ensures.clouds c.in-Some.ensures.recipes) c.in-Err.ensures.said
+
+pub returns-in-Ok-fetch_batch-clause-said : goal.returns-in-Ok-fetch_batch-clause-said
+returns-in-Ok-fetch_batch-clause-said g t c =
+    batch_said_one g.L.Link.talk c.args.shape c.args.user c.args.firsts.now c.args.place c.args.count c.args.link.now c.fetch_shares.new.link c.fetch_batch.new.link c.args.clouds.now c.args.recipes.now
+    c.in-Some.cloud c.in-Some.more.now c.in-Some.recipe.now c.in-Some.rest.now c.args.rooms.now c.fetch_shares.new.rooms c.fetch_batch.new.rooms (Ok tt) c.in-Some.ensures.clouds c.in-Some.ensures.recipes
+    c.in-Ok.ensures.said c.in-Ok-fetch_batch.ensures.said
+
+pub returns-in-Err-fetch_batch-clause-said : goal.returns-in-Err-fetch_batch-clause-said
+returns-in-Err-fetch_batch-clause-said g t c =
+    unlost_as Unit Unit c.in-Err-fetch_batch.e _ _
+    (batch_said_one g.L.Link.talk c.args.shape c.args.user c.args.firsts.now c.args.place c.args.count c.args.link.now c.fetch_shares.new.link c.fetch_batch.new.link c.args.clouds.now c.args.recipes.now
+    c.in-Some.cloud c.in-Some.more.now c.in-Some.recipe.now c.in-Some.rest.now c.args.rooms.now c.fetch_shares.new.rooms c.fetch_batch.new.rooms (Err c.in-Err-fetch_batch.e) c.in-Some.ensures.clouds c.in-Some.ensures.recipes
+    c.in-Ok.ensures.said) c.in-Err-fetch_batch.ensures.said

@@ -8,7 +8,8 @@ use Rattle.messages.specs.declared.request.Request.TheVariants as requests
 use Rattle.user_dedup.specs.Exec.{Peer}
 use Rattle.user_dedup.specs.Link.{Asks}
 use Rattle.restore_job.specs.Refusals.{Names}
-use Rattle.restore_job.specs.Steps.{RecipeFrom, RecipeTold}
+use Rattle.restore_job.specs.Steps.{RecipeFrom, RecipeTold, NamesKind}
+use Rattle.restore_job.proofs.Speaking.{unlost}
 use Rattle.restore_job.specs.declared.error.RestoreErr.{RestoreErr}
 use Rattle.restore_job.specs.declared.error.RestoreErr.TheVariants as errors
 use Rattle.restore_job.proofs.Causing.{FaultRose, recipe_names, recipe_caused}
@@ -46,3 +47,15 @@ returns-in-Ok-clause-named g c = names c.args.shape c.args.cloud c.content.resul
 
 pub returns-in-Err-clause-named : goal.returns-in-Err-clause-named
 returns-in-Err-clause-named g c = subst (Names (λ x. x ≡ c.args.cloud.0)) (sym (error_is c.in-Err.e (errors.Lost c.args.cloud) c.in-Err.ensures.lost)) refl
+
+pub returns-in-Ok-clause-said : goal.returns-in-Ok-clause-said
+returns-in-Ok-clause-said g c = unlost c.recipe_from.result _ (
+  record { cloud = c.args.cloud.0; request = c.args.request.now; reply = c.ask.new.reply },
+  c.in-Ok.ensures.spoken,
+  record {
+    cloud_is = refl;
+    request_is = refl;
+    came = subst (λ (l : List ℕ). RecipeFrom c.args.shape c.args.cloud (reply_at l) c.recipe_from.result) c.content.ensures.value c.recipe_from.ensures.from;
+    kind = subst (λ (l : List ℕ). NamesKind l c.recipe_from.result) c.content.ensures.value c.recipe_from.ensures.kind;
+  },
+)

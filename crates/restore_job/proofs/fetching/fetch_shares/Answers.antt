@@ -9,7 +9,8 @@ use Rattle.recipe.specs.declared.items.Item.{Item}
 use Rattle.user_dedup.specs.Link.{Asks}
 use Rattle.user_dedup.specs.Owning.{fps_in}
 use Rattle.restore_job.specs.Refusals.{Names}
-use Rattle.restore_job.specs.Steps.{NoShares, Takes}
+use Rattle.restore_job.specs.Steps.{NoShares, Takes, SharesFrom, NamesKind}
+use Rattle.restore_job.proofs.Speaking.{unlost}
 use Rattle.restore_job.specs.declared.error.RestoreErr.{RestoreErr}
 use Rattle.restore_job.specs.declared.error.RestoreErr.TheVariants as errors
 use Rattle.restore_job.proofs.Bringing.{taken_came}
@@ -17,6 +18,9 @@ use Rattle.restore_job.proofs.Causing.{shares_names, takes_names}
 use Rattle.restore_job.proofs.Held.{error_is}
 use Rattle.restore_job.proofs.Sharing.{part, shares_taken, shares_unread, shares_lost, shares_unasked}
 use Rattle.restore_job.proofs.fetching.fetch_shares.Goals as goal
+
+abbrev bad : RestoreErr → Result (Unit {0}) RestoreErr
+bad e = Err e
 
 pub returns-in-Err-clause-told : goal.returns-in-Err-clause-told
 returns-in-Err-clause-told g c tag version = shares_unasked g.L.Link.tells c.args.shape c.args.user (tag, version) c.args.cloud c.args.firsts.now c.args.recipe.now c.args.place c.args.count c.args.link.now c.args.rooms.now c.args.rooms.now
@@ -75,3 +79,41 @@ returns-clause-named g c = subst (Names (λ x. x ≡ c.args.cloud.0)) (sym (erro
 pub returns-in-Ok-shares_from-clause-came : goal.returns-in-Ok-shares_from-clause-came
 returns-in-Ok-shares_from-clause-came g c =
     taken_came c.args.shape c.args.cloud c.args.firsts.now c.as_slice-items.result.now c.args.recipe.now c.args.place c.args.count c.in-Ok-shares_from.shares c.args.rooms.now c.take_shares.new.rooms c.take_shares.result c.as_slice-items.ensures c.take_shares.ensures.takes
+
+pub returns-in-Ok-shares_from-clause-said : goal.returns-in-Ok-shares_from-clause-said
+returns-in-Ok-shares_from-clause-said g c =
+    let place = c.args.place in let n = c.args.count in let items = c.args.recipe.now.items in
+    let asked : IsRequest c.as_slice.result.now (requests.GetShares c.args.user (fps_in (part place n items))) =
+    subst (λ (l : List ℕ). IsRequest l (requests.GetShares c.args.user (fps_in (part place n items)))) (sym c.as_slice.ensures)
+    (subst (λ (l : List Item). IsRequest c.in-Ok.request (requests.GetShares c.args.user (fps_in (part place n l)))) c.as_slice-items.ensures c.in-Ok.ensures.asks) in
+    unlost c.take_shares.result _ (
+      record { cloud = c.args.cloud.0; request = c.as_slice.result.now; reply = c.ask.new.reply },
+      c.in-Ok-ask.ensures.spoken,
+      record {
+        cloud_is = refl;
+        asked = asked;
+        brought = Ok c.in-Ok-shares_from.shares;
+        came = subst (λ (l : List ℕ). SharesFrom c.args.cloud n (reply_at l) (Ok c.in-Ok-shares_from.shares)) c.content.ensures.value c.in-Ok-shares_from.ensures.from;
+        kind = tt;
+        taken = subst (λ (l : List Item). Takes c.args.shape c.args.cloud c.args.firsts.now l place n c.in-Ok-shares_from.shares c.args.rooms.now c.take_shares.new.rooms c.take_shares.result) c.as_slice-items.ensures c.take_shares.ensures.takes;
+      },
+    )
+
+pub returns-in-Ok-ask-clause-said : goal.returns-in-Ok-ask-clause-said
+returns-in-Ok-ask-clause-said g c =
+    let place = c.args.place in let n = c.args.count in let items = c.args.recipe.now.items in
+    let asked : IsRequest c.as_slice.result.now (requests.GetShares c.args.user (fps_in (part place n items))) =
+    subst (λ (l : List ℕ). IsRequest l (requests.GetShares c.args.user (fps_in (part place n items)))) (sym c.as_slice.ensures)
+    (subst (λ (l : List Item). IsRequest c.in-Ok.request (requests.GetShares c.args.user (fps_in (part place n l)))) c.as_slice-items.ensures c.in-Ok.ensures.asks) in
+    unlost (bad c.in-Err-shares_from.e) _ (
+      record { cloud = c.args.cloud.0; request = c.as_slice.result.now; reply = c.ask.new.reply },
+      c.in-Ok-ask.ensures.spoken,
+      record {
+        cloud_is = refl;
+        asked = asked;
+        brought = Err c.in-Err-shares_from.e;
+        came = subst (λ (l : List ℕ). SharesFrom c.args.cloud n (reply_at l) (Err c.in-Err-shares_from.e)) c.content.ensures.value c.in-Err-shares_from.ensures.from;
+        kind = subst (λ (l : List ℕ). NamesKind {A = List (List ℕ)} l (Err c.in-Err-shares_from.e)) c.content.ensures.value c.in-Err-shares_from.ensures.kind;
+        taken = refl;
+      },
+    )

@@ -6,6 +6,8 @@ use Rattle.restore_job.specs.Steps.{OpensTo}
 use Rattle.restore_job.specs.Brought.{Extends, HasShares}
 use Rattle.restore_job.proofs.Bringing.{extends_none, extends_more, opened_here}
 use Rattle.restore_job.proofs.Taking.{opening_none, opening_is, opening_more, opening_stops, opening_all, secrets_next, secrets_done, secret_is, grows_on, grows_none}
+use Rattle.restore_job.specs.Exchanges.{OpenedTo, NoneOpened, OneOpened}
+use Rattle.restore_job.proofs.Speaking.{opens_here}
 use Rattle.restore_job.proofs.opening.open_batch.Goals as goal
 
 from_none : (shape : Shape) (firsts : List Item) (all : List Given) (place n : ℕ) → secrets_opened shape firsts all place n ≡ secrets_opened shape firsts all (place + 0) (n - 0)
@@ -21,6 +23,7 @@ loop-j-init c = record {
       opening_is due due _ c.args.out.now c.args.out.now (from_none c.args.shape c.args.firsts.now all c.args.place c.args.count) (opening_none due c.args.out.now);
   grows = grows_none c.args.out.now;
   within = omega arith;
+  opened_to = NoneOpened c.args.out.now;
   extends = λ recipes has. extends_none c.args.shape c.args.points.now c.args.firsts.now recipes c.args.place (c.args.place + 0) c.args.out.now (omega arith);
 }
 
@@ -34,6 +37,7 @@ loop-j-preserved c = record {
       (let opens = c.in-Ok.ensures.opens in (opens.0, opens.1, ap (of_secret (c.args.place + c.loop-j.j)) (sym secret) ∙ opens.2));
   grows = grows_on c.args.out.now c.loop-j.out c.open_secret.new.out c.loop-j.invariant.grows c.in-Ok.ensures.grows;
   within = (let lt : c.loop-j.j < c.args.count = c.loop-j-test.true in omega arith);
+  opened_to = OneOpened c.loop-j.j c.args.out.now c.loop-j.out c.open_secret.new.out c.loop-j.invariant.opened_to (opens_here c.args.shape c.args.points.now c.args.firsts.now c.args.rooms.now c.args.place c.loop-j.j c.get.result.now (Ok tt) c.loop-j.out c.open_secret.new.out c.get.ensures c.in-Ok.ensures.opens);
   extends = λ recipes has.
       let i = c.args.place + c.loop-j.j in
       let opens = c.in-Ok.ensures.opens in
@@ -67,3 +71,17 @@ returns-clause-brought c recipes has =
     let past : c.args.count ≤ c.loop-j.j = c.loop-j-test.false in
     let all : c.loop-j.j ≡ c.args.count = omega arith in
     subst (λ (n : ℕ). Extends c.args.shape c.args.points.now c.args.firsts.now recipes c.args.place (c.args.place + n) c.args.out.now c.loop-j.out) all (c.loop-j.invariant.extends recipes has)
+
+pub returns-in-Err-clause-opened : goal.returns-in-Err-clause-opened
+returns-in-Err-clause-opened c = record {
+  j = c.loop-j.j;
+  within = c.loop-j-test.true;
+  mid = c.loop-j.out;
+  front = c.loop-j.invariant.opened_to;
+  stops = opens_here c.args.shape c.args.points.now c.args.firsts.now c.args.rooms.now c.args.place c.loop-j.j c.get.result.now (Err c.in-Err.e) c.loop-j.out c.open_secret.new.out c.get.ensures c.in-Err.ensures.opens;
+}
+
+pub returns-clause-opened : goal.returns-clause-opened
+returns-clause-opened c =
+    let all : c.loop-j.j ≡ c.args.count = (let within : c.loop-j.j ≤ c.args.count = c.loop-j.invariant.within in let past : c.args.count ≤ c.loop-j.j = c.loop-j-test.false in omega arith) in
+    subst (λ (n : ℕ). OpenedTo c.args.shape c.args.points.now c.args.firsts.now c.args.rooms.now c.args.place n c.args.out.now c.loop-j.out) all c.loop-j.invariant.opened_to

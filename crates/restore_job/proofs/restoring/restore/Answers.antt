@@ -7,6 +7,8 @@ use Rattle.restore_job.specs.Refusals.{Causes, Names}
 use Rattle.restore_job.specs.Reading.{Restores}
 use Rattle.restore_job.proofs.Leading.{leads_to}
 use Rattle.restore_job.proofs.Ending.{cut_back}
+use Rattle.std.proofs.Common.{refl}
+use Rattle.restore_job.proofs.Speaking.{unlost_as}
 use Rattle.restore_job.proofs.restoring.restore.Goals as goal
 
 pub returns-in-Ok-clause-restored : goal.returns-in-Ok-clause-restored
@@ -32,3 +34,29 @@ returns-in-Err-clause-named g c = subst (λ (l : List ℕ). Names (Contains l) c
 
 pub returns-in-Ok-clause-brought : goal.returns-in-Ok-clause-brought
 returns-in-Ok-clause-brought g c = subst (λ (l : List ℕ). Brought c.args.shape l c.args.out.now c.restore_into.new.out) c.as_slice.ensures c.in-Ok.ensures.brought
+
+pub returns-in-Ok-clause-said : goal.returns-in-Ok-clause-said
+returns-in-Ok-clause-said g c =
+    let said = c.in-Ok.ensures.said in
+    record {
+      chosen = c.as_slice.result.now;
+      chosen_are = c.as_slice.ensures;
+      log = said.0;
+      spoken = said.1;
+      left = c.restore_into.new.out;
+      run = said.2;
+      stands = refl;
+    }
+
+pub returns-in-Err-clause-said : goal.returns-in-Err-clause-said
+returns-in-Err-clause-said g c =
+    unlost_as Unit Unit c.in-Err.e _ _
+    (λ said. record {
+      chosen = c.as_slice.result.now;
+      chosen_are = c.as_slice.ensures;
+      log = said.0;
+      spoken = said.1;
+      left = c.restore_into.new.out;
+      run = said.2;
+      stands = tt;
+    }) c.in-Err.ensures.said

@@ -14,7 +14,17 @@ use Rattle.restore_job.specs.Brought.{AreSecrets, Agree, Appends}
 use Rattle.restore_job.proofs.Bringing.{none_differs}
 use Rattle.restore_job.proofs.Causing.{compared_names}
 use Rattle.restore_job.proofs.Ending.{agreed_as, agreed_differs, agreed_items, agreed_unmade, items_as, fits_items}
+use Rattle.std.proofs.Common.{Result, rules}
+use Rattle.cd_base.specs.declared.ids.UserId.{UserId}
+use Rattle.cd_base.specs.declared.shape.Shape.{Shape}
+use Rattle.restore_job.specs.declared.error.RestoreErr.{RestoreErr}
+use Rattle.restore_job.specs.Steps.{Compares}
+use Rattle.restore_job.specs.Exchanges.{Exchange, AgreedRun, NothingAsked, Differ, Compared, ItemsRun}
+use Rattle.restore_job.proofs.Speaking.{unlost, unlost_as, spoken_none}
 use Rattle.restore_job.proofs.restoring.restore_agreed.Goals as goal
+
+abbrev bad : RestoreErr → Result (Unit {0}) RestoreErr
+bad e = Err e
 
 -- as many others as recipes of theirs
 others_long : (clouds others : List CloudNo) (recipes rest : List Recipe) (first : CloudNo) (recipe : Recipe) → clouds ≡ first ∷ others → recipes ≡ recipe ∷ rest → length clouds ≡ length recipes → length (numbers_of others) ≡ length rest
@@ -86,3 +96,48 @@ returns-in-Ok-restore_items-clause-brought g c =
           (others_long c.args.clouds.now c.in-Some.others.now c.args.recipes.now c.in-Some.rest.now c.in-Some.first c.in-Some.recipe.now c.in-Some.ensures.clouds c.in-Some.ensures.recipes c.requires.pairs) c.in-Ok.ensures.compares,
       appends,
     )
+
+pub returns-in_default-clause-said : goal.returns-in_default-clause-said
+returns-in_default-clause-said g c = (
+  [],
+  spoken_none g.L.Link.talk c.args.link.now,
+  subst (λ (r : List Recipe). AgreedRun c.args.shape c.args.user c.args.clouds.now r [] c.args.out.now c.args.out.now (Ok tt)) (sym c.in_default.ensures.recipes) (NothingAsked c.args.out.now),
+)
+
+pub returns-in-Err-clause-said : goal.returns-in-Err-clause-said
+returns-in-Err-clause-said g c = unlost (bad c.in-Err.e) _ (
+  [],
+  spoken_none g.L.Link.talk c.args.link.now,
+  subst (λ (r : List Recipe). AgreedRun c.args.shape c.args.user c.args.clouds.now r [] c.args.out.now c.args.out.now (Err c.in-Err.e)) (sym c.in-Some.ensures.recipes)
+      (Differ c.in-Some.first c.in-Some.others.now c.in-Some.recipe.now c.in-Some.rest.now c.args.out.now c.in-Err.e c.in-Some.ensures.clouds c.in-Err.ensures.compares),
+)
+
+-- the secrets come behind the comparison
+items_said : (shape : Shape) (user : UserId) (clouds others : List CloudNo) (cloud : CloudNo) (recipe : Recipe) (rest recipes : List Recipe) (points : List ℕ) (firsts : List Item) (log : List Exchange) (old new : List ℕ) (result : Result (Unit {0}) RestoreErr)
+    → clouds ≡ cloud ∷ others → recipes ≡ recipe ∷ rest → points ≡ numbers_of clouds → firsts ≡ recipe.items → Compares cloud.0 recipe (numbers_of others) rest (Ok tt)
+    → ItemsRun shape user clouds points firsts recipes 0 log old new result → AgreedRun shape user clouds recipes log old new result
+items_said shape user clouds others cloud recipe rest recipes points firsts log old new result c r p f compares run =
+    subst (λ (l : List Recipe). AgreedRun shape user clouds l log old new result) (sym r)
+    (Compared cloud others recipe rest log old new result c compares
+    (subst (λ (l : List Recipe). ItemsRun shape user clouds (numbers_of clouds) recipe.items l 0 log old new result) r
+    (subst (λ (i : List Item). ItemsRun shape user clouds (numbers_of clouds) i recipes 0 log old new result) f
+    (subst (λ (q : List ℕ). ItemsRun shape user clouds q firsts recipes 0 log old new result) p run))))
+
+pub returns-in-Ok-restore_items-clause-said : goal.returns-in-Ok-restore_items-clause-said
+returns-in-Ok-restore_items-clause-said g c =
+    let said = c.in-Ok-restore_items.ensures.said in (
+      said.0,
+      said.1,
+      items_said c.args.shape c.args.user c.args.clouds.now c.in-Some.others.now c.in-Some.first c.in-Some.recipe.now c.in-Some.rest.now c.args.recipes.now _ _ said.0 c.args.out.now c.restore_items.new.out (Ok tt)
+          c.in-Some.ensures.clouds c.in-Some.ensures.recipes (search rules) c.as_slice-firsts.ensures c.in-Ok.ensures.compares said.2,
+    )
+
+pub returns-clause-said : goal.returns-clause-said
+returns-clause-said g c =
+    unlost_as Unit Unit c.in-Err-restore_items.e _ _
+    (λ said. (
+      said.0,
+      said.1,
+      items_said c.args.shape c.args.user c.args.clouds.now c.in-Some.others.now c.in-Some.first c.in-Some.recipe.now c.in-Some.rest.now c.args.recipes.now _ _ said.0 c.args.out.now c.restore_items.new.out (Err c.in-Err-restore_items.e)
+          c.in-Some.ensures.clouds c.in-Some.ensures.recipes (search rules) c.as_slice-firsts.ensures c.in-Ok.ensures.compares said.2,
+    )) c.in-Err-restore_items.ensures.said

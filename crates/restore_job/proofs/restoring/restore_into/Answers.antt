@@ -8,6 +8,10 @@ use Rattle.messages.specs.declared.request.Request.TheVariants as requests
 use Rattle.messages.specs.Requests.{IsRequest}
 use Rattle.recipe.specs.declared.recipe.Recipe.{Recipe}
 use Rattle.restore_job.proofs.Ending.{AgreedLeads, all_restored, first_refused, not_begun}
+use Rattle.restore_job.proofs.Leading.{asked_on}
+use Rattle.std.proofs.Common.{◌++◌}
+use Rattle.restore_job.specs.Exchanges.{AgreedRun, HasRecipes, NoRecipes}
+use Rattle.restore_job.proofs.Speaking.{unlost_as, spoken_twice}
 use Rattle.restore_job.proofs.restoring.restore_into.Goals as goal
 
 pub returns-in-Err-clause-restored : goal.returns-in-Err-clause-restored
@@ -51,3 +55,38 @@ returns-in-Ok-restore_agreed-clause-brought g c =
       agree = agreed.0;
       appends = agreed.1;
     }
+
+pub returns-in-Ok-restore_agreed-clause-asked : goal.returns-in-Ok-restore_agreed-clause-asked
+returns-in-Ok-restore_agreed-clause-asked g c = asked_on g.L.Link.tells (numbers_of c.args.clouds.now) c.args.link.now c.fetch_recipes.new.link c.restore_agreed.new.link _ c.in-Ok-fetch_recipes.ensures.asked c.in-Ok-restore_agreed.ensures.asked
+
+pub returns-in-Ok-fetch_recipes-clause-asked : goal.returns-in-Ok-fetch_recipes-clause-asked
+returns-in-Ok-fetch_recipes-clause-asked g c = asked_on g.L.Link.tells (numbers_of c.args.clouds.now) c.args.link.now c.fetch_recipes.new.link c.restore_agreed.new.link _ c.in-Ok-fetch_recipes.ensures.asked c.in-Err-restore_agreed.ensures.asked
+
+pub returns-in-Ok-restore_agreed-clause-said : goal.returns-in-Ok-restore_agreed-clause-said
+returns-in-Ok-restore_agreed-clause-said g c =
+    let asks = subst (λ (l : List ℕ). IsRequest l (requests.GetRecipe c.args.user (record { 0 = tag_at c.args.shape c.args.path.now }) c.args.version)) (sym c.as_slice.ensures) c.in-Ok.ensures.asks in
+    let one = c.in-Ok-fetch_recipes.ensures.said in
+    let two = c.in-Ok-restore_agreed.ensures.said in (
+      one.0 ++ two.0,
+      spoken_twice g.L.Link.talk c.args.link.now c.fetch_recipes.new.link c.restore_agreed.new.link one.0 two.0 one.1 two.1,
+      HasRecipes c.as_slice.result.now c.in-Ok-fetch_recipes.recipes one.0 two.0 c.args.out.now c.restore_agreed.new.out (Ok tt) asks one.2
+          (subst (λ (r : List Recipe). AgreedRun c.args.shape c.args.user c.args.clouds.now r two.0 c.args.out.now c.restore_agreed.new.out (Ok tt)) c.as_slice-in-Ok-fetch_recipes.ensures two.2),
+    )
+
+pub returns-in-Ok-fetch_recipes-clause-said : goal.returns-in-Ok-fetch_recipes-clause-said
+returns-in-Ok-fetch_recipes-clause-said g c =
+    let asks = subst (λ (l : List ℕ). IsRequest l (requests.GetRecipe c.args.user (record { 0 = tag_at c.args.shape c.args.path.now }) c.args.version)) (sym c.as_slice.ensures) c.in-Ok.ensures.asks in
+    let one = c.in-Ok-fetch_recipes.ensures.said in
+    unlost_as Unit Unit c.in-Err-restore_agreed.e _ _
+    (λ two. (
+      one.0 ++ two.0,
+      spoken_twice g.L.Link.talk c.args.link.now c.fetch_recipes.new.link c.restore_agreed.new.link one.0 two.0 one.1 two.1,
+      HasRecipes c.as_slice.result.now c.in-Ok-fetch_recipes.recipes one.0 two.0 c.args.out.now c.restore_agreed.new.out (Err c.in-Err-restore_agreed.e) asks one.2
+          (subst (λ (r : List Recipe). AgreedRun c.args.shape c.args.user c.args.clouds.now r two.0 c.args.out.now c.restore_agreed.new.out (Err c.in-Err-restore_agreed.e)) c.as_slice-in-Ok-fetch_recipes.ensures two.2),
+    )) c.in-Err-restore_agreed.ensures.said
+
+pub returns-clause-said : goal.returns-clause-said
+returns-clause-said g c =
+    let asks = subst (λ (l : List ℕ). IsRequest l (requests.GetRecipe c.args.user (record { 0 = tag_at c.args.shape c.args.path.now }) c.args.version)) (sym c.as_slice.ensures) c.in-Ok.ensures.asks in
+    unlost_as (List Recipe) Unit c.in-Err-fetch_recipes.e _ _
+    (λ one. (one.0, one.1, NoRecipes c.as_slice.result.now one.0 c.args.out.now c.in-Err-fetch_recipes.e asks one.2)) c.in-Err-fetch_recipes.ensures.said

@@ -22,10 +22,10 @@ returns-in-Deliver-clause-exec g c = λ r asked p is.
     (x.peer, x.stands, (x.answer, x.is, x.exec))
 
 pub returns-in-Deliver-clause-malformed : goal.returns-in-Deliver-clause-malformed
-returns-in-Deliver-clause-malformed g c = λ at asked.
+returns-in-Deliver-clause-malformed g c = λ at asked p is.
     let e = c.execute.ensures in
     let lt = ltb-true c.args.cloud.0 c.args.self.now.servers.shape.n c.requires.reached in (
-      refuses c.args.self.now.servers c.execute.new.self c.args.cloud.0 e.0 e.1 e.2 lt (g.V.Shelf.cloud_at c.args.self.now.shelf.now) (g.V.Shelf.cloud_at c.execute.new.shelf) _ _ c.args.request.now c.execute.new.reply e.3 at asked,
+      refuses c.args.self.now.servers c.execute.new.self c.args.cloud.0 e.0 e.1 e.2 lt (g.V.Shelf.cloud_at c.args.self.now.shelf.now) (g.V.Shelf.cloud_at c.execute.new.shelf) _ _ c.args.request.now c.execute.new.reply e.3 at asked p is,
       refused_reply c.args.self.now.servers c.execute.new.self c.args.cloud.0 e.0 e.1 e.2 lt (g.V.Shelf.cloud_at c.args.self.now.shelf.now) (g.V.Shelf.cloud_at c.execute.new.shelf) _ _ c.args.request.now c.execute.new.reply e.3 at
           (λ i. omega (arith, c.type_inv.request i)) c.requires.framed asked,
     )
@@ -74,10 +74,10 @@ returns-in-LoseReply-clause-exec g c = λ r asked p is.
     (x.peer, peer_counted g.V.Shelf.cloud_at _ c.lose-in-LoseReply.new.self c.args.cloud.0 x.peer c.lose-in-LoseReply.ensures.counted x.stands, inr (x.answer, x.exec))
 
 pub returns-in-LoseReply-clause-malformed : goal.returns-in-LoseReply-clause-malformed
-returns-in-LoseReply-clause-malformed g c = λ at asked.
+returns-in-LoseReply-clause-malformed g c = λ at asked p is.
     let e = c.execute-in-LoseReply.ensures in
     let lt = ltb-true c.args.cloud.0 c.args.self.now.servers.shape.n c.requires.reached in (
-      λ p is. peer_counted g.V.Shelf.cloud_at _ c.lose-in-LoseReply.new.self c.args.cloud.0 p c.lose-in-LoseReply.ensures.counted
+      peer_counted g.V.Shelf.cloud_at _ c.lose-in-LoseReply.new.self c.args.cloud.0 p c.lose-in-LoseReply.ensures.counted
           (refuses c.args.self.now.servers c.execute-in-LoseReply.new.self c.args.cloud.0 e.0 e.1 e.2 lt (g.V.Shelf.cloud_at c.args.self.now.shelf.now) (g.V.Shelf.cloud_at c.execute-in-LoseReply.new.shelf) _ _ c.args.request.now c.execute-in-LoseReply.new.reply e.3 at asked p is),
       tt,
     )

@@ -1,6 +1,6 @@
 use Rattle.std.proofs.lemmas.Bool.{ltb-true}
 use Rattle.local_link.proofs.Standing.{rest_by, others_by, full_same, here_now}
-use Rattle.local_link.proofs.Calling.{reopens, opens_here, shut_here, not_begun_here, counts_here, untold_here, opened_images}
+use Rattle.local_link.proofs.Calling.{reopens, loaded_here, whole_here, opens_here, shut_here, not_begun_here, counts_here, untold_here, opened_images}
 use Rattle.local_link.proofs.link.LocalLink.reopen.Goals as goal
 
 pub returns-clause-peer : goal.returns-clause-peer
@@ -57,3 +57,18 @@ returns-clause-counts g c =
     let e = c.reopen.ensures in
     counts_here c.args.self.now.servers c.reopen.new.self c.args.cloud.0 e.0 e.1 e.2 (ltb-true c.args.cloud.0 c.args.self.now.servers.shape.n c.requires)
     (g.V.Shelf.cloud_at c.args.self.now.shelf.now) (g.V.Shelf.cloud_at c.reopen.new.shelf) _ _ c.args.begin c.reopen.result e.3
+
+pub returns-clause-loaded : goal.returns-clause-loaded
+returns-clause-loaded g c told list stands =
+    let e = c.reopen.ensures in
+    loaded_here c.args.self.now.servers c.reopen.new.self c.args.cloud.0 e.0 e.1 e.2 (ltb-true c.args.cloud.0 c.args.self.now.servers.shape.n c.requires)
+    (g.V.Shelf.cloud_at c.args.self.now.shelf.now) (g.V.Shelf.cloud_at c.reopen.new.shelf) _ _ c.args.begin c.reopen.result e.3 told list stands
+
+pub returns-clause-whole : goal.returns-clause-whole
+returns-clause-whole g c told list stands =
+    let e = c.reopen.ensures in
+    whole_here c.args.self.now.servers c.reopen.new.self c.args.cloud.0 e.0 e.1 e.2 (ltb-true c.args.cloud.0 c.args.self.now.servers.shape.n c.requires)
+    (g.V.Shelf.cloud_at c.args.self.now.shelf.now) (g.V.Shelf.cloud_at c.reopen.new.shelf) _ _ c.args.begin c.reopen.result e.3 told list stands
+
+pub returns-clause-begins : goal.returns-clause-begins
+returns-clause-begins g c = c.reopen.ensures.3.begins

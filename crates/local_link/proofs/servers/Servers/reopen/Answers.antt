@@ -19,6 +19,9 @@ returns g c = (
     counts = c.reopen.ensures.counts;
     not_begun = c.reopen.ensures.not_begun;
     peer = c.reopen.ensures.peer;
+    begins = c.reopen.ensures.begins;
+    whole = c.reopen.ensures.whole;
+    loaded = c.reopen.ensures.loaded;
     images = c.reopen.ensures.kept;
     call = c.reopen.ensures.call;
   },

@@ -1,4 +1,4 @@
-use Rattle.share_server.proofs.Openings.{reopens}
+use Rattle.share_server.proofs.Openings.{reopens, loads}
 use Rattle.share_server.proofs.Peers.{lists_of, images_among}
 use Rattle.share_server.proofs.server.Server.reopen.Goals as goal
 
@@ -9,3 +9,8 @@ returns-clause-peer g c p told serving =
     let now = images_among p c0 old.header serving.stands.images in
     reopens old c.reopen.new.state c0 c1 p c.args.begin serving d.same c.reopen.result (g.V.Shelf.faults shelf) (g.V.Shelf.faults c.reopen.new.shelf)
     (g.met.V.Shelf.reads_image shelf number told) d.shut d.call.armings (d.kept told (lists_of p) now) (d.opened told (lists_of p) now) (d.whole told) (d.not_begun told) d.counts
+
+pub returns-clause-loaded : goal.returns-clause-loaded
+returns-clause-loaded g c told list stands =
+    let old = c.args.self.now.state in let d = c.reopen.ensures in
+    loads old c.reopen.new.state (g.V.Shelf.cloud_at c.reopen.new.shelf old.header.cloud.0) list c.reopen.result d.same (d.loaded told list stands)

@@ -1,0 +1,207 @@
+-- Asks that add nothing, one after another.
+use Rattle.std.proofs.Common.{◌≡◌, ℕ, ◌<◌, Bool, List, [], ◌∷◌, ◌++◌, Option, Some, None, Result, Ok, Err, refl, sym, ap, ◌∙◌, subst, inl, inr, ◌⊎◌, append-nil}
+use Rattle.std.specs.Prelude.{◌≢◌, IsTrue, IsSomeAnd, option_to_list}
+use Rattle.std.specs.Bool.{MatchBool}
+use Rattle.std.specs.List.{Contains}
+use Rattle.std.proofs.lemmas.Bool.{cases_eq}
+use Rattle.cd_base.specs.declared.shape.Shape.{Shape}
+use Rattle.cd_edges.specs.Disk.{Cloud}
+use Rattle.cd_edges.proofs.Moments.{started, joined, weaker, left_alone}
+use Rattle.commit_journal.specs.declared.header.Header.{Header}
+use Rattle.messages.specs.declared.request.Request.{Request}
+use Rattle.messages.specs.declared.request.Request.TheVariants as requests
+use Rattle.messages.specs.declared.reply.Reply.{Reply}
+use Rattle.user_dedup.specs.declared.command.Command.{Command}
+use Rattle.user_dedup.specs.Dedup.{FullRoom}
+use Rattle.user_dedup.specs.Requests.{asked_at, HasRecipe}
+use Rattle.user_dedup.specs.Exec.{Peer, MaySettleAs, Stays, CountsOn, Exec, ExecTold, ExecUntold, IsCut, served}
+use Rattle.user_dedup.proofs.Asked.{asked_law}
+use Rattle.cloud_store.specs.Standing.{StandsForSome, ImagesNow, ImagesSince, MayBecome}
+use Rattle.share_server.specs.declared.server.Server.{Server}
+use Rattle.share_server.specs.Serving.{IsServing}
+use Rattle.local_link.specs.declared.link.LocalLink.{LocalLink}
+use Rattle.local_link.specs.Tells.{server_at, full_by, IsPeer, LeavesRest, serving_at, StandsAt, PassesOn, telling}
+use Rattle.user_dedup.specs.Link.{Exchange, exchange_of, AddsNothing, Passes, ReadsFrom, LeavesOthers, Asks, serves}
+use Rattle.cd_base.specs.Reading.{AreBytes}
+use Rattle.local_link.specs.declared.fate.Fate.TheVariants.{Deliver}
+use Rattle.local_link.specs.Calls.{header_of}
+use Rattle.local_link.proofs.Standing.{some_server, known_of, header_same, peer_moves}
+
+-- ---- what adds nothing
+
+adds_none : (shape : Shape) (cloud : ℕ) (full : List Command → Command → Option FullRoom) (list : List Command) (r : Request) → AddsNothing r → (served shape cloud full list r).adds ≡ None
+adds_none shape cloud full list requests.Hello none = refl
+adds_none shape cloud full list (requests.Query user fps) none = refl
+adds_none shape cloud full list (requests.Put user shares) none = absurd none
+adds_none shape cloud full list (requests.Commit user tag version recipe) none = absurd none
+adds_none shape cloud full list (requests.GetRecipe user tag version) none = refl
+adds_none shape cloud full list (requests.GetShares user fps) none = refl
+adds_none shape cloud full list (requests.List user after) none = refl
+
+has_recipe : (shape : Shape) (r : Request) → AddsNothing r → HasRecipe shape r
+has_recipe shape requests.Hello none = tt
+has_recipe shape (requests.Query user fps) none = tt
+has_recipe shape (requests.Put user shares) none = absurd none
+has_recipe shape (requests.Commit user tag version recipe) none = absurd none
+has_recipe shape (requests.GetRecipe user tag version) none = tt
+has_recipe shape (requests.GetShares user fps) none = tt
+has_recipe shape (requests.List user after) none = tt
+
+module _ (shape : Shape) (cloud : ℕ) (full : List Command → Command → Option FullRoom) (r : Request) (none : AddsNothing r) where
+  becomes : (p : Peer) (list : List Command) → MayBecome (served shape cloud full) p r list → MaySettleAs p list
+  becomes p list (inl settles) = settles
+  becomes p list (inr x) = absurd (let f : None ≡ Some x.1 = sym (adds_none shape cloud full x.0 r none) ∙ x.3 in cc)
+
+  nothing_pending : (p : Peer) (list : List Command) → p.pending ≡ None → MaySettleAs p list → list ≡ p.list
+  nothing_pending p list is (inl same) = same
+  nothing_pending p list is (inr some) = absurd (subst (λ (o : Option Command). IsSomeAnd o (λ command. list ≡ p.list ++ command ∷ [])) is some)
+
+  stays_in : (p q : Peer) → Stays p q → (list : List Command) → MaySettleAs q list → MaySettleAs p list
+  stays_in p q stays list (inl same) = inl (same ∙ stays.list)
+  stays_in p q stays list (inr some) =
+      inr (subst (λ (l : List Command). IsSomeAnd p.pending (λ command. list ≡ l ++ command ∷ [])) stays.list
+      (subst (λ (o : Option Command). IsSomeAnd o (λ command. list ≡ q.list ++ command ∷ [])) stays.pending some))
+
+  executed_in : (p q : Peer) (answer : Reply) → ExecTold (served shape cloud full) p r answer q → (list : List Command) → MaySettleAs q list → MaySettleAs p list
+  executed_in p q answer (inl a) list settles =
+      let is = nothing_pending q list a.pending settles in
+      let same : q.list ≡ a.before = a.list ∙ ap (λ (o : Option Command). a.before ++ option_to_list o) (adds_none shape cloud full a.before r none) ∙ append-nil a.before in
+      subst (MaySettleAs p) (sym (is ∙ same)) a.settled
+  executed_in p q answer (inr f) list settles = failed f.left
+    where
+      failed : Stays p q ⊎ IsCut (served shape cloud full) p r q → MaySettleAs p list
+      failed (inl stays) = stays_in p q stays list settles
+      failed (inr cut) = subst (MaySettleAs p) (sym (nothing_pending q list (cut.pending ∙ adds_none shape cloud full q.list r none) settles)) cut.list
+
+-- ---- the chain
+
+module _ {V : Type 0} (clouds : V → ℕ → Cloud) where
+  images_now : (link : LocalLink V) (cloud : ℕ) (p : Peer) → cloud < link.servers.shape.n → IsTrue (clouds link.shelf.now cloud).told → StandsAt clouds link cloud p
+      → ImagesNow (clouds link.shelf.now cloud) (header_of link.servers.shape cloud) (MaySettleAs p)
+  images_now link cloud p lt told is =
+      let here = some_server link.servers cloud lt in
+      let serving = known_of (server_at link.servers cloud) here.0 (λ (s : Server). IsServing s (clouds link.shelf.now cloud) p) here.1 (is.serving told) in
+      subst (λ (h : Header). ImagesNow (clouds link.shelf.now cloud) h (MaySettleAs p)) (header_same link.servers.shape cloud here.0 (link.servers.are_servers.each cloud here.0 here.1)) serving.stands.images
+
+  -- one ask, and what follows
+  read_step : (named : List ℕ) (e : Exchange) (old mid new : LocalLink V) (cloud : ℕ) (p : Peer) → ReadsFrom named e → PassesOn clouds old e mid → cloud < old.servers.shape.n
+      → IsTrue (clouds old.shelf.now cloud).told → StandsAt clouds old cloud p
+      → ((q : Peer) → cloud < mid.servers.shape.n → IsTrue (clouds mid.shelf.now cloud).told → StandsAt clouds mid cloud q
+      → ImagesSince (clouds mid.shelf.now cloud) (clouds new.shelf.now cloud) (header_of mid.servers.shape cloud) (MaySettleAs q))
+      → ImagesSince (clouds old.shelf.now cloud) (clouds new.shelf.now cloud) (header_of old.servers.shape cloud) (MaySettleAs p)
+  read_step named e old mid new cloud p reads step lt told is more = by_cloud (cases_eq cloud e.cloud)
+    where
+      header : Header
+      header = header_of old.servers.shape cloud
+
+      r : Request
+      r = reads.1.0
+
+      none : AddsNothing r
+      none = reads.1.2
+
+      asked : asked_at old.servers.shape e.content ≡ Ok r
+      asked = (asked_law old.servers.shape e.content r step.bytes).1 (record { asked = reads.1.1; recipe = has_recipe old.servers.shape r none })
+
+      goes_on : (q : Peer) → StandsAt clouds mid cloud q → ((list : List Command) → MaySettleAs q list → MaySettleAs p list)
+          → ImagesSince (clouds old.shelf.now cloud) (clouds mid.shelf.now cloud) header (MaySettleAs p)
+          → ImagesSince (clouds old.shelf.now cloud) (clouds new.shelf.now cloud) header (MaySettleAs p)
+      goes_on q stands fewer first =
+          let rest = more q (subst (λ (s : Shape). cloud < s.n) (sym step.rest.shape_stays) lt) (subst (λ (b : Bool). IsTrue b) (sym (step.rest.told_stays cloud)) told) stands in
+          let rest_here = subst (λ (s : Shape). ImagesSince (clouds mid.shelf.now cloud) (clouds new.shelf.now cloud) (header_of s cloud) (MaySettleAs q)) step.rest.shape_stays rest in
+          joined (clouds old.shelf.now cloud) (clouds mid.shelf.now cloud) (clouds new.shelf.now cloud) (StandsForSome header (MaySettleAs p)) first
+          (weaker (clouds mid.shelf.now cloud) (clouds new.shelf.now cloud) (StandsForSome header (MaySettleAs q)) (StandsForSome header (MaySettleAs p)) rest_here (λ image some. (some.0, fewer some.0 some.1, some.2)))
+
+      fewer : (q : Peer) → IsTrue (clouds old.shelf.now e.cloud).told → (Stays p q × CountsOn p q) ⊎ ((answer : Reply) × Exec old.servers.shape (clouds old.shelf.now e.cloud).told (serving_at old e.cloud) p r answer q)
+          → (list : List Command) → MaySettleAs q list → MaySettleAs p list
+      fewer q t (inl x) = stays_in old.servers.shape e.cloud (full_by (server_at old.servers e.cloud)) r none p q x.0
+      fewer q t (inr x) =
+          executed_in old.servers.shape e.cloud (full_by (server_at old.servers e.cloud)) r none p q x.0
+          (subst (λ (b : Bool). MatchBool b (ExecTold (serving_at old e.cloud) p r x.0 q) (ExecUntold old.servers.shape p r x.0 q)) t x.1.does)
+
+      at_asked : StandsAt clouds old e.cloud p → IsTrue (clouds old.shelf.now e.cloud).told → (q : Peer) × StandsAt clouds mid e.cloud q × ((list : List Command) → MaySettleAs q list → MaySettleAs p list)
+          × ImagesSince (clouds old.shelf.now e.cloud) (clouds mid.shelf.now e.cloud) (header_of old.servers.shape e.cloud) (MaySettleAs p)
+      at_asked stands t =
+          let x = step.goes p r asked stands in (
+            x.0,
+            x.1,
+            fewer x.0 t x.2,
+            weaker (clouds old.shelf.now e.cloud) (clouds mid.shelf.now e.cloud) _ (StandsForSome (header_of old.servers.shape e.cloud) (MaySettleAs p)) (step.images p r t stands asked)
+                (λ image some. (some.0, becomes old.servers.shape e.cloud (full_by (server_at old.servers e.cloud)) r none p some.0 some.1, some.2)),
+          )
+
+      asked_cloud : cloud ≡ e.cloud → ImagesSince (clouds old.shelf.now cloud) (clouds new.shelf.now cloud) header (MaySettleAs p)
+      asked_cloud same =
+          let P : ℕ → Type 0 = λ n. StandsAt clouds old n p → IsTrue (clouds old.shelf.now n).told → (q : Peer) × StandsAt clouds mid n q × ((list : List Command) → MaySettleAs q list → MaySettleAs p list)
+          × ImagesSince (clouds old.shelf.now n) (clouds mid.shelf.now n) (header_of old.servers.shape n) (MaySettleAs p) in
+          let x = subst P (sym same) at_asked is told in
+          goes_on x.0 x.1 x.2 x.3
+
+      by_cloud : (cloud ≡ e.cloud) ⊎ (cloud ≢ e.cloud) → ImagesSince (clouds old.shelf.now cloud) (clouds new.shelf.now cloud) header (MaySettleAs p)
+      by_cloud (inl same) = asked_cloud same
+      by_cloud (inr ne) =
+          goes_on p
+          (subst (λ (s : Shape). IsPeer s cloud (clouds mid.shelf.now cloud) (server_at mid.servers cloud) p) (sym step.rest.shape_stays)
+          (peer_moves old.servers.shape cloud (clouds old.shelf.now cloud) (clouds mid.shelf.now cloud) (server_at old.servers cloud) (server_at mid.servers cloud) p (step.rest.clouds_stay cloud ne) (step.rest.servers_stay cloud ne) is))
+          (λ list settles. settles)
+          (left_alone (clouds old.shelf.now cloud) (clouds mid.shelf.now cloud) (StandsForSome header (MaySettleAs p)) (step.rest.clouds_stay cloud ne) (images_now old cloud p lt told is))
+
+  -- each image since then stands for a list that the cloud might have settled as
+  pub read_images : (named : List ℕ) (es : List Exchange) (old new : LocalLink V) (cloud : ℕ) (p : Peer) → Passes (telling clouds) (ReadsFrom named) old es new → cloud < old.servers.shape.n
+      → IsTrue (clouds old.shelf.now cloud).told → StandsAt clouds old cloud p
+      → ImagesSince (clouds old.shelf.now cloud) (clouds new.shelf.now cloud) (header_of old.servers.shape cloud) (MaySettleAs p)
+  read_images named [] old new cloud p same lt told is =
+      subst (λ (l : LocalLink V). ImagesSince (clouds old.shelf.now cloud) (clouds l.shelf.now cloud) (header_of old.servers.shape cloud) (MaySettleAs p)) (sym same)
+      (started (clouds old.shelf.now cloud) (StandsForSome (header_of old.servers.shape cloud) (MaySettleAs p)) (images_now old cloud p lt told is))
+  read_images named (e ∷ es) old new cloud p chain lt told is =
+      read_step named e old chain.1.0 new cloud p chain.0 chain.1.1 lt told is (λ q below t stands. read_images named es chain.1.0 new cloud q chain.1.2 below t stands)
+
+  -- the clouds that aren't named are as they were
+  pub read_others : (named : List ℕ) (es : List Exchange) (old new : LocalLink V) (cloud : ℕ) → Passes (telling clouds) (ReadsFrom named) old es new → (Contains named cloud → ⊥) → clouds new.shelf.now cloud ≡ clouds old.shelf.now cloud
+  read_others named [] old new cloud same not = ap (λ (l : LocalLink V). clouds l.shelf.now cloud) same
+  read_others named (e ∷ es) old new cloud chain not =
+      read_others named es chain.1.0 new cloud chain.1.2 not ∙ chain.1.1.rest.clouds_stay cloud (λ same. not (subst (Contains named) (sym same) chain.0.0))
+
+  -- it is the same shelf
+  pub read_same : (named : List ℕ) (es : List Exchange) (old new : LocalLink V) → Passes (telling clouds) (ReadsFrom named) old es new → new.shelf.ghost_name ≡ old.shelf.ghost_name
+  read_same named [] old new same = ap (λ (l : LocalLink V). l.shelf.ghost_name) same
+  read_same named (e ∷ es) old new chain = read_same named es chain.1.0 new chain.1.2 ∙ chain.1.1.same_reference
+
+-- ---- one ask
+
+pub passes_by : {V E : Type 0} (clouds : V → ℕ → Cloud) (old new : LocalLink V) (cloud : ℕ) (content reply : List ℕ) (result : Result (Unit {0}) E) → cloud < old.servers.shape.n → AreBytes content
+    → LeavesRest clouds cloud old new → LeavesOthers (telling clouds) cloud old new → new.fate ≡ Deliver → new.shelf.ghost_name ≡ old.shelf.ghost_name
+    → ((r : Request) → asked_at old.servers.shape content ≡ Ok r → Asks (telling clouds) cloud old r reply result new)
+    → ((p : Peer) (r : Request) → IsTrue (clouds old.shelf.now cloud).told → StandsAt clouds old cloud p → asked_at old.servers.shape content ≡ Ok r
+    → IsSomeAnd (server_at old.servers cloud) (λ (s : Server). ImagesSince (clouds old.shelf.now cloud) (clouds new.shelf.now cloud) s.state.header (MayBecome (serves (telling clouds) old cloud) p r)))
+    → PassesOn clouds old (exchange_of cloud content result reply) new
+passes_by {E = E} clouds old new cloud content reply result lt bytes rest others fate same exec images = by_result result exec
+  where
+    image : (p : Peer) (r : Request) → IsTrue (clouds old.shelf.now cloud).told → StandsAt clouds old cloud p → asked_at old.servers.shape content ≡ Ok r
+        → ImagesSince (clouds old.shelf.now cloud) (clouds new.shelf.now cloud) (header_of old.servers.shape cloud) (MayBecome (serving_at old cloud) p r)
+    image p r told is asked =
+        let here = some_server old.servers cloud lt in
+        let x = known_of (server_at old.servers cloud) here.0 (λ (s : Server). ImagesSince (clouds old.shelf.now cloud) (clouds new.shelf.now cloud) s.state.header (MayBecome (serving_at old cloud) p r)) here.1 (images p r told is asked) in
+        subst (λ (h : Header). ImagesSince (clouds old.shelf.now cloud) (clouds new.shelf.now cloud) h (MayBecome (serving_at old cloud) p r)) (header_same old.servers.shape cloud here.0 (old.servers.are_servers.each cloud here.0 here.1)) x
+
+    by_result : (result : Result (Unit {0}) E) → ((r : Request) → asked_at old.servers.shape content ≡ Ok r → Asks (telling clouds) cloud old r reply result new) → PassesOn clouds old (exchange_of cloud content result reply) new
+    by_result (Ok u) exec = record {
+      reached = lt;
+      bytes = bytes;
+      rest = rest;
+      full = ap (λ (f : ℕ → List Command → Command → Option FullRoom). f cloud) others.full;
+      fate = fate;
+      same_reference = same;
+      goes = λ p r asked is. let x = exec r asked p is in (x.0, x.1, inr (x.2.0, x.2.2));
+      images = image;
+    }
+    by_result (Err e) exec = record {
+      reached = lt;
+      bytes = bytes;
+      rest = rest;
+      full = ap (λ (f : ℕ → List Command → Command → Option FullRoom). f cloud) others.full;
+      fate = fate;
+      same_reference = same;
+      goes = λ p r asked is. let x = exec r asked p is in (x.0, x.1, x.2);
+      images = image;
+    }

@@ -1,0 +1,11 @@
+use Rattle.local_link.proofs.Passing.{read_images, read_others, read_same}
+use Rattle.local_link.proofs.link.law_of_readings.Goals as goal
+
+pub returns-clause-images : goal.returns-clause-images
+returns-clause-images g c = read_images g.V.Shelf.cloud_at
+
+pub returns-clause-others : goal.returns-clause-others
+returns-clause-others g c = read_others g.V.Shelf.cloud_at
+
+pub returns-clause-same_reference : goal.returns-clause-same_reference
+returns-clause-same_reference g c = read_same g.V.Shelf.cloud_at
