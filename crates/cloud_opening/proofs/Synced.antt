@@ -73,3 +73,7 @@ pub others_on : {E : Type 0} (result : Result (Unit {0}) E) (c0 c1 c2 : Cloud) �
     → OnOk result ((other : Area) → other ≢ Journal → c2.now other ≡ stable (c0.now other).read)
 others_on (Ok value) c0 c1 c2 synced second = λ other ne. second other ne ∙ synced_at c0 c1 synced other
 others_on (Err e) c0 c1 c2 synced second = tt
+
+-- the records are only read
+pub still_synced : {T : Type 0} (result : Result T OpenErr) (c0 c1 c2 : Cloud) → AreSynced c0 c1 → Stays c1 c2 → OnFault result (Unit {0}) (AreSynced c0 c2)
+still_synced result c0 c1 c2 synced stays = of_all result (AreSynced c0 c2) (none_behind c0 c1 c2 synced stays)

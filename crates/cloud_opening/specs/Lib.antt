@@ -1,4 +1,5 @@
 pub mod Exact
 pub mod Replied
+pub mod Spared
 pub mod Steps
 pub mod Synced

@@ -29,6 +29,8 @@ pub(crate) fn open_journal<V: Shelf>(
     ensures synced { IsTrue (V.cloud_at shelf.old header.now.cloud.0).told → OnFault result (Unit {0}) (BeginsSynced (V.cloud_at shelf.old header.now.cloud.0) (V.cloud_at shelf.new header.now.cloud.0)) }
     ensures unasked { IsTrue (V.cloud_at shelf.old header.now.cloud.0).told → begin ≡ false
         → OnFault result (Unit {0}) (AreSynced (V.cloud_at shelf.old header.now.cloud.0) (V.cloud_at shelf.new header.now.cloud.0)) }
+    ensures begun_stays { IsTrue (V.cloud_at shelf.old header.now.cloud.0).told → is_begun ((V.cloud_at shelf.old header.now.cloud.0).now Area.Journal).read ≡ true
+        → OnFault result (Unit {0}) (AreSynced (V.cloud_at shelf.old header.now.cloud.0) (V.cloud_at shelf.new header.now.cloud.0)) }
     ensures opened { IsTrue (V.cloud_at shelf.old header.now.cloud.0).told
         → OnOk result (IsReading (state_of journal.new) ((V.cloud_at shelf.new header.now.cloud.0).now Area.Journal) (header_bytes header.now ∷ [])) }
     ensures begun { IsTrue (V.cloud_at shelf.old header.now.cloud.0).told → is_begun ((V.cloud_at shelf.old header.now.cloud.0).now Area.Journal).read ≡ true

@@ -3,12 +3,13 @@
 ghost use Rattle.std.specs.Prelude.{◌≡◌, ◌≢◌, ℕ, ◌≤◌, [], ◌∷◌, List, length, true, IsTrue, IfOk, OnOk};
 ghost use Rattle.std.specs.List.{Contains};
 ghost use Rattle.cd_edges.specs.declared.area.Area.{Area};
-ghost use Rattle.cd_edges.specs.Disk.{reads};
+ghost use Rattle.cd_edges.specs.Disk.{LeavesOnly, reads};
 ghost use Rattle.cd_edges.specs.Shelf.{IsCall, HasFailed, KeepsCounts, Stays};
 ghost use Rattle.commit_journal.specs.declared.header.Header.{Header};
 ghost use Rattle.commit_journal.specs.declared.journal.Stage.{Stage};
 ghost use Rattle.commit_journal.specs.Headers.{header_bytes, IsWritten};
-ghost use Rattle.commit_journal.specs.Openings.{HasBegun, IsAtFirstGate, OnFault};
+ghost use Rattle.commit_journal.specs.Records.{is_begun};
+ghost use Rattle.commit_journal.specs.Openings.{HasBegun, IsAtFirstGate, MayBecome, OnFault};
 ghost use Rattle.commit_journal.specs.States.{state_of, IsReading};
 ghost use Rattle.user_dedup.specs.declared.command.Command.{Command};
 ghost use Rattle.user_dedup.specs.Dedup.{IsSound};
@@ -19,7 +20,7 @@ ghost use Rattle.cloud_index.specs.Memory.{Remembers, HasRooms};
 ghost use Rattle.cloud_opening.specs.Exact.{Opens, lengths_of};
 ghost use Rattle.cloud_opening.specs.Replied.{IsOkOrFault, HasMemory, MayBegin, NotBegunIs, OtherStoreIs};
 ghost use Rattle.cloud_opening.specs.Steps.{IsBetween, stage_after, AllIs, HeaderAs, IsLoaded, IsOfRecords};
-ghost use Rattle.cloud_opening.specs.Synced.{BeginsSynced};
+ghost use Rattle.cloud_opening.specs.Synced.{AreSynced, BeginsSynced};
 
 use crate::journal::open_journal;
 use crate::records::{area_lengths, replay_all};
@@ -90,6 +91,11 @@ pub(crate) fn load<V: Shelf>(
     requires rooms { HasRooms rooms.now index.old }
     ensures kept { IsTrue (V.cloud_at shelf.old header.now.cloud.0).told → (lists : List (List Command)) → ImagesNow (V.cloud_at shelf.old header.now.cloud.0) header.now (Contains lists)
         → ImagesSince (V.cloud_at shelf.old header.now.cloud.0) (V.cloud_at shelf.new header.now.cloud.0) header.now (Contains lists) }
+    ensures any_moment { IsTrue (V.cloud_at shelf.old header.now.cloud.0).told → LeavesOnly (V.cloud_at shelf.old header.now.cloud.0) (V.cloud_at shelf.new header.now.cloud.0)
+        (MayBecome (V.cloud_at shelf.old header.now.cloud.0).now header.now begin) }
+    ensures begun_stays { IsTrue (V.cloud_at shelf.old header.now.cloud.0).told → is_begun ((V.cloud_at shelf.old header.now.cloud.0).now Area.Journal).read ≡ true
+        → OnFault result (Unit {0}) (AreSynced (V.cloud_at shelf.old header.now.cloud.0) (V.cloud_at shelf.new header.now.cloud.0)) }
+    ensures still_read { IsTrue (V.cloud_at shelf.old header.now.cloud.0).told → MayBecome (V.cloud_at shelf.old header.now.cloud.0).now header.now begin (reads (V.cloud_at shelf.new header.now.cloud.0).now) }
     ensures opened { IsTrue (V.cloud_at shelf.old header.now.cloud.0).told → (lists : List (List Command)) → ImagesNow (V.cloud_at shelf.old header.now.cloud.0) header.now (Contains lists)
         → IfOk result (λ commands. (list : List Command) × Contains lists list × (commands ≡ length list) × IsLoaded header.now list rooms.now (state_of journal.new) (V.cloud_at shelf.new header.now.cloud.0) index.new) }
     ensures loaded { IsTrue (V.cloud_at shelf.old header.now.cloud.0).told → (list : List Command) → StandsFor (reads (V.cloud_at shelf.old header.now.cloud.0).now) header.now list

@@ -1,12 +1,13 @@
 //! The opening of a cloud.
 
-ghost use Rattle.std.specs.Prelude.{◌≡◌, ◌≢◌, ℕ, List, [], length, IsTrue, IfOk, OnOk, OnErr};
+ghost use Rattle.std.specs.Prelude.{◌≡◌, ◌≢◌, ℕ, List, [], length, true, IsTrue, IfOk, OnOk, OnErr};
 ghost use Rattle.std.specs.List.{Contains};
 ghost use Rattle.cd_edges.specs.declared.area.Area.{Area};
-ghost use Rattle.cd_edges.specs.Disk.{reads};
+ghost use Rattle.cd_edges.specs.Disk.{LeavesOnly, reads};
 ghost use Rattle.cd_edges.specs.Shelf.{IsCall, HasFailed, KeepsCounts};
 ghost use Rattle.commit_journal.specs.declared.journal.Stage.TheVariants.{Shut};
-ghost use Rattle.commit_journal.specs.Openings.{HasBegun, OnFault};
+ghost use Rattle.commit_journal.specs.Records.{is_begun};
+ghost use Rattle.commit_journal.specs.Openings.{HasBegun, MayBecome, OnFault};
 ghost use Rattle.user_dedup.specs.declared.command.Command.{Command};
 ghost use Rattle.cloud_store.specs.Space.{IsWithin};
 ghost use Rattle.cloud_store.specs.Standing.{ImagesNow, ImagesSince};
@@ -15,7 +16,7 @@ ghost use Rattle.cloud_state.specs.State.{IsOpen, IsSettled, IsSameServer, Agree
 ghost use Rattle.cloud_opening.specs.Exact.{Opens};
 ghost use Rattle.cloud_opening.specs.Replied.{IsOkOrFault, HasMemory, MayBegin, NotBegunIs, OtherStoreIs};
 ghost use Rattle.cloud_opening.specs.Steps.{EndAt};
-ghost use Rattle.cloud_opening.specs.Synced.{BeginsSynced};
+ghost use Rattle.cloud_opening.specs.Synced.{AreSynced, BeginsSynced};
 
 use crate::loading::load;
 use cd_edges::Shelf;
@@ -34,6 +35,10 @@ fn set_ends(log: &mut CommandLog, shares_end: u64, recipes_end: u64)
 /// Opens the cloud: syncs Journal, Shares and Recipes in this order, reads the journal from its header on, or begins it where it
 /// isn't begun and `begin` is true, and takes each record into the memory, which forgets what it had. Answers how many commands
 /// there are: the records behind the header.
+///
+/// Whatever the areas hold, damaged or another store's: a crash at any moment leaves what it might have left before, and the areas
+/// read as that too, but where an unbegun journal is begun: there it may leave the journal unbegun or with this header alone. A
+/// begun journal is never written: after any answer but Fault the three syncs were made, and nothing else.
 ///
 /// Whenever a crash comes, and after an Err too, each image of the cloud stands for one of the lists that the images stood for
 /// before. After Ok requests may be executed, over the list that what the areas read stands for. After an Err none may: only
@@ -56,6 +61,12 @@ pub fn reopen<V: Shelf>(state: &mut CloudState, shelf: &mut V, begin: bool) -> R
 
     ensures kept { IsTrue (V.cloud_at shelf.old state.old.header.cloud.0).told → (lists : List (List Command)) → ImagesNow (V.cloud_at shelf.old state.old.header.cloud.0) state.old.header (Contains lists)
         → ImagesSince (V.cloud_at shelf.old state.old.header.cloud.0) (V.cloud_at shelf.new state.old.header.cloud.0) state.old.header (Contains lists) }
+    ensures any_moment { IsTrue (V.cloud_at shelf.old state.old.header.cloud.0).told → LeavesOnly (V.cloud_at shelf.old state.old.header.cloud.0) (V.cloud_at shelf.new state.old.header.cloud.0)
+        (MayBecome (V.cloud_at shelf.old state.old.header.cloud.0).now state.old.header begin) }
+    ensures begun_stays { IsTrue (V.cloud_at shelf.old state.old.header.cloud.0).told → is_begun ((V.cloud_at shelf.old state.old.header.cloud.0).now Area.Journal).read ≡ true
+        → OnFault result (Unit {0}) (AreSynced (V.cloud_at shelf.old state.old.header.cloud.0) (V.cloud_at shelf.new state.old.header.cloud.0)) }
+    ensures still_read { IsTrue (V.cloud_at shelf.old state.old.header.cloud.0).told
+        → MayBecome (V.cloud_at shelf.old state.old.header.cloud.0).now state.old.header begin (reads (V.cloud_at shelf.new state.old.header.cloud.0).now) }
     ensures opened { IsTrue (V.cloud_at shelf.old state.old.header.cloud.0).told → (lists : List (List Command)) → ImagesNow (V.cloud_at shelf.old state.old.header.cloud.0) state.old.header (Contains lists)
         → IfOk result (λ commands. (list : List Command) × Contains lists list × (commands ≡ length list) × Agrees state.new (V.cloud_at shelf.new state.old.header.cloud.0) list × IsWithin state.old.rooms list) }
     ensures loaded { IsTrue (V.cloud_at shelf.old state.old.header.cloud.0).told → (list : List Command) → StandsFor (reads (V.cloud_at shelf.old state.old.header.cloud.0).now) state.old.header list

@@ -21,7 +21,9 @@ use Rattle.user_dedup.specs.declared.command.Command.{Command}
 use Rattle.user_dedup.specs.Dedup.{IsSound, Begun}
 use Rattle.user_dedup.specs.Exec.{Peer, MaySettleAs, Settles, Stays as PeerStays, CountsOn, StandsSound}
 use Rattle.commit_journal.specs.Openings.{OnFault}
-use Rattle.cloud_opening.specs.Replied.{IsOkOrFault, MayBegin, NotBegunIs}
+use Rattle.cloud_opening.specs.Exact.{Opens}
+use Rattle.cloud_opening.specs.Replied.{IsOkOrFault, MayBegin, NotBegunIs, OtherStoreIs}
+use Rattle.cloud_opening.specs.Spared.{Spares}
 use Rattle.cloud_state.specs.State.{IsOpen}
 use Rattle.cloud_store.specs.Space.{IsWithin}
 use Rattle.cloud_store.specs.Standing.{ImagesNow, ImagesSince}
@@ -183,6 +185,26 @@ module _ (old_servers new_servers : Servers) (cloud : ℕ) (before after : Serve
 
   pub not_begun_here : IsTrue (old cloud).told → NotBegunIs (old cloud) (new cloud) begin result
   not_begun_here = let P : ℕ → Type 0 = λ n. IsTrue (old n).told → NotBegunIs (old n) (new n) begin result in subst P of.number_is x.not_begun
+
+  pub exact_here : IsTrue (old cloud).told
+      → IsSomeAnd (server_at old_servers cloud) (λ (s : Server). OnFault result (Unit {0}) (Opens (header_of old_servers.shape cloud) s.state.rooms begin (reads (old cloud).now) result))
+  exact_here told =
+      let P : ℕ → Type 0 = λ n. IsTrue (old n).told → OnFault result (Unit {0}) (Opens before.state.header before.state.rooms begin (reads (old n).now) result) in
+      said_of (server_at old_servers cloud) before (λ (s : Server). OnFault result (Unit {0}) (Opens (header_of old_servers.shape cloud) s.state.rooms begin (reads (old cloud).now) result)) put.here
+      (subst (λ (h : Header). OnFault result (Unit {0}) (Opens h before.state.rooms begin (reads (old cloud).now) result)) (header_same old_servers.shape cloud before of) (subst P of.number_is x.exact told))
+
+  pub other_here : IsTrue (old cloud).told → OtherStoreIs ((old cloud).now Journal).read (header_of old_servers.shape cloud) result
+  other_here told =
+      let P : ℕ → Type 0 = λ n. IsTrue (old n).told → OtherStoreIs ((old n).now Journal).read before.state.header result in
+      subst (λ (h : Header). OtherStoreIs ((old cloud).now Journal).read h result) (header_same old_servers.shape cloud before of) (subst P of.number_is x.other_store told)
+
+  pub areas_here : IsTrue (old cloud).told → Spares (header_of old_servers.shape cloud) begin (old cloud) (new cloud) result
+  areas_here told =
+      let P : ℕ → Type 0 = λ n. IsTrue (old n).told → Spares before.state.header begin (old n) (new n) result in
+      subst (λ (h : Header). Spares h begin (old cloud) (new cloud) result) (header_same old_servers.shape cloud before of) (subst P of.number_is x.areas told)
+
+  pub call_here : IsCall old new cloud faults_before faults_now
+  call_here = subst (λ (n : ℕ). IsCall old new n faults_before faults_now) of.number_is x.call
 
   pub untold_here : (p : Peer) → (old cloud).told ≡ false → IsPeer old_servers.shape cloud (old cloud) (server_at old_servers cloud) p
       → (q : Peer) × IsPeer new_servers.shape cloud (new cloud) (server_at new_servers cloud) q × PeerStays p q × CountsOn p q

@@ -1,10 +1,11 @@
 -- What executing a request does to the peer that a cloud stands as.
-use Rattle.std.proofs.Common.{◌≡◌, ℕ, ◌<◌, ◌≤◌, Bool, true, false, List, length, Option, Some, None, Ok, Err, refl, sym, ap, ◌∙◌, subst, arith, inl}
+use Rattle.std.proofs.Common.{◌≡◌, ◌⊎◌, ℕ, ◌<◌, ◌≤◌, Bool, true, false, List, length, Option, Some, None, Ok, Err, refl, sym, ap, ◌∙◌, subst, arith, inl}
 use Rattle.std.specs.Prelude.{IsTrue, IsSomeAnd}
 use Rattle.cd_base.specs.Reading.{AreBytes}
 use Rattle.cd_base.specs.declared.shape.Shape.{Shape}
 use Rattle.cd_edges.specs.Causes.{Rose}
 use Rattle.cd_edges.specs.Disk.{Cloud}
+use Rattle.cd_edges.specs.Shelf.{IsCall}
 use Rattle.cd_edges.proofs.Moments.{started}
 use Rattle.messages.specs.declared.request.Request.{Request}
 use Rattle.messages.specs.declared.reply.Reply.{Reply}
@@ -19,7 +20,8 @@ use Rattle.user_dedup.proofs.Execs.{keeps_sound}
 use Rattle.cloud_store.specs.Space.{full_for}
 use Rattle.cloud_store.specs.Standing.{StandsForSome, ImagesSince, MayBecome}
 use Rattle.share_server.specs.declared.server.Server.{Server}
-use Rattle.share_server.specs.Serving.{number_of, IsServing, server_serves}
+use Rattle.cloud_state.specs.State.{IsOpen}
+use Rattle.share_server.specs.Serving.{number_of, IsServing, server_serves, CanOpen, Refused}
 use Rattle.local_link.specs.declared.servers.Servers.{Servers}
 use Rattle.local_link.specs.declared.link.LocalLink.{LocalLink}
 use Rattle.local_link.specs.Members.{IsServerOf}
@@ -53,10 +55,25 @@ module _ (old_servers new_servers : Servers) (cloud : ℕ) (before after : Serve
       let P : ℕ → Shape → Type 0 = λ n s. IsTrue (old n).told → IsServing before (old n) p → asked_at s content ≡ Ok r → Executed before after (new n) p r reply in
       subst (λ (n : ℕ). P n old_servers.shape) of.number_is (subst (P (number_of before)) of.shape_is (x.exec p r))
 
-  replied_here : (r : Request) → asked_at old_servers.shape content ≡ Ok r → Replied old_servers.shape (old cloud) (new cloud) faults_before faults_now r reply
+  pub replied_here : (r : Request) → asked_at old_servers.shape content ≡ Ok r → Replied old_servers.shape (old cloud) (new cloud) faults_before faults_now r reply
   replied_here r =
       let P : ℕ → Shape → Type 0 = λ n s. asked_at s content ≡ Ok r → Replied s (old n) (new n) faults_before faults_now r reply in
       subst (λ (n : ℕ). P n old_servers.shape) of.number_is (subst (P (number_of before)) of.shape_is (x.untold r))
+
+  pub uncounted_here : (at : ℕ) → asked_at old_servers.shape content ≡ Err at → faults_now ≡ faults_before
+  uncounted_here at = subst (λ (s : Shape). asked_at s content ≡ Err at → faults_now ≡ faults_before) of.shape_is (x.uncounted at)
+
+  pub called_here : IsCall old new cloud faults_before faults_now
+  called_here = subst (λ (n : ℕ). IsCall old new n faults_before faults_now) of.number_is x.call
+
+  pub closed_here : (r : Request) → IsTrue (old cloud).told → asked_at old_servers.shape content ≡ Ok r
+      → IsSomeAnd (server_at old_servers cloud) (λ (s : Server). ¬ IsOpen s.state → CanOpen s.state (old cloud) ⊎ Refused s.state (old cloud) (new cloud) reply)
+  closed_here r told asked =
+      let P : ℕ → Shape → Type 0 = λ n s. IsTrue (old n).told → ¬ IsOpen before.state → asked_at s content ≡ Ok r → CanOpen before.state (old n) ⊎ Refused before.state (old n) (new n) reply in
+      let at_shape : P (number_of before) old_servers.shape = subst (P (number_of before)) of.shape_is (x.closed r) in
+      let at_cloud : P cloud old_servers.shape = subst (λ (n : ℕ). P n old_servers.shape) of.number_is at_shape in
+      said_of (server_at old_servers cloud) before (λ (s : Server). ¬ IsOpen s.state → CanOpen s.state (old cloud) ⊎ Refused s.state (old cloud) (new cloud) reply) put.here
+      (λ shut. at_cloud told shut asked)
 
   told_goes : (p : Peer) (r : Request) → AreBytes content → (old cloud).told ≡ true → IsPeer old_servers.shape cloud (old cloud) (server_at old_servers cloud) p → asked_at old_servers.shape content ≡ Ok r
       → GoesOn old_servers new_servers cloud (old cloud) (new cloud) p r reply
@@ -182,3 +199,25 @@ images_counted {V} clouds a b cloud old server P e is = subst (λ (l : LocalLink
 
 pub clouds_counted : {V : Type 0} (clouds : V → ℕ → Cloud) (a b : LocalLink V) (old : ℕ → Cloud) → b ≡ a → clouds a.shelf.now ≡ old → clouds b.shelf.now ≡ old
 clouds_counted {V} clouds a b old e is = ap (λ (l : LocalLink V). clouds l.shelf.now) e ∙ is
+
+-- ---- the calls on the clouds
+
+pub none_called : (clouds : ℕ → Cloud) (cloud faults : ℕ) → IsCall clouds clouds cloud faults faults
+none_called clouds cloud faults = record { others = λ other ne. refl; told = refl; armings = refl; later = omega arith; total_later = omega arith }
+
+pub calls_counted : {V : Type 0} (clouds : V → ℕ → Cloud) (faults : V → ℕ) (a b : LocalLink V) (cloud : ℕ) (old : ℕ → Cloud) (before : ℕ) → b ≡ a
+    → IsCall old (clouds a.shelf.now) cloud before (faults a.shelf.now) → IsCall old (clouds b.shelf.now) cloud before (faults b.shelf.now)
+calls_counted {V} clouds faults a b cloud old before e is = subst (λ (l : LocalLink V). IsCall old (clouds l.shelf.now) cloud before (faults l.shelf.now)) (sym e) is
+
+pub replied_counted : {V : Type 0} (clouds : V → ℕ → Cloud) (faults : V → ℕ) (a b : LocalLink V) (cloud : ℕ) (shape : Shape) (old : Cloud) (before : ℕ) (r : Request) (reply : List ℕ) → b ≡ a
+    → Replied shape old (clouds a.shelf.now cloud) before (faults a.shelf.now) r reply → Replied shape old (clouds b.shelf.now cloud) before (faults b.shelf.now) r reply
+replied_counted {V} clouds faults a b cloud shape old before r reply e is = subst (λ (l : LocalLink V). Replied shape old (clouds l.shelf.now cloud) before (faults l.shelf.now) r reply) (sym e) is
+
+pub closed_counted : {V : Type 0} (clouds : V → ℕ → Cloud) (a b : LocalLink V) (cloud : ℕ) (server : Option Server) (old : Cloud) (reply : List ℕ) → b ≡ a
+    → IsSomeAnd server (λ (s : Server). ¬ IsOpen s.state → CanOpen s.state old ⊎ Refused s.state old (clouds a.shelf.now cloud) reply)
+    → IsSomeAnd server (λ (s : Server). ¬ IsOpen s.state → CanOpen s.state old ⊎ Refused s.state old (clouds b.shelf.now cloud) reply)
+closed_counted {V} clouds a b cloud server old reply e is =
+    subst (λ (l : LocalLink V). IsSomeAnd server (λ (s : Server). ¬ IsOpen s.state → CanOpen s.state old ⊎ Refused s.state old (clouds l.shelf.now cloud) reply)) (sym e) is
+
+pub total_counted : {V : Type 0} (faults : V → ℕ) (a b : LocalLink V) (before : ℕ) → b ≡ a → faults a.shelf.now ≡ before → faults b.shelf.now ≡ before
+total_counted {V} faults a b before e is = ap (λ (l : LocalLink V). faults l.shelf.now) e ∙ is

@@ -1,5 +1,5 @@
 -- What a call does to one of the servers.
-use Rattle.std.specs.Prelude.{◌≡◌, ◌≢◌, ℕ, Bool, true, IsTrue, List, length, Some, Result, Ok, Err, IfOk, OnOk, OnErr, slice_set}
+use Rattle.std.specs.Prelude.{◌≡◌, ◌≢◌, ◌⊎◌, ℕ, Bool, true, IsTrue, List, length, Some, Result, Ok, Err, IfOk, OnOk, OnErr, slice_set}
 use Rattle.std.specs.List.{Contains}
 use Rattle.cd_base.specs.declared.rooms.Rooms.{Rooms}
 use Rattle.cd_base.specs.declared.shape.Shape.{Shape}
@@ -18,13 +18,15 @@ use Rattle.user_dedup.specs.declared.command.Command.{Command}
 use Rattle.user_dedup.specs.Requests.{asked_at}
 use Rattle.user_dedup.specs.Exec.{Peer, Exec, items_of}
 use Rattle.commit_journal.specs.Openings.{OnFault, HasBegun}
-use Rattle.cloud_opening.specs.Replied.{IsOkOrFault, MayBegin, NotBegunIs}
+use Rattle.cloud_opening.specs.Replied.{IsOkOrFault, MayBegin, NotBegunIs, OtherStoreIs}
+use Rattle.cloud_opening.specs.Exact.{Opens}
+use Rattle.cloud_opening.specs.Spared.{Spares}
 use Rattle.cloud_store.specs.Space.{IsWithin}
 use Rattle.cloud_state.specs.State.{IsOpen, IsSameServer}
 use Rattle.cloud_store.specs.Standing.{ImagesNow, ImagesSince, MayBecome}
 use Rattle.cloud_store.specs.Store.{StandsFor}
 use Rattle.share_server.specs.declared.server.Server.{Server}
-use Rattle.share_server.specs.Serving.{number_of, IsServing, server_serves, settled_with, ReopensAs}
+use Rattle.share_server.specs.Serving.{number_of, IsServing, server_serves, settled_with, ReopensAs, CanOpen, Refused}
 use Rattle.local_link.specs.declared.servers.Servers.{Servers}
 use Rattle.local_link.specs.Tells.{server_at}
 
@@ -59,6 +61,7 @@ pub record Replied (shape : Shape) (old new : Cloud) (faults_before faults_after
   pub kind : IsReplyTo (items_of shape request) request answer
   pub memory : answer ≢ replies.NoMemory
   pub fault : answer ≡ replies.Fault → HasFailed old new faults_before faults_after
+  pub still : answer ≢ replies.Fault → KeepsCounts old new faults_before faults_after
 
 -- A server executed the content, over the clouds of a shelf.
 pub record Executes (before after : Server) (old new : ℕ → Cloud) (faults_before faults_after : ℕ) (content reply : List ℕ) : Type 0 where
@@ -70,8 +73,11 @@ pub record Executes (before after : Server) (old new : ℕ → Cloud) (faults_be
       → ImagesSince (old (number_of before)) (new (number_of before)) before.state.header (MayBecome (server_serves before) p request)
   pub malformed : (at : ℕ) → asked_at before.state.header.shape content ≡ Err at
       → (reply ≡ reply_bytes (replies.Malformed at)) × (after ≡ before) × (new ≡ old)
+  pub uncounted : (at : ℕ) → asked_at before.state.header.shape content ≡ Err at → faults_after ≡ faults_before
   pub untold : (request : Request) → asked_at before.state.header.shape content ≡ Ok request
       → Replied before.state.header.shape (old (number_of before)) (new (number_of before)) faults_before faults_after request reply
+  pub closed : (request : Request) → IsTrue (old (number_of before)).told → ¬ IsOpen before.state → asked_at before.state.header.shape content ≡ Ok request
+      → CanOpen before.state (old (number_of before)) ⊎ Refused before.state (old (number_of before)) (new (number_of before)) reply
   pub call : IsCall old new (number_of before) faults_before faults_after
 
 -- A server was opened, over the clouds of a shelf.
@@ -86,6 +92,10 @@ pub record Reopens (before after : Server) (old new : ℕ → Cloud) (faults_bef
   pub not_begun : IsTrue (old (number_of before)).told → NotBegunIs (old (number_of before)) (new (number_of before)) begin result
   pub peer : (p : Peer) → IsTrue (old (number_of before)).told → IsServing before (old (number_of before)) p
       → (q : Peer) × IsServing after (new (number_of before)) q × ReopensAs begin p q result
+  pub exact : IsTrue (old (number_of before)).told
+      → OnFault result (Unit {0}) (Opens before.state.header before.state.rooms begin (reads (old (number_of before)).now) result)
+  pub other_store : IsTrue (old (number_of before)).told → OtherStoreIs ((old (number_of before)).now Journal).read before.state.header result
+  pub areas : IsTrue (old (number_of before)).told → Spares before.state.header begin (old (number_of before)) (new (number_of before)) result
   pub begins : IsTrue begin → HasBegun result
   pub whole : IsTrue (old (number_of before)).told → (list : List Command) → StandsFor (reads (old (number_of before)).now) before.state.header list → IsWithin before.state.rooms list
       → MayBegin ((old (number_of before)).now Journal).read begin → IsOkOrFault result

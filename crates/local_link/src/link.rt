@@ -31,10 +31,10 @@ pub struct LocalLink<'a, V: Shelf> {
 }
 
 impl<'a, V: Shelf> LocalLink<'a, V> {
-    ghost use Rattle.std.specs.Prelude.{◌≡◌, ◌≢◌, ◌↔◌, ℕ, false, ◌+◌, ◌-◌, ◌^◌, ◌<◌, ◌≤◌, List, [], length, min, IsTrue, IsOk, IfOk, OnOk, OnErr, IsSomeAnd, Some, Ok, Err, if◌then◌else◌};
+    ghost use Rattle.std.specs.Prelude.{◌≡◌, ◌≢◌, ◌⊎◌, ◌↔◌, ℕ, false, ◌+◌, ◌-◌, ◌^◌, ◌<◌, ◌≤◌, List, [], length, min, IsTrue, IsOk, IfOk, OnOk, OnErr, IsSomeAnd, Some, Ok, Err, if◌then◌else◌};
     ghost use Rattle.std.specs.List.{Contains};
     ghost use Rattle.cd_edges.specs.Causes.{Rose};
-    ghost use Rattle.cd_edges.specs.Shelf.{HasFailed, KeepsCounts, Arms};
+    ghost use Rattle.cd_edges.specs.Shelf.{IsCall, HasFailed, KeepsCounts, Arms};
     ghost use Rattle.commit_journal.specs.declared.journal.Stage.TheVariants.{Shut};
     ghost use Rattle.messages.specs.declared.request.Request.{Request};
     ghost use Rattle.messages.specs.declared.reply.Reply.{Reply};
@@ -44,18 +44,20 @@ impl<'a, V: Shelf> LocalLink<'a, V> {
     ghost use Rattle.user_dedup.specs.Link.{Asks, AsksNothing, LeavesOthers, Does, serves};
     ghost use Rattle.commit_journal.specs.Openings.{OnFault, HasBegun};
     ghost use Rattle.cd_edges.specs.declared.area.Area.TheVariants.{Journal};
-    ghost use Rattle.cloud_opening.specs.Replied.{IsOkOrFault, MayBegin, NotBegunIs};
+    ghost use Rattle.cloud_opening.specs.Replied.{IsOkOrFault, MayBegin, NotBegunIs, OtherStoreIs};
+    ghost use Rattle.cloud_opening.specs.Exact.{Opens};
+    ghost use Rattle.cloud_opening.specs.Spared.{Spares};
     ghost use Rattle.cloud_state.specs.State.{AreRooms, IsOpen};
     ghost use Rattle.cloud_store.specs.Space.{IsWithin};
     ghost use Rattle.cloud_store.specs.Standing.{ImagesNow, ImagesSince, MayBecome};
     ghost use Rattle.share_server.specs.declared.server.Server.{Server};
     ghost use Rattle.cd_base.specs.declared.rooms.Rooms.{Rooms};
-    ghost use Rattle.share_server.specs.Serving.{ReopensAs, settled_with};
+    ghost use Rattle.share_server.specs.Serving.{ReopensAs, settled_with, CanOpen, Refused};
     ghost use Rattle.cloud_store.specs.Store.{StandsFor};
     ghost use Rattle.cd_edges.specs.Disk.{reads};
     ghost use Rattle.local_link.specs.declared.fate.Fate.TheVariants.{Deliver, LoseRequest};
     ghost use Rattle.local_link.specs.Tells.{server_at, is_delivered, telling, LeavesRest};
-    ghost use Rattle.local_link.specs.Steps.{IsClosedIn};
+    ghost use Rattle.local_link.specs.Steps.{IsClosedIn, Replied};
     ghost use Rattle.local_link.specs.Calls.{header_of, MayServe, Replaces, Armed, WasBefore, no_commands};
 
     /// A link to the clouds of this shelf, over a closed server for each, all in these rooms. The next ask is delivered, and none was lost.
@@ -185,6 +187,17 @@ impl<'a, V: Shelf> LocalLink<'a, V> {
             → IsSomeAnd (server_at self.old.servers cloud.0) (λ server. IsWithin server.state.rooms list → MayBegin ((V.cloud_at self.old.shelf.now cloud.0).now Journal).read begin → IsOkOrFault result) }
         ensures begins { IsTrue begin → HasBegun result }
 
+        // The answer is what the bytes of the areas come to, record by record, unless a device call failed.
+        ensures exact { IsTrue ((telling V.cloud_at).told self.old cloud.0) → IsSomeAnd (server_at self.old.servers cloud.0) (λ server. OnFault result (Unit {0})
+            (Opens (header_of ((telling V.cloud_at).shape self.old) cloud.0) server.state.rooms begin (reads (V.cloud_at self.old.shelf.now cloud.0).now) result)) }
+        ensures other_store { IsTrue ((telling V.cloud_at).told self.old cloud.0)
+            → OtherStoreIs ((V.cloud_at self.old.shelf.now cloud.0).now Journal).read (header_of ((telling V.cloud_at).shape self.old) cloud.0) result }
+
+        // Whatever the areas hold, they are spared.
+        ensures areas { IsTrue ((telling V.cloud_at).told self.old cloud.0)
+            → Spares (header_of ((telling V.cloud_at).shape self.old) cloud.0) begin (V.cloud_at self.old.shelf.now cloud.0) (V.cloud_at self.new.shelf.now cloud.0) result }
+        ensures call { IsCall (V.cloud_at self.old.shelf.now) (V.cloud_at self.new.shelf.now) cloud.0 (V.faults self.old.shelf.now) (V.faults self.new.shelf.now) }
+
         // Where what the cloud reads stands for a list, the cloud stands for that list.
         ensures loaded { IsTrue ((telling V.cloud_at).told self.old cloud.0) → (list : List Command)
             → StandsFor (reads (V.cloud_at self.old.shelf.now cloud.0).now) (header_of ((telling V.cloud_at).shape self.old) cloud.0) list
@@ -217,6 +230,13 @@ impl<'a, V: Shelf> LocalLink<'a, V> {
         ensures fresh { IsSomeAnd (server_at self.old.servers cloud.0) (λ server. IsWithin server.state.rooms []
             → OnOk result ((telling V.cloud_at).stands self.new cloud.0 (no_commands (V.cloud_at self.old.shelf.now cloud.0)))) }
 
+        // Failed comes only where the cloud's count of faults and the one in all rose; after Ok both stay.
+        ensures call { IsCall (V.cloud_at self.old.shelf.now) (V.cloud_at self.new.shelf.now) cloud.0 (V.faults self.old.shelf.now) (V.faults self.new.shelf.now) }
+        ensures failed { OnErr result
+            (HasFailed (V.cloud_at self.old.shelf.now cloud.0) (V.cloud_at self.new.shelf.now cloud.0) (V.faults self.old.shelf.now) (V.faults self.new.shelf.now)) }
+        ensures uncounted { OnOk result
+            (KeepsCounts (V.cloud_at self.old.shelf.now cloud.0) (V.cloud_at self.new.shelf.now cloud.0) (V.faults self.old.shelf.now) (V.faults self.new.shelf.now)) }
+
         // Whenever a crash comes it leaves what it might have left before, or empty areas.
         ensures images { IsTrue ((telling V.cloud_at).told self.old cloud.0) → WasBefore (V.cloud_at self.old.shelf.now cloud.0) (V.cloud_at self.new.shelf.now cloud.0) }
 
@@ -232,6 +252,7 @@ impl<'a, V: Shelf> LocalLink<'a, V> {
     /// Cuts a later write or sync of the cloud: `cd_edges::Shelf::arm`. No list, no pending command and no fault changes.
     pub fn arm(&mut self, cloud: CloudNo, calls: u32, keep: u32)
         requires { IsTrue ((telling V.cloud_at).reaches self.old cloud.0) }
+        ensures total { V.faults self.new.shelf.now ≡ V.faults self.old.shelf.now }
         ensures arms { Arms (V.cloud_at self.old.shelf.now cloud.0) (V.cloud_at self.new.shelf.now cloud.0) calls keep }
         ensures armed { (p : Peer) → (telling V.cloud_at).stands self.old cloud.0 p
             → (q : Peer) × (telling V.cloud_at).stands self.new cloud.0 q × Armed p q }
@@ -274,6 +295,22 @@ impl<'a, V: Shelf> LocalLink<'a, V> {
 
         // Content that asks nothing changes no cloud.
         ensures refused { (at : ℕ) → asked_at ((telling V.cloud_at).shape self.old) request.now ≡ Err at → V.cloud_at self.new.shelf.now ≡ V.cloud_at self.old.shelf.now }
+
+        ensures uncounted { (at : ℕ) → asked_at ((telling V.cloud_at).shape self.old) request.now ≡ Err at → V.faults self.new.shelf.now ≡ V.faults self.old.shelf.now }
+        ensures call { IsCall (V.cloud_at self.old.shelf.now) (V.cloud_at self.new.shelf.now) cloud.0 (V.faults self.old.shelf.now) (V.faults self.new.shelf.now) }
+
+        // Whatever the cloud has, a request that wasn't lost on its way there has a reply, whether it was lost or not: one that some server gives to it;
+        // and Fault, and it alone, where the counts of faults rose.
+        ensures answered { self.old.fate ≢ LoseRequest → (r : Request) → asked_at ((telling V.cloud_at).shape self.old) request.now ≡ Ok r
+            → (content : List ℕ) × OnOk result (reply.new ≡ content) × Replied ((telling V.cloud_at).shape self.old) (V.cloud_at self.old.shelf.now cloud.0)
+            (V.cloud_at self.new.shelf.now cloud.0) (V.faults self.old.shelf.now) (V.faults self.new.shelf.now) r content }
+
+        // A closed server of a told cloud whose bytes come to no list replies with the error of its opening, by the place and the byte, and the cloud's
+        // areas are spared.
+        ensures closed { self.old.fate ≢ LoseRequest → (r : Request) → IsTrue ((telling V.cloud_at).told self.old cloud.0)
+            → asked_at ((telling V.cloud_at).shape self.old) request.now ≡ Ok r
+            → (content : List ℕ) × OnOk result (reply.new ≡ content) × IsSomeAnd (server_at self.old.servers cloud.0) (λ server. ¬ IsOpen server.state
+            → CanOpen server.state (V.cloud_at self.old.shelf.now cloud.0) ⊎ Refused server.state (V.cloud_at self.old.shelf.now cloud.0) (V.cloud_at self.new.shelf.now cloud.0) content) }
 
         // Any request that wasn't lost on its way there is executed.
         ensures executed { self.old.fate ≢ LoseRequest → (r : Request) → asked_at ((telling V.cloud_at).shape self.old) request.now ≡ Ok r

@@ -10,6 +10,7 @@ use Rattle.cd_edges.specs.Shelf.{HasFailed, KeepsCounts}
 use Rattle.commit_journal.specs.declared.errors.OpenErr.{OpenErr}
 use Rattle.commit_journal.specs.declared.errors.OpenErr.TheVariants as errors
 use Rattle.commit_journal.specs.declared.journal.Stage.TheVariants.{Shut}
+use Rattle.commit_journal.specs.Openings.{OnFault}
 use Rattle.messages.specs.declared.request.Request.{Request}
 use Rattle.messages.specs.declared.reply.Reply.{Reply}
 use Rattle.messages.specs.declared.reply.Reply.TheVariants as replies
@@ -24,7 +25,9 @@ use Rattle.cloud_state.specs.State.{IsOpen, Agrees}
 use Rattle.cloud_store.specs.Space.{served_by, IsWithin}
 use Rattle.cloud_store.specs.Standing.{Serves}
 use Rattle.cloud_store.specs.Store.{StandsFor}
+use Rattle.cloud_opening.specs.Exact.{Opens}
 use Rattle.cloud_opening.specs.Replied.{IsOkOrFault, OtherStoreIs}
+use Rattle.cloud_opening.specs.Spared.{Spares}
 use Rattle.share_server.specs.Refusals.{Refuses}
 use Rattle.share_server.specs.declared.server.Server.{Server}
 
@@ -83,15 +86,22 @@ Answered shape request state old new before now content =
 abbrev pub an_error : OpenErr → Result ℕ OpenErr
 an_error error = Err error
 
--- The cloud of a closed server isn't opened for this error. Where the cloud is told: OtherStore comes where its journal has another header, and else
--- Fault alone comes where what it reads stands for a list within the rooms.
-pub record IsUnopened (state : CloudState) (cloud : Cloud) (error : OpenErr) : Type 0 where
+-- The cloud of a closed server isn't opened for this error. Where the cloud is told: the error is what the bytes of its areas come to, record by
+-- record, unless a device failed; OtherStore comes where its journal has another header, and else Fault alone comes where what it reads stands for
+-- a list within the rooms; and the areas are spared, whatever they hold.
+pub record IsUnopened (state : CloudState) (old new : Cloud) (error : OpenErr) : Type 0 where
   pub closed : ¬ IsOpen state
-  pub other_store : IsTrue cloud.told → OtherStoreIs (cloud.now Journal).read state.header (an_error error)
-  pub whole : IsTrue cloud.told → (list : List Command) → StandsFor (reads cloud.now) state.header list → IsWithin state.rooms list → IsOkOrFault (an_error error)
+  pub exact : IsTrue old.told → OnFault (an_error error) (Unit {0}) (Opens state.header state.rooms true (reads old.now) (an_error error))
+  pub other_store : IsTrue old.told → OtherStoreIs (old.now Journal).read state.header (an_error error)
+  pub whole : IsTrue old.told → (list : List Command) → StandsFor (reads old.now) state.header list → IsWithin state.rooms list → IsOkOrFault (an_error error)
+  pub areas : IsTrue old.told → Spares state.header true old new (an_error error)
 
 -- The content is the reply to the error for which the cloud isn't opened.
-pub record Refused (state : CloudState) (cloud : Cloud) (content : List ℕ) : Type 0 where
+pub record Refused (state : CloudState) (old new : Cloud) (content : List ℕ) : Type 0 where
   pub error : OpenErr
-  pub unopened : IsUnopened state cloud error
+  pub unopened : IsUnopened state old new error
   pub refuses : Refuses error content
+
+-- The bytes of the cloud's areas come to a list that the server takes, and it has so many commands.
+abbrev pub CanOpen : CloudState → Cloud → Type 0
+CanOpen state cloud = (commands : ℕ) × Opens state.header state.rooms true (reads cloud.now) (Ok commands)

@@ -45,8 +45,9 @@ impl Server {
     ghost use Rattle.commit_journal.specs.Openings.{HasBegun};
     ghost use Rattle.cloud_opening.specs.Synced.{BeginsSynced};
     ghost use Rattle.cloud_opening.specs.Exact.{Opens};
+    ghost use Rattle.cloud_opening.specs.Spared.{Spares};
     ghost use Rattle.cloud_opening.specs.Replied.{IsOkOrFault, HasMemory, MayBegin, NotBegunIs, OtherStoreIs};
-    ghost use Rattle.share_server.specs.Serving.{IsOf, number_of, IsServing, server_serves, settled_with, ReopensAs, Executes, Answered, Refused, IsClosedFrom};
+    ghost use Rattle.share_server.specs.Serving.{IsOf, number_of, IsServing, server_serves, settled_with, ReopensAs, Executes, Answered, Refused, CanOpen, IsClosedFrom};
 
     /// A closed server of this cloud of a store of this shape, in these rooms. It takes all its memory here; the only error is want of memory.
     pub fn make(
@@ -95,6 +96,9 @@ impl Server {
     ///
     /// Where the cloud stands as a peer, it settles: the list is the peer's, or that with the pending command, and a crash at any moment leaves
     /// one of the two. After Fault and NotBegun the peer has what it had.
+    ///
+    /// Whatever a told cloud's areas hold, damaged or another store's, they are spared: a crash at any moment leaves what it might have left
+    /// before, or begins an unbegun journal, and a begun one is only synced and read.
     pub fn reopen<V: Shelf>(&mut self, shelf: &mut V, begin: bool) -> Result<u64, OpenErr>
         ensures same { IsSameServer self.old.state self.new.state }
         ensures open { OnOk result (IsOpen self.new.state) }
@@ -122,6 +126,8 @@ impl Server {
             → OnFault result (Unit {0}) (BeginsSynced (V.cloud_at shelf.old (number_of self.old)) (V.cloud_at shelf.new (number_of self.old))) }
         ensures exact { IsTrue (V.cloud_at shelf.old (number_of self.old)).told
             → OnFault result (Unit {0}) (Opens self.old.state.header self.old.state.rooms begin (reads (V.cloud_at shelf.old (number_of self.old)).now) result) }
+        ensures areas { IsTrue (V.cloud_at shelf.old (number_of self.old)).told
+            → Spares self.old.state.header begin (V.cloud_at shelf.old (number_of self.old)) (V.cloud_at shelf.new (number_of self.old)) result }
         ensures begins { IsTrue begin → HasBegun result }
         ensures memory { HasMemory result }
         ensures call { IsCall (V.cloud_at shelf.old) (V.cloud_at shelf.new) (number_of self.old) (V.faults shelf.old) (V.faults shelf.new) }
@@ -137,7 +143,8 @@ impl Server {
     /// Content that asks nothing of a store of this shape is answered by Malformed, with the first place that is wrong, before anything else is
     /// done. A closed server then opens the cloud, and begins it where it isn't begun; it answers Fault where a device failed, and Damaged
     /// where the journal can't be taken: with the place that is wrong and its byte, with the first byte of the header that is another's, or
-    /// with the gate of the first record for which a room is too small. The request is executed by an open server alone.
+    /// with the gate of the first record for which a room is too small. The request is executed by an open server alone. So over a told cloud
+    /// whose bytes come to no list a closed server's reply is that of the opening, by the place and the byte, and its areas are spared.
     ///
     /// On a cloud that stands as a peer the reply is the one that the peer's list gives, and the list has then the command that the request
     /// adds; or it is Fault, where a device failed, and the command may be there or not. A crash at any moment leaves the list, or the list with
@@ -162,7 +169,10 @@ impl Server {
             → IsFound (V.cloud_at shelf.old (number_of self.old)) self.old.state.index r named found }
         ensures no_call { (r : Request) → IsOpen self.old.state → asked_at self.old.state.header.shape request.now ≡ Ok r → IsForMemory r → (shelf.new ≡ shelf.old) × (self.new.state ≡ self.old.state) }
         ensures refusals { (r : Request) → asked_at self.old.state.header.shape request.now ≡ Ok r
-            → IsOpen self.new.state ⊎ ((reply.new ≡ reply_bytes replies.Fault) ⊎ Refused self.old.state (V.cloud_at shelf.old (number_of self.old)) reply.new) }
+            → IsOpen self.new.state ⊎ ((reply.new ≡ reply_bytes replies.Fault) ⊎ Refused self.old.state (V.cloud_at shelf.old (number_of self.old)) (V.cloud_at shelf.new (number_of self.old)) reply.new) }
+        ensures closed { (r : Request) → IsTrue (V.cloud_at shelf.old (number_of self.old)).told → ¬ IsOpen self.old.state → asked_at self.old.state.header.shape request.now ≡ Ok r
+            → CanOpen self.old.state (V.cloud_at shelf.old (number_of self.old))
+            ⊎ Refused self.old.state (V.cloud_at shelf.old (number_of self.old)) (V.cloud_at shelf.new (number_of self.old)) reply.new }
         ensures call { IsCall (V.cloud_at shelf.old) (V.cloud_at shelf.new) (number_of self.old) (V.faults shelf.old) (V.faults shelf.new) }
     {
         match Asked::read(self.state.header.shape, request) {

@@ -18,7 +18,7 @@ ghost use Rattle.cloud_state.specs.State.{IsOpen, IsSettled, IsSameServer, Agree
 ghost use Rattle.cloud_state.specs.Serving.{serves, moments_of};
 ghost use Rattle.request_dispatch.specs.Asking.{request_of, IsOfShape, IsForMemory, IsFound};
 ghost use Rattle.share_server.specs.Refusals.{MayCome};
-ghost use Rattle.share_server.specs.Serving.{Executes, Answered, IsUnopened, Refused};
+ghost use Rattle.share_server.specs.Serving.{Executes, Answered, IsUnopened, Refused, CanOpen};
 ghost use Rattle.share_server.specs.Steps.{ServesAs, OpensAs, Does, AreNumbered};
 
 use crate::refusals::{put_fault, put_refusal};
@@ -79,7 +79,8 @@ fn ensure_open<V: Shelf>(state: &mut CloudState, shelf: &mut V) -> Result<(), Op
         → (q : Peer) × ServesAs state.new (V.cloud_at shelf.new state.old.header.cloud.0) q × OpensAs p q result }
     ensures images { (p : Peer) → IsTrue (V.cloud_at shelf.old state.old.header.cloud.0).told → ServesAs state.old (V.cloud_at shelf.old state.old.header.cloud.0) p
         → ImagesSince (V.cloud_at shelf.old state.old.header.cloud.0) (V.cloud_at shelf.new state.old.header.cloud.0) state.old.header (MaySettleAs p) }
-    ensures error { IfErr result (λ error. MayCome error × IsUnopened state.old (V.cloud_at shelf.old state.old.header.cloud.0) error) }
+    ensures error { IfErr result (λ error. MayCome error × IsUnopened state.old (V.cloud_at shelf.old state.old.header.cloud.0) (V.cloud_at shelf.new state.old.header.cloud.0) error) }
+    ensures opened { IsTrue (V.cloud_at shelf.old state.old.header.cloud.0).told → ¬ IsOpen state.old → OnOk result (CanOpen state.old (V.cloud_at shelf.old state.old.header.cloud.0)) }
     ensures counts { OnFault result
         (HasFailed (V.cloud_at shelf.old state.old.header.cloud.0) (V.cloud_at shelf.new state.old.header.cloud.0) (V.faults shelf.old) (V.faults shelf.new))
         (KeepsCounts (V.cloud_at shelf.old state.old.header.cloud.0) (V.cloud_at shelf.new state.old.header.cloud.0) (V.faults shelf.old) (V.faults shelf.new)) }
@@ -117,7 +118,9 @@ pub(crate) fn answer<V: Shelf>(
     ensures rotten { (named found : Fp) → IsOpen state.old → IsReply reply.new (replies.Rotten named found)
         → IsFound (V.cloud_at shelf.old state.old.header.cloud.0) state.old.index (request_of asked.now) named found }
     ensures no_call { IsOpen state.old → IsForMemory (request_of asked.now) → (shelf.new ≡ shelf.old) × (state.new ≡ state.old) }
-    ensures refusals { IsOpen state.new ⊎ ((reply.new ≡ reply_bytes replies.Fault) ⊎ Refused state.old (V.cloud_at shelf.old state.old.header.cloud.0) reply.new) }
+    ensures refusals { IsOpen state.new ⊎ ((reply.new ≡ reply_bytes replies.Fault) ⊎ Refused state.old (V.cloud_at shelf.old state.old.header.cloud.0) (V.cloud_at shelf.new state.old.header.cloud.0) reply.new) }
+    ensures closed { IsTrue (V.cloud_at shelf.old state.old.header.cloud.0).told → ¬ IsOpen state.old
+        → CanOpen state.old (V.cloud_at shelf.old state.old.header.cloud.0) ⊎ Refused state.old (V.cloud_at shelf.old state.old.header.cloud.0) (V.cloud_at shelf.new state.old.header.cloud.0) reply.new }
     ensures call { IsCall (V.cloud_at shelf.old) (V.cloud_at shelf.new) state.old.header.cloud.0 (V.faults shelf.old) (V.faults shelf.new) }
 {
     match ensure_open(state, shelf) {

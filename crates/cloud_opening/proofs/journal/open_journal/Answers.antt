@@ -77,3 +77,10 @@ pub returns-in-Ok-clause-counts : goal.returns-in-Ok-clause-counts
 returns-in-Ok-clause-counts g c =
     counted_twice c.open.result (g.V.Shelf.cloud_at c.args.shelf.now) (g.V.Shelf.cloud_at c.sync_all.new.shelf) (g.V.Shelf.cloud_at c.open.new.shelf) c.args.header.now.cloud.0 (g.V.Shelf.faults c.args.shelf.now) (g.V.Shelf.faults c.sync_all.new.shelf) (g.V.Shelf.faults c.open.new.shelf)
     c.sync_all.ensures.call c.in-Ok.ensures.uncounted c.open.ensures.counts
+
+pub returns-in-Ok-clause-begun_stays : goal.returns-in-Ok-clause-begun_stays
+returns-in-Ok-clause-begun_stays g c told is =
+    let number = c.args.header.now.cloud.0 in let c0 = g.V.Shelf.cloud_at c.args.shelf.now number in let c1 = g.V.Shelf.cloud_at c.sync_all.new.shelf number in
+    let c2 = g.V.Shelf.cloud_at c.open.new.shelf number in let told1 = told_on c0 c1 c.sync_all.ensures.call.told told in
+    let synced = c.in-Ok.ensures.synced told in let bytes = (c0.now Journal).read in let on_disk = synced_at c0 c1 synced Journal in
+    of_all c.open.result _ (none_behind c0 c1 c2 synced (c.open.ensures.begun told1 bytes on_disk is))

@@ -3,8 +3,9 @@ use Rattle.std.specs.List.{Contains}
 use Rattle.cd_edges.specs.declared.area.Area.TheVariants.{Journal}
 use Rattle.cd_edges.specs.Disk.{reads}
 use Rattle.cd_edges.proofs.Calls.{called_twice}
-use Rattle.cd_edges.proofs.Moments.{told_on}
+use Rattle.cd_edges.proofs.Moments.{told_on, at_end}
 use Rattle.commit_journal.specs.Headers.{header_bytes}
+use Rattle.commit_journal.specs.Openings.{MayBecome}
 use Rattle.commit_journal.specs.States.{state_of}
 use Rattle.cloud_store.specs.Standing.{StandsForSome}
 use Rattle.cloud_opening.specs.Exact.{Opens, lengths_of}
@@ -13,6 +14,7 @@ use Rattle.cloud_opening.proofs.Along.{counted_behind}
 use Rattle.cloud_opening.proofs.Exact.{on_answer, opens_err, opens_ok}
 use Rattle.cloud_opening.proofs.Loaded.{kept, kept_still, has_after, on_disk, stands_sound, loaded, loaded_one}
 use Rattle.cloud_opening.proofs.Replied.{opens_whole, all_whole, not_begun_err, not_begun_ok, other_err, other_ok, begins_ok, begins_err, memory_ok, memory_err, same_err, synced_still}
+use Rattle.cloud_opening.proofs.Synced.{still_synced}
 use Rattle.cloud_opening.proofs.loading.load.Goals as goal
 
 pub returns-in-Err-clause-kept : goal.returns-in-Err-clause-kept
@@ -157,3 +159,32 @@ returns-in-Ok-clause-loaded g c told list stands =
     let has = has_after c0 c1 header mid begun unbegun others list stands in
     loaded_one c.read_records.result list header c.args.rooms.now (state_of c.read_records.new.journal) c1 c2 c.read_records.new.index sound has (on_disk c0 c1 header mid begun unbegun others reading) c.read_records.ensures.stays
     (c.read_records.ensures.replayed told1 header list sound has reading (c.clear.ensures.remembers header.shape))
+
+pub returns-in-Err-clause-begun_stays : goal.returns-in-Err-clause-begun_stays
+returns-in-Err-clause-begun_stays g c told is =
+    same_err (Unit {0}) ℕ c.in-Err.error _ _ (c.in-Err.ensures.begun_stays told is)
+
+pub returns-in-Err-clause-still_read : goal.returns-in-Err-clause-still_read
+returns-in-Err-clause-still_read g c told =
+    let header = c.args.header.now in let number = header.cloud.0 in let c0 = g.V.Shelf.cloud_at c.args.shelf.now number in let c1 = g.V.Shelf.cloud_at c.open_journal.new.shelf number in
+    let told1 = told_on c0 c1 c.open_journal.ensures.call.told told in
+    at_end c0 c1 (MayBecome c0.now header c.args.begin) (c.open_journal.ensures.any_moment told) (reads c1.now) (g.met.V.Shelf.reads_image c.open_journal.new.shelf number told1)
+
+pub returns-in-Ok-clause-any_moment : goal.returns-in-Ok-clause-any_moment
+returns-in-Ok-clause-any_moment g c told =
+    let header = c.args.header.now in let number = header.cloud.0 in let c0 = g.V.Shelf.cloud_at c.args.shelf.now number in let c1 = g.V.Shelf.cloud_at c.open_journal.new.shelf number in
+    let c2 = g.V.Shelf.cloud_at c.read_records.new.shelf number in
+    kept_still c0 c1 c2 (MayBecome c0.now header c.args.begin) (c.open_journal.ensures.any_moment told) c.read_records.ensures.stays
+
+pub returns-in-Ok-clause-begun_stays : goal.returns-in-Ok-clause-begun_stays
+returns-in-Ok-clause-begun_stays g c told is =
+    let header = c.args.header.now in let number = header.cloud.0 in let c0 = g.V.Shelf.cloud_at c.args.shelf.now number in let c1 = g.V.Shelf.cloud_at c.open_journal.new.shelf number in
+    let c2 = g.V.Shelf.cloud_at c.read_records.new.shelf number in
+    still_synced c.read_records.result c0 c1 c2 (c.in-Ok.ensures.begun_stays told is) c.read_records.ensures.stays
+
+pub returns-in-Ok-clause-still_read : goal.returns-in-Ok-clause-still_read
+returns-in-Ok-clause-still_read g c told =
+    let header = c.args.header.now in let number = header.cloud.0 in let c0 = g.V.Shelf.cloud_at c.args.shelf.now number in let c1 = g.V.Shelf.cloud_at c.open_journal.new.shelf number in
+    let c2 = g.V.Shelf.cloud_at c.read_records.new.shelf number in let told1 = told_on c0 c1 c.open_journal.ensures.call.told told in let told2 = told_on c1 c2 c.read_records.ensures.call.told told1 in
+    let run = kept_still c0 c1 c2 (MayBecome c0.now header c.args.begin) (c.open_journal.ensures.any_moment told) c.read_records.ensures.stays in
+    at_end c0 c2 (MayBecome c0.now header c.args.begin) run (reads c2.now) (g.met.V.Shelf.reads_image c.read_records.new.shelf number told2)

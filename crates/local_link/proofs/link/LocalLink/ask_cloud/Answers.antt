@@ -4,7 +4,7 @@ use Rattle.user_dedup.specs.Link.{LeavesOthers, serves}
 use Rattle.cloud_store.specs.Standing.{MayBecome}
 use Rattle.local_link.specs.Tells.{server_at, telling, LeavesRest}
 use Rattle.local_link.proofs.Standing.{rest_by, others_by, full_same, here_now}
-use Rattle.local_link.proofs.Executing.{goes_on, refused_clouds, clouds_counted, refuses, refused_reply, images_since, images_stay, peer_counted, images_counted}
+use Rattle.local_link.proofs.Executing.{goes_on, refused_clouds, clouds_counted, refuses, refused_reply, images_since, images_stay, peer_counted, images_counted, replied_here, uncounted_here, called_here, closed_here, none_called, calls_counted, replied_counted, closed_counted, total_counted}
 use Rattle.local_link.proofs.link.LocalLink.ask_cloud.Goals as goal
 
 pub returns-in-Deliver-clause-executed : goal.returns-in-Deliver-clause-executed
@@ -115,3 +115,72 @@ returns-in-LoseReply-clause-refused g c = λ at asked.
     clouds_counted g.V.Shelf.cloud_at _ c.lose-in-LoseReply.new.self (g.V.Shelf.cloud_at c.args.self.now.shelf.now) c.lose-in-LoseReply.ensures.counted
     (refused_clouds c.args.self.now.servers c.execute-in-LoseReply.new.self c.args.cloud.0 e.0 e.1 e.2 (ltb-true c.args.cloud.0 c.args.self.now.servers.shape.n c.requires.reached)
     (g.V.Shelf.cloud_at c.args.self.now.shelf.now) (g.V.Shelf.cloud_at c.execute-in-LoseReply.new.shelf) _ _ c.args.request.now c.execute-in-LoseReply.new.reply e.3 at asked)
+
+pub returns-in-Deliver-clause-uncounted : goal.returns-in-Deliver-clause-uncounted
+returns-in-Deliver-clause-uncounted g c = λ at asked.
+    let e = c.execute.ensures in
+    uncounted_here c.args.self.now.servers c.execute.new.self c.args.cloud.0 e.0 e.1 e.2 (ltb-true c.args.cloud.0 c.args.self.now.servers.shape.n c.requires.reached)
+    (g.V.Shelf.cloud_at c.args.self.now.shelf.now) (g.V.Shelf.cloud_at c.execute.new.shelf) _ _ c.args.request.now c.execute.new.reply e.3 at asked
+
+pub returns-in-Deliver-clause-call : goal.returns-in-Deliver-clause-call
+returns-in-Deliver-clause-call g c =
+    let e = c.execute.ensures in
+    called_here c.args.self.now.servers c.execute.new.self c.args.cloud.0 e.0 e.1 e.2 (ltb-true c.args.cloud.0 c.args.self.now.servers.shape.n c.requires.reached)
+    (g.V.Shelf.cloud_at c.args.self.now.shelf.now) (g.V.Shelf.cloud_at c.execute.new.shelf) _ _ c.args.request.now c.execute.new.reply e.3
+
+pub returns-in-Deliver-clause-answered : goal.returns-in-Deliver-clause-answered
+returns-in-Deliver-clause-answered g c = λ ne r asked.
+    let e = c.execute.ensures in (
+      c.execute.new.reply,
+      refl,
+      replied_here c.args.self.now.servers c.execute.new.self c.args.cloud.0 e.0 e.1 e.2 (ltb-true c.args.cloud.0 c.args.self.now.servers.shape.n c.requires.reached)
+          (g.V.Shelf.cloud_at c.args.self.now.shelf.now) (g.V.Shelf.cloud_at c.execute.new.shelf) _ _ c.args.request.now c.execute.new.reply e.3 r asked,
+    )
+
+pub returns-in-Deliver-clause-closed : goal.returns-in-Deliver-clause-closed
+returns-in-Deliver-clause-closed g c = λ ne r told asked.
+    let e = c.execute.ensures in (
+      c.execute.new.reply,
+      refl,
+      closed_here c.args.self.now.servers c.execute.new.self c.args.cloud.0 e.0 e.1 e.2 (ltb-true c.args.cloud.0 c.args.self.now.servers.shape.n c.requires.reached)
+          (g.V.Shelf.cloud_at c.args.self.now.shelf.now) (g.V.Shelf.cloud_at c.execute.new.shelf) _ _ c.args.request.now c.execute.new.reply e.3 r told asked,
+    )
+
+pub returns-in-LoseRequest-clause-call : goal.returns-in-LoseRequest-clause-call
+returns-in-LoseRequest-clause-call g c =
+    calls_counted g.V.Shelf.cloud_at g.V.Shelf.faults _ c.lose.new.self c.args.cloud.0 (g.V.Shelf.cloud_at c.args.self.now.shelf.now) (g.V.Shelf.faults c.args.self.now.shelf.now) c.lose.ensures.counted
+    (none_called (g.V.Shelf.cloud_at c.args.self.now.shelf.now) c.args.cloud.0 (g.V.Shelf.faults c.args.self.now.shelf.now))
+
+pub returns-in-LoseReply-clause-uncounted : goal.returns-in-LoseReply-clause-uncounted
+returns-in-LoseReply-clause-uncounted g c = λ at asked.
+    let e = c.execute-in-LoseReply.ensures in
+    total_counted g.V.Shelf.faults _ c.lose-in-LoseReply.new.self (g.V.Shelf.faults c.args.self.now.shelf.now) c.lose-in-LoseReply.ensures.counted
+    (uncounted_here c.args.self.now.servers c.execute-in-LoseReply.new.self c.args.cloud.0 e.0 e.1 e.2 (ltb-true c.args.cloud.0 c.args.self.now.servers.shape.n c.requires.reached)
+    (g.V.Shelf.cloud_at c.args.self.now.shelf.now) (g.V.Shelf.cloud_at c.execute-in-LoseReply.new.shelf) _ _ c.args.request.now c.execute-in-LoseReply.new.reply e.3 at asked)
+
+pub returns-in-LoseReply-clause-call : goal.returns-in-LoseReply-clause-call
+returns-in-LoseReply-clause-call g c =
+    let e = c.execute-in-LoseReply.ensures in
+    calls_counted g.V.Shelf.cloud_at g.V.Shelf.faults _ c.lose-in-LoseReply.new.self c.args.cloud.0 (g.V.Shelf.cloud_at c.args.self.now.shelf.now) (g.V.Shelf.faults c.args.self.now.shelf.now) c.lose-in-LoseReply.ensures.counted
+    (called_here c.args.self.now.servers c.execute-in-LoseReply.new.self c.args.cloud.0 e.0 e.1 e.2 (ltb-true c.args.cloud.0 c.args.self.now.servers.shape.n c.requires.reached)
+    (g.V.Shelf.cloud_at c.args.self.now.shelf.now) (g.V.Shelf.cloud_at c.execute-in-LoseReply.new.shelf) _ _ c.args.request.now c.execute-in-LoseReply.new.reply e.3)
+
+pub returns-in-LoseReply-clause-answered : goal.returns-in-LoseReply-clause-answered
+returns-in-LoseReply-clause-answered g c = λ ne r asked.
+    let e = c.execute-in-LoseReply.ensures in (
+      c.execute-in-LoseReply.new.reply,
+      tt,
+      replied_counted g.V.Shelf.cloud_at g.V.Shelf.faults _ c.lose-in-LoseReply.new.self c.args.cloud.0 _ (g.V.Shelf.cloud_at c.args.self.now.shelf.now c.args.cloud.0) (g.V.Shelf.faults c.args.self.now.shelf.now) r _ c.lose-in-LoseReply.ensures.counted
+          (replied_here c.args.self.now.servers c.execute-in-LoseReply.new.self c.args.cloud.0 e.0 e.1 e.2 (ltb-true c.args.cloud.0 c.args.self.now.servers.shape.n c.requires.reached)
+          (g.V.Shelf.cloud_at c.args.self.now.shelf.now) (g.V.Shelf.cloud_at c.execute-in-LoseReply.new.shelf) _ _ c.args.request.now c.execute-in-LoseReply.new.reply e.3 r asked),
+    )
+
+pub returns-in-LoseReply-clause-closed : goal.returns-in-LoseReply-clause-closed
+returns-in-LoseReply-clause-closed g c = λ ne r told asked.
+    let e = c.execute-in-LoseReply.ensures in (
+      c.execute-in-LoseReply.new.reply,
+      tt,
+      closed_counted g.V.Shelf.cloud_at _ c.lose-in-LoseReply.new.self c.args.cloud.0 (server_at c.args.self.now.servers c.args.cloud.0) (g.V.Shelf.cloud_at c.args.self.now.shelf.now c.args.cloud.0) _ c.lose-in-LoseReply.ensures.counted
+          (closed_here c.args.self.now.servers c.execute-in-LoseReply.new.self c.args.cloud.0 e.0 e.1 e.2 (ltb-true c.args.cloud.0 c.args.self.now.servers.shape.n c.requires.reached)
+          (g.V.Shelf.cloud_at c.args.self.now.shelf.now) (g.V.Shelf.cloud_at c.execute-in-LoseReply.new.shelf) _ _ c.args.request.now c.execute-in-LoseReply.new.reply e.3 r told asked),
+    )

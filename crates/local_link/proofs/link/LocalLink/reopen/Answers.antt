@@ -1,6 +1,6 @@
 use Rattle.std.proofs.lemmas.Bool.{ltb-true}
 use Rattle.local_link.proofs.Standing.{rest_by, others_by, full_same, here_now}
-use Rattle.local_link.proofs.Calling.{reopens, loaded_here, whole_here, opens_here, shut_here, not_begun_here, counts_here, untold_here, opened_images}
+use Rattle.local_link.proofs.Calling.{reopens, loaded_here, whole_here, opens_here, shut_here, not_begun_here, counts_here, untold_here, opened_images, exact_here, other_here, areas_here, call_here}
 use Rattle.local_link.proofs.link.LocalLink.reopen.Goals as goal
 
 pub returns-clause-peer : goal.returns-clause-peer
@@ -72,3 +72,27 @@ returns-clause-whole g c told list stands =
 
 pub returns-clause-begins : goal.returns-clause-begins
 returns-clause-begins g c = c.reopen.ensures.3.begins
+
+pub returns-clause-exact : goal.returns-clause-exact
+returns-clause-exact g c =
+    let e = c.reopen.ensures in
+    exact_here c.args.self.now.servers c.reopen.new.self c.args.cloud.0 e.0 e.1 e.2 (ltb-true c.args.cloud.0 c.args.self.now.servers.shape.n c.requires)
+    (g.V.Shelf.cloud_at c.args.self.now.shelf.now) (g.V.Shelf.cloud_at c.reopen.new.shelf) _ _ c.args.begin c.reopen.result e.3
+
+pub returns-clause-other_store : goal.returns-clause-other_store
+returns-clause-other_store g c =
+    let e = c.reopen.ensures in
+    other_here c.args.self.now.servers c.reopen.new.self c.args.cloud.0 e.0 e.1 e.2 (ltb-true c.args.cloud.0 c.args.self.now.servers.shape.n c.requires)
+    (g.V.Shelf.cloud_at c.args.self.now.shelf.now) (g.V.Shelf.cloud_at c.reopen.new.shelf) _ _ c.args.begin c.reopen.result e.3
+
+pub returns-clause-areas : goal.returns-clause-areas
+returns-clause-areas g c =
+    let e = c.reopen.ensures in
+    areas_here c.args.self.now.servers c.reopen.new.self c.args.cloud.0 e.0 e.1 e.2 (ltb-true c.args.cloud.0 c.args.self.now.servers.shape.n c.requires)
+    (g.V.Shelf.cloud_at c.args.self.now.shelf.now) (g.V.Shelf.cloud_at c.reopen.new.shelf) _ _ c.args.begin c.reopen.result e.3
+
+pub returns-clause-call : goal.returns-clause-call
+returns-clause-call g c =
+    let e = c.reopen.ensures in
+    call_here c.args.self.now.servers c.reopen.new.self c.args.cloud.0 e.0 e.1 e.2 (ltb-true c.args.cloud.0 c.args.self.now.servers.shape.n c.requires)
+    (g.V.Shelf.cloud_at c.args.self.now.shelf.now) (g.V.Shelf.cloud_at c.reopen.new.shelf) _ _ c.args.begin c.reopen.result e.3

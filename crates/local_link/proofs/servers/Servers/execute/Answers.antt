@@ -16,7 +16,9 @@ returns g c = (
     exec = λ p r told is asked. let e = c.execute.ensures.exec p r told is asked in record { left = e.0; answer = e.1; stands = e.2; is = e.3; exec = e.4 };
     images = c.execute.ensures.images;
     malformed = λ at asked. let e = c.execute.ensures.malformed at asked in (e.0, e.1, ap g.V.Shelf.cloud_at e.2);
-    untold = λ r asked. let e = c.execute.ensures.untold r asked in record { answer = e.0; is = e.1; kind = e.2; memory = e.3; fault = λ f. (e.4 f).0 };
+    uncounted = λ at asked. ap g.V.Shelf.faults (c.execute.ensures.malformed at asked).2;
+    untold = λ r asked. let e = c.execute.ensures.untold r asked in record { answer = e.0; is = e.1; kind = e.2; memory = e.3; fault = λ f. (e.4 f).0; still = e.5 };
+    closed = c.execute.ensures.closed;
     call = c.execute.ensures.call;
   },
 )

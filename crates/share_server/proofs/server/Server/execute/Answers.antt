@@ -16,3 +16,6 @@ unfolding asks
 returns-in-Ok-clause-exec g c p r told serving asked =
     let old = c.args.self.now.state in let after = g.V.Shelf.cloud_at c.answer.new.shelf old.header.cloud.0 in
     subst (λ (x : Request). Executes old c.answer.new.state after p x c.answer.new.reply) (same_asked (request_of c.in-Ok.asked) r (sym c.in-Ok.ensures.reads ∙ asked)) (c.answer.ensures.exec p told serving)
+
+pub returns-in-Ok-clause-closed : goal.returns-in-Ok-clause-closed
+returns-in-Ok-clause-closed g c r told shut asked = c.answer.ensures.closed told shut

@@ -14,3 +14,8 @@ pub returns-clause-loaded : goal.returns-clause-loaded
 returns-clause-loaded g c told list stands =
     let old = c.args.self.now.state in let d = c.reopen.ensures in
     loads old c.reopen.new.state (g.V.Shelf.cloud_at c.reopen.new.shelf old.header.cloud.0) list c.reopen.result d.same (d.loaded told list stands)
+
+pub returns-clause-areas : goal.returns-clause-areas
+returns-clause-areas g c told =
+    let d = c.reopen.ensures in
+    record { any_moment = d.any_moment told; begun_stays = d.begun_stays told; still_read = d.still_read told }
