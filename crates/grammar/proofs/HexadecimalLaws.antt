@@ -1,14 +1,12 @@
 -- Bytes that are read are the bytes that were written, and what was written is read again.
-use Rattle.std.proofs.Common.{◌≡◌, ◌⊎◌, ℕ, ◌+◌, ◌-◌, ◌*◌, ◌/◌, ◌%◌, ◌<◌, ◌≤◌, Bool, true, false, ◌&&◌, cond, leb, ltb, List, [], ◌∷◌, ◌++◌, length, take, drop, get_or, Option, Some, None, set, zero, suc, max, refl, sym, ap, subst, ◌∙◌, append_assoc, arith, inl, inr}
+use Rattle.std.proofs.Common.{◌≡◌, ◌⊎◌, ℕ, ◌+◌, ◌-◌, ◌*◌, ◌/◌, ◌%◌, ◌<◌, ◌≤◌, Bool, true, false, ◌&&◌, cond, leb, ltb, List, [], ◌∷◌, ◌++◌, length, take, Option, Some, None, zero, suc, refl, sym, ap, subst, ◌∙◌, append_assoc, arith, inl, inr}
 use Rattle.std.specs.List.{AllByRecursion}
 use Rattle.std.proofs.lemmas.Bool.Decides.{nat_tests}
-use Rattle.std.proofs.lemmas.Bool.{cases_lt, and_parts, leb-true, lt-ltb, le-ltb}
+use Rattle.std.proofs.lemmas.Bool.{and_parts, leb-true, lt-ltb, le-ltb}
 use Rattle.std.proofs.lemmas.Option.{cond_some, same_Some}
-use Rattle.std.proofs.Math.Seq.{take-suc, take-suc-set, drop-cons}
-use Rattle.std.proofs.lemmas.List.{take_more_set, take-append-drop, take-append-le, length-take, append-nil, take_all}
-use Rattle.std.proofs.Math.ListN.{length-set}
+use Rattle.std.proofs.lemmas.List.{take-append-le, length-take, append-nil}
 use Rattle.grammar.specs.Words.{is_blank, onto}
-use Rattle.grammar.specs.Hexadecimal.{hex_digit, hex, unhex_digit, value_or, pair_value, unhex}
+use Rattle.grammar.specs.Hexadecimal.{hex_digit, hex, unhex_digit, pair_value, unhex}
 use Rattle.grammar.proofs.WordLaws.{Plain, onto_some, prepend, prepend_none, prepend_prepend}
 
 abbrev pub AreBytes : List ℕ → Type 0
@@ -21,7 +19,7 @@ chosen false x y z e = inr (refl, e)
 
 -- ---- bytes
 
-digit_takes : (c d : ℕ) → unhex_digit c ≡ Some d → (c ≡ hex_digit d) × (d < 16)
+pub digit_takes : (c d : ℕ) → unhex_digit c ≡ Some d → (c ≡ hex_digit d) × (d < 16)
 digit_takes c d e =
     elim (chosen (leb 48 c && leb c 57) (Some (c - 48)) (cond (leb 97 c && leb c 102) (Some (c - 87)) None) (Some d) e) [
       | inl h ↦
@@ -130,94 +128,7 @@ unhex_wrong (suc n) (b ∷ []) rest len e = absurd (omega arith)
 unhex_wrong (suc n) (high ∷ low ∷ text) rest len e =
     onto_wrong (pair_value (unhex_digit high) (unhex_digit low)) (unhex text) (unhex (text ++ rest)) e (λ z. unhex_wrong n text rest (omega arith) z)
 
--- ---- loops
-
-two_more : (xs : List ℕ) (i : ℕ) → 2 * i + 1 < length xs → take (2 * (i + 1)) xs ≡ take (2 * i) xs ++ get_or xs (2 * i) 0 ∷ get_or xs (2 * i + 1) 0 ∷ []
-two_more xs i lt =
-    let e : 2 * (i + 1) ≡ suc (suc (2 * i)) = omega arith in
-    let f : 2 * i + 1 ≡ suc (2 * i) = omega arith in
-    rw (e, f, take-suc xs (suc (2 * i)) 0 (omega arith), take-suc xs (2 * i) 0 (omega arith)) (append_assoc (take (2 * i) xs) (get_or xs (2 * i) 0 ∷ []) (get_or xs (suc (2 * i)) 0 ∷ []))
-
-two_set : (xs : List ℕ) (i a b : ℕ) → 2 * i + 1 < length xs → take (2 * (i + 1)) (set (set xs (2 * i) a) (2 * i + 1) b) ≡ take (2 * i) xs ++ a ∷ b ∷ []
-two_set xs i a b lt =
-    let first : take (suc (2 * i)) (set xs (2 * i) a) ≡ take (2 * i) xs ++ a ∷ [] = take-suc-set xs (2 * i) a (omega arith) in
-    let len : 2 * i + 1 < length (set xs (2 * i) a) = omega (arith, length-set xs (2 * i) a) in
-    let second : take (suc (2 * i + 1)) (set (set xs (2 * i) a) (2 * i + 1) b) ≡ take (2 * i + 1) (set xs (2 * i) a) ++ b ∷ [] = take-suc-set (set xs (2 * i) a) (2 * i + 1) b len in
-    let e : 2 * (i + 1) ≡ suc (2 * i + 1) = omega arith in
-    let f : 2 * i + 1 ≡ suc (2 * i) = omega arith in
-    ap (λ (n : ℕ). take n (set (set xs (2 * i) a) (2 * i + 1) b)) e ∙ second
-    ∙ ap (λ (t : List ℕ). t ++ b ∷ []) (ap (λ (n : ℕ). take n (set xs (2 * i) a)) f ∙ first)
-    ∙ append_assoc (take (2 * i) xs) (a ∷ []) (b ∷ [])
-
-one_more : (xs : List ℕ) (i : ℕ) → i < length xs → take (i + 1) xs ≡ take i xs ++ get_or xs i 0 ∷ []
-one_more xs i lt = let e : i + 1 ≡ suc i = omega arith in ap (λ (n : ℕ). take n xs) e ∙ take-suc xs i 0 lt
-
-pub encode_step : (out bytes : List ℕ) (i : ℕ) → take (2 * i) out ≡ hex (take i bytes) → i < length bytes → length out ≡ 2 * length bytes
-    → take (2 * (i + 1)) (set (set out (2 * i) (hex_digit (get_or bytes i 0 / 16))) (2 * i + 1) (hex_digit (get_or bytes i 0 % 16))) ≡ hex (take (i + 1) bytes)
-unfolding hex
-encode_step out bytes i e lt len =
-    let a = hex_digit (get_or bytes i 0 / 16) in
-    let b = hex_digit (get_or bytes i 0 % 16) in
-    two_set out i a b (omega arith) ∙ ap (λ (t : List ℕ). t ++ a ∷ b ∷ []) e
-    ∙ sym (ap hex (one_more bytes i lt) ∙ hex_append (take i bytes) (get_or bytes i 0 ∷ []))
-
-pub decode_step : (text out : List ℕ) (i b : ℕ) → unhex (take (2 * i) text) ≡ Some (take i out) → i < length out → length text ≡ 2 * length out
-    → Some b ≡ pair_value (unhex_digit (get_or text (2 * i) 0)) (unhex_digit (get_or text (2 * i + 1) 0)) → unhex (take (2 * (i + 1)) text) ≡ Some (take (i + 1) (set out i b))
-unfolding unhex
-decode_step text out i b e lt len pair =
-    let last : List ℕ = get_or text (2 * i) 0 ∷ get_or text (2 * i + 1) 0 ∷ [] in
-    ap unhex (two_more text i (omega arith)) ∙ unhex_front (take (2 * i) text) last (take i out) e
-    ∙ ap (λ (o : Option ℕ). prepend (take i out) (onto o (Some []))) (sym pair) ∙ ap Some (sym (take_more_set out i b lt))
-
-two_next : (xs : List ℕ) (i : ℕ) → 2 * i + 1 < length xs → drop (2 * i) xs ≡ get_or xs (2 * i) 0 ∷ get_or xs (2 * i + 1) 0 ∷ drop (suc (suc (2 * i))) xs
-two_next xs i lt =
-    let f : suc (2 * i) ≡ 2 * i + 1 = omega arith in
-    drop-cons xs (2 * i) 0 (omega arith) ∙ ap (λ (t : List ℕ). get_or xs (2 * i) 0 ∷ t) (drop-cons xs (suc (2 * i)) 0 (omega arith) ∙ ap (λ (n : ℕ). get_or xs n 0 ∷ drop (suc (suc (2 * i))) xs) f)
-
-pub decode_stops : (text out : List ℕ) (i : ℕ) → unhex (take (2 * i) text) ≡ Some (take i out) → i < length out → length text ≡ 2 * length out
-    → None ≡ pair_value (unhex_digit (get_or text (2 * i) 0)) (unhex_digit (get_or text (2 * i + 1) 0)) → unhex text ≡ None
-unfolding unhex
-decode_stops text out i e lt len pair =
-    let more : List ℕ = drop (suc (suc (2 * i))) text in
-    let next : List ℕ = get_or text (2 * i) 0 ∷ get_or text (2 * i + 1) 0 ∷ more in
-    let parts : text ≡ take (2 * i) text ++ next = sym (take-append-drop (2 * i) text) ∙ ap (λ (t : List ℕ). take (2 * i) text ++ t) (two_next text i (omega arith)) in
-    ap unhex parts ∙ unhex_front (take (2 * i) text) next (take i out) e
-    ∙ ap (λ (o : Option ℕ). prepend (take i out) (onto o (unhex more))) (sym pair)
-
--- ---- two digits at a time
-
-pair_good : (o p : Option ℕ) → value_or o < 16 → value_or p < 16 → Some (16 * value_or o + value_or p) ≡ pair_value o p
-pair_good None p a b = absurd (omega arith)
-pair_good (Some high) None a b = absurd (omega arith)
-pair_good (Some high) (Some low) a b = refl
-
-pair_bad : (o p : Option ℕ) → ((d : ℕ) → o ≡ Some d → d < 16) → ((d : ℕ) → p ≡ Some d → d < 16) → 16 ≤ max (value_or o) (value_or p) → None ≡ pair_value o p
-pair_bad None p f g h = refl
-pair_bad (Some high) None f g h = refl
-pair_bad (Some high) (Some low) f g h = let a = f high refl in let b = g low refl in absurd (omega arith)
-
--- what a loop over pairs of digits keeps: the bytes so far, while no byte was wrong
-pub record Decoded (text out : List ℕ) (i greatest : ℕ) : Type 0 where
-  pub good : greatest < 16 → unhex (take (2 * i) text) ≡ Some (take i out)
-  pub bad : 16 ≤ greatest → unhex text ≡ None
-
-pub decode_turn : (text out : List ℕ) (i greatest high low b now : ℕ) → Decoded text out i greatest → i < length out → length text ≡ 2 * length out
-    → high ≡ value_or (unhex_digit (get_or text (2 * i) 0)) → low ≡ value_or (unhex_digit (get_or text (2 * i + 1) 0)) → now ≡ max (max greatest high) low
-    → (high < 16 → low < 16 → b ≡ 16 * high + low) → Decoded text (set out i b) (i + 1) now
-decode_turn text out i greatest high low b now inv lt len e f m byte =
-    let o = unhex_digit (get_or text (2 * i) 0) in
-    let p = unhex_digit (get_or text (2 * i + 1) 0) in
-    record {
-      good = λ small.
-          let is : b ≡ 16 * high + low = byte (omega arith) (omega arith) in
-          let pair : Some b ≡ pair_value o p = ap Some (is ∙ omega (arith, e, f)) ∙ pair_good o p (omega arith) (omega arith) in
-          decode_step text out i b (inv.good (omega arith)) lt len pair;
-      bad = λ large.
-          elim (cases_lt greatest 16) [
-            | inl small ↦ decode_stops text out i (inv.good small) lt len (pair_bad o p (λ d h. (digit_takes (get_or text (2 * i) 0) d h).1) (λ d h. (digit_takes (get_or text (2 * i + 1) 0) d h).1) (omega arith))
-            | inr ge ↦ inv.bad ge
-          ];
-    }
+-- ---- blocks
 
 -- a block of a text, and what follows it
 pub block_read : (bytes front more rest block : List ℕ) (total : Option (List ℕ)) → rest ≡ front ++ more → unhex front ≡ Some block → prepend bytes (unhex rest) ≡ total → prepend (bytes ++ block) (unhex more) ≡ total
@@ -257,7 +168,3 @@ begins_more old now more e =
 
 pub unhex_length : (text bs : List ℕ) → unhex text ≡ Some bs → length text ≡ 2 * length bs
 unhex_length text bs e = ap length (unhex_takes text bs e).0 ∙ length-hex bs
-
-pub decoded_all : (text out : List ℕ) (i greatest : ℕ) → Decoded text out i greatest → length out ≤ i → length text ≡ 2 * length out → greatest < 16 → unhex text ≡ Some out
-decoded_all text out i greatest inv le len small =
-    ap unhex (sym (take_all (2 * i) text (omega arith))) ∙ inv.good small ∙ ap Some (take_all i out le)

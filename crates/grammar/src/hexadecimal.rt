@@ -1,7 +1,7 @@
 //! Bytes as text, two digits a byte in lower case.
 
-ghost use Rattle.std.specs.Prelude.{◌≡◌, ◌<◌, ◌*◌, ◌++◌, length, Some, None, OnOk, OnErr, IfOk, IsTrue, take, false};
-ghost use Rattle.grammar.specs.Hexadecimal.{hex, hex_digit, unhex, unhex_digit, value_or};
+ghost use Rattle.std.specs.Prelude.{◌≡◌, ◌<◌, ◌*◌, ◌++◌, length, Some, None, OnOk, OnErr, IfOk, IsTrue, is_some, take, false};
+ghost use Rattle.grammar.specs.Hexadecimal.{hex, unhex, unhex_digit};
 
 use crate::{after, before};
 use cd_base::{Bytes, NoMemory};
@@ -10,36 +10,27 @@ use std::alloc::Global;
 // How many bytes are decoded or encoded at a time.
 const BLOCK: usize = 4096;
 
-// The value of a digit in lower case, or 255 where the byte is none. It has no branch, so that a block of digits is
-// decoded in lanes.
-fn value_of(c: u8) -> u8
-    ensures { result ≡ value_or (unhex_digit c) }
+// Whether a byte is a digit in lower case. It has no branch, so that a block is looked at in lanes.
+fn is_digit(c: u8) -> bool
+    ensures { result ≡ is_some (unhex_digit c) }
 {
-    let digit = c.wrapping_sub(48);
-    let letter = c.wrapping_sub(97);
-    if digit < 10 {
-        digit
-    } else if letter < 6 {
-        letter + 10
-    } else {
-        255
-    }
+    let digit = c.wrapping_sub(48) < 10;
+    let letter = c.wrapping_sub(97) < 6;
+    digit | letter
 }
 
-// Decodes a block of text into as many bytes as it spells. True where all of it is digits in lower case.
+// Decodes a block of text into as many bytes as it spells. True where all of it is digits in lower case. `hex` reads
+// those in upper case too, so each byte is looked at first.
 fn decode_block(text: &[u8], out: &mut [u8]) -> bool
     requires { length text.now ≡ 2 * length out.old }
     ensures good { IsTrue result → unhex text.now ≡ Some out.new }
     ensures bad { result ≡ false → unhex text.now ≡ None }
 {
-    let mut greatest: u8 = 0;
-    for i in 0..out.len() {
-        let high = value_of(text[2 * i]);
-        let low = value_of(text[2 * i + 1]);
-        greatest = greatest.max(high).max(low);
-        out[i] = high.wrapping_mul(16).wrapping_add(low);
+    let mut digits = true;
+    for i in 0..text.len() {
+        digits &= is_digit(text[i]);
     }
-    greatest < 16
+    digits && hex::decode_to_slice(text, out).is_ok()
 }
 
 /// The bytes that a text spells, two digits a byte in lower case; None where the text is another.
@@ -65,22 +56,12 @@ pub fn decode(alloc: Global, text: &[u8]) -> Result<Option<Bytes>, NoMemory>
     }
 }
 
-fn digit(value: u8) -> u8
-    requires { value < 16 }
-    ensures { result ≡ hex_digit value }
-{
-    if value < 10 { 48 + value } else { 87 + value }
-}
-
 // Encodes a block of bytes.
 fn encode_block(bytes: &[u8], out: &mut [u8])
     requires { length out.old ≡ 2 * length bytes.now }
     ensures { out.new ≡ hex bytes.now }
 {
-    for (i, byte) in bytes.iter().enumerate() {
-        out[2 * i] = digit(*byte / 16);
-        out[2 * i + 1] = digit(*byte % 16);
-    }
+    let _written = hex::encode_to_slice(bytes, out);
 }
 
 fn encode_blocks(bytes: &[u8], out: &mut Bytes) -> Result<(), NoMemory>

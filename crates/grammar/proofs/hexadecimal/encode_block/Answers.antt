@@ -1,11 +1,8 @@
-use Rattle.std.proofs.Common.{refl, arith}
-use Rattle.grammar.specs.Hexadecimal.{hex}
-use Rattle.grammar.proofs.HexadecimalLaws.{encode_step}
+use Rattle.std.proofs.Common.{arith}
+use Rattle.grammar.proofs.KitHex.{hex_done}
 use Rattle.grammar.proofs.hexadecimal.encode_block.Goals as goal
 
-pub loop-i-init : goal.loop-i-init
-unfolding hex
-loop-i-init c = refl
-
-pub loop-i-preserved : goal.loop-i-preserved
-loop-i-preserved c = rw (c.digit.ensures, c.digit-in-loop-i.ensures) (encode_step c.loop-i.out c.args.bytes.now c.loop-i.i c.loop-i.invariant (omega arith) (omega arith))
+pub returns : goal.returns
+returns c =
+    let written = c.encode_to_slice-written.ensures in
+    hex_done c.args.bytes.now c.encode_to_slice-written.new.output c.encode_to_slice-written.result (λ i. let f = c.type_inv.bytes i in omega arith) (written.fits.1 c.requires) written.written
