@@ -2,6 +2,7 @@ mod Known
 pub mod Calls
 pub mod Moments
 pub mod Overwritten
+pub mod Passing
 pub mod Runs
 pub mod Shrinks
 pub mod Since

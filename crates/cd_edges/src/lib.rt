@@ -1,14 +1,18 @@
-//! The outside as cdstore sees it: what it reads, what it writes, and the areas in which the clouds keep their bytes.
+//! The outside as cdstore sees it: what it reads, what it writes, the areas in which the clouds keep their bytes, and connections.
 #![tactic(auto)]
 
 mod area;
 mod laws;
+mod ports;
 mod shelf;
 mod stream;
 mod synced;
+mod whole;
 
 pub use area::Area;
 pub use laws::{law_of_images, law_of_overwriting, law_of_stable};
+pub use ports::Ports;
 pub use shelf::Shelf;
 pub use stream::{Failed, Sink, SinkFault, Source, write_all};
 pub use synced::write_synced;
+pub use whole::{receive, send_all};
