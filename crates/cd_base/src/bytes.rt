@@ -1,6 +1,6 @@
 //! A list of bytes.
 
-ghost use Rattle.std.specs.Prelude.{◌≡◌, ℕ, List, [], ◌∷◌, ◌++◌, ◌-◌, length, take, replicate, slice_get, OnOk, OnErr, IsTrue, ◌↔◌};
+ghost use Rattle.std.specs.Prelude.{◌≡◌, ℕ, List, [], ◌∷◌, ◌++◌, ◌-◌, length, take, replicate, slice_get, OnOk, OnErr, IfOk, IsTrue, ◌↔◌};
 ghost use Rattle.std.specs.Option.{option_copied};
 ghost use Rattle.std.specs.Borrow.{sem};
 ghost use Rattle.cd_base.specs.Lending.{LendsAll};
@@ -31,6 +31,15 @@ impl Bytes {
         Bytes {
             items: Vec::new(alloc),
         }
+    }
+
+    /// No bytes, and memory for so many of them, so that as many are appended with no growth.
+    pub fn with_capacity(alloc: Global, capacity: usize) -> Result<Bytes, NoMemory>
+        ensures { IfOk result (λ bytes. bytes ≡ []) }
+    {
+        Ok(Bytes {
+            items: Vec::with_capacity(alloc, capacity)?,
+        })
     }
 
     /// Appends a byte. For want of memory nothing changes.
@@ -119,7 +128,8 @@ mod tests {
 
     #[test]
     fn grows(rt: HostRuntime) -> Result<(), Fail> {
-        let mut bytes = Bytes::new(rt.alloc());
+        let mut bytes = Bytes::with_capacity(rt.alloc(), 1)?;
+        assert!(rt; bytes.is_empty());
         bytes.push(1)?;
         bytes.extend(&[2, 3])?;
         assert_eq!(rt; bytes.as_slice(), [1, 2, 3].as_slice());

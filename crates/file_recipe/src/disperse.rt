@@ -30,16 +30,6 @@ fn ends_of(alloc: Global, file: &[u8]) -> Result<Ends, NoMemory>
     Ok(cuts)
 }
 
-// An empty list that has room for so many bytes.
-fn with_room(alloc: Global, room: usize) -> Result<Bytes, NoMemory>
-    ensures { IfOk result (λ bytes. bytes ≡ []) }
-{
-    let mut bytes = Bytes::new(alloc);
-    bytes.resize(room, 0)?;
-    bytes.clear();
-    Ok(bytes)
-}
-
 // How many bytes the shares of a file's secrets have at one cloud, or a few more: the k-th part of the file's bytes and of
 // 31 + k more for each of its secrets.
 fn room_of(shape: Shape, file_len: usize, count: usize) -> usize
@@ -66,7 +56,7 @@ fn unshared_file(
     let mut name_share = Bytes::new(alloc);
     name_share.extend(name)?;
     let items = Items::with_capacity(alloc, count)?;
-    let shares = with_room(alloc, room_of(shape, file.len(), count))?;
+    let shares = Bytes::with_capacity(alloc, room_of(shape, file.len(), count))?;
     Ok(CloudFile {
         recipe: Recipe {
             name_len: path.len() as u16,
