@@ -47,16 +47,19 @@ impl FileKey {
     }
 }
 
-/// The word is the tag's first 8 bytes.
+/// The word is the tag's first 8 bytes, turned by the user's number and by the version: the versions of one path, of all users, are
+/// spread.
 impl Key for FileKey {
-    ghost use Rattle.pool_map.specs.Word.{first_word};
-    ghost use Rattle.file_index.specs.Order.{key_exact};
+    ghost use Rattle.file_index.specs.Order.{key_word, key_exact};
 
-    ghost word_of = { λ key. first_word key.tag };
+    ghost word_of = { key_word };
 
     ghost exact = { key_exact };
 
     fn word(&self) -> u64 {
-        self.tag.word()
+        self.tag
+            .word()
+            .wrapping_add((self.user as u64).wrapping_mul(14029467366897019727))
+            .wrapping_add(self.version.wrapping_mul(11400714819323198485))
     }
 }
