@@ -1,5 +1,6 @@
 //! Fields of bytes.
 
+ghost use Rattle.std.specs.Prelude.{◌≢◌, IfErr};
 ghost use Rattle.std.specs.Int.{w16, w32, w64};
 ghost use Rattle.grammar.specs.Readers.{Gives};
 ghost use Rattle.grammar.specs.Fields.{number_at, bytes_at};
@@ -7,8 +8,10 @@ ghost use Rattle.grammar.specs.Fields.{number_at, bytes_at};
 use crate::Stop;
 
 /// The next n bytes, and what follows them. Where fewer are left the end is wrong.
+/// It takes no memory, and want of it is no answer.
 pub fn bytes_of(bytes: &[u8], n: usize) -> Result<(&[u8], &[u8]), Stop>
-    ensures { Gives (λ x. (x.0.now, x.1.now)) result (bytes_at n bytes.now) }
+    ensures value { Gives (λ x. (x.0.now, x.1.now)) result (bytes_at n bytes.now) }
+    ensures memory { IfErr result (λ e. e ≢ Stop.Memory) }
 {
     if bytes.len() < n {
         return Err(Stop::Left(0));
@@ -17,8 +20,10 @@ pub fn bytes_of(bytes: &[u8], n: usize) -> Result<(&[u8], &[u8]), Stop>
 }
 
 /// A big-endian number of 2 bytes, and what follows it. Where fewer are left the end is wrong.
+/// It takes no memory, and want of it is no answer.
 pub fn u16_of(bytes: &[u8]) -> Result<(u16, &[u8]), Stop>
-    ensures { Gives (λ x. (x.0, x.1.now)) result (number_at w16 bytes.now) }
+    ensures value { Gives (λ x. (x.0, x.1.now)) result (number_at w16 bytes.now) }
+    ensures memory { IfErr result (λ e. e ≢ Stop.Memory) }
 {
     if bytes.len() < 2 {
         return Err(Stop::Left(0));
@@ -29,8 +34,10 @@ pub fn u16_of(bytes: &[u8]) -> Result<(u16, &[u8]), Stop>
 }
 
 /// A big-endian number of 4 bytes, and what follows it. Where fewer are left the end is wrong.
+/// It takes no memory, and want of it is no answer.
 pub fn u32_of(bytes: &[u8]) -> Result<(u32, &[u8]), Stop>
-    ensures { Gives (λ x. (x.0, x.1.now)) result (number_at w32 bytes.now) }
+    ensures value { Gives (λ x. (x.0, x.1.now)) result (number_at w32 bytes.now) }
+    ensures memory { IfErr result (λ e. e ≢ Stop.Memory) }
 {
     if bytes.len() < 4 {
         return Err(Stop::Left(0));
@@ -41,8 +48,10 @@ pub fn u32_of(bytes: &[u8]) -> Result<(u32, &[u8]), Stop>
 }
 
 /// A big-endian number of 8 bytes, and what follows it. Where fewer are left the end is wrong.
+/// It takes no memory, and want of it is no answer.
 pub fn u64_of(bytes: &[u8]) -> Result<(u64, &[u8]), Stop>
-    ensures { Gives (λ x. (x.0, x.1.now)) result (number_at w64 bytes.now) }
+    ensures value { Gives (λ x. (x.0, x.1.now)) result (number_at w64 bytes.now) }
+    ensures memory { IfErr result (λ e. e ≢ Stop.Memory) }
 {
     if bytes.len() < 8 {
         return Err(Stop::Left(0));

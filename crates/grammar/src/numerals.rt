@@ -1,6 +1,6 @@
 //! Decimal numbers.
 
-ghost use Rattle.std.specs.Prelude.{◌≡◌, ◌≤◌, ◌<◌, ◌^◌, IfSome, IfOk};
+ghost use Rattle.std.specs.Prelude.{◌≡◌, ◌≤◌, ◌<◌, ◌^◌, ◌≢◌, IfSome, IfOk, IfErr};
 ghost use Rattle.std.specs.Str.{all_ascii_digits};
 ghost use Rattle.grammar.specs.Readers.{Gives};
 ghost use Rattle.grammar.specs.Words.{field_at};
@@ -50,10 +50,12 @@ pub fn number_of(word: &[u8], low: u64, high: u64) -> Option<u64>
     if low <= n && n <= high { Some(n) } else { None }
 }
 
-/// A number in a range, both ends in it, behind a blank, and what follows it.
+/// A number in a range, both ends in it, behind a blank, and what follows it. Where the blank or such a number lacks, its
+/// place is wrong. It takes no memory, and want of it is no answer.
 #[tactic(auto, unfolding(crate::specs::Words::field_at, crate::specs::Words::word_at))]
 pub fn u64_field(bytes: &[u8], low: u64, high: u64) -> Result<(u64, &[u8]), Stop>
     ensures value { Gives (λ x. (x.0, x.1.now)) result (field_at (number low high) bytes.now) }
+    ensures memory { IfErr result (λ e. e ≢ Stop.Memory) }
     ensures range { IfOk result (λ x. x.0 ≤ high) }
 {
     match bytes {
@@ -70,7 +72,8 @@ pub fn u64_field(bytes: &[u8], low: u64, high: u64) -> Result<(u64, &[u8]), Stop
 
 /// The same of a smaller range.
 pub fn u32_field(bytes: &[u8], low: u32, high: u32) -> Result<(u32, &[u8]), Stop>
-    ensures { Gives (λ x. (x.0, x.1.now)) result (field_at (number low high) bytes.now) }
+    ensures value { Gives (λ x. (x.0, x.1.now)) result (field_at (number low high) bytes.now) }
+    ensures memory { IfErr result (λ e. e ≢ Stop.Memory) }
 {
     let (n, rest) = u64_field(bytes, low as u64, high as u64)?;
     Ok((n as u32, rest))
@@ -91,10 +94,12 @@ fn capped_of(word: &[u8], cap: u64) -> Option<u64>
     }
 }
 
-/// A number of any size, or the cap where that is less, behind a blank, and what follows it.
+/// A number of any size, or the cap where that is less, behind a blank, and what follows it. Where the blank or a number
+/// lacks, its place is wrong. It takes no memory, and want of it is no answer.
 #[tactic(auto, unfolding(crate::specs::Words::field_at, crate::specs::Words::word_at))]
 pub fn capped_field(bytes: &[u8], cap: u64) -> Result<(u64, &[u8]), Stop>
     ensures value { Gives (λ x. (x.0, x.1.now)) result (field_at (capped cap) bytes.now) }
+    ensures memory { IfErr result (λ e. e ≢ Stop.Memory) }
     ensures range { IfOk result (λ x. x.0 ≤ cap) }
 {
     match bytes {
