@@ -9,3 +9,4 @@ pub mod Walks
 pub mod Unlink
 pub mod Unhash
 pub mod Rewrite
+pub mod Standing

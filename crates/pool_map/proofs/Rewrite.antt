@@ -1,5 +1,5 @@
--- What another value at a present key does to a hash table.
-use Rattle.std.proofs.Common.{◌≡◌, ℕ, ◌<◌, true, cond, List, length, get_or, set, refl, sym, ap, ◌∙◌, subst, arith, Some, inl, inr, length-set, count_by}
+-- What another value at a present key does to a table.
+use Rattle.std.proofs.Common.{◌≡◌, ℕ, ◌+◌, ◌<◌, true, cond, List, length, get_or, set, refl, sym, ap, ◌∙◌, subst, arith, Some, inl, inr, length-set, count_by}
 use Rattle.std.proofs.lemmas.List.{get_or-set_same, get_or-set_other, get_or_past}
 use Rattle.std.proofs.lemmas.List.Sums.{sum_by-set}
 use Rattle.std.proofs.lemmas.Bool.{cases_eq, cases_lt, cases_Bool, cond-true, cond-false}
@@ -13,8 +13,9 @@ use Rattle.slot_pool.specs.Pool.{Pool, IsHeld, value_of, with_value, with_conten
 use Rattle.pool_map.specs.declared.Entry.{Entry}
 use Rattle.pool_map.specs.Table.{pairs, is_held, with_value_at, rewritten, Rewrites}
 use Rattle.pool_map.specs.Chains.{IsHashed, HasKey, bucket}
+use Rattle.pool_map.specs.Index.{IsOrdered, IsRing}
 use Rattle.pool_map.proofs.Pairs.{ties, ties-held, find-some, find-set_other, is_eq-from, Equal-from}
-use Rattle.pool_map.proofs.Order.{same-account}
+use Rattle.pool_map.proofs.Order.{held-parts, same-account}
 use Rattle.pool_map.proofs.Steps.{read-value}
 
 module _ {K W : Type 0} where
@@ -84,6 +85,34 @@ module _ {K W : Type 0} (R : K → K → Ordering) (total : IsTotalOrder R) (exa
       let counts = sum_by-set (λ (c : Content (Entry K W)). cond (is_held c) 1 0) cells n new Empty within in
       let one : cond {A = ℕ} (is_held (get_or cells n Empty)) 1 0 ≡ 1 = ap (λ (c : Content (Entry K W)). cond (is_held c) 1 0) here.holds in
       omega arith
+
+  -- the order of the keys is as it was
+  pub rewrite-ordered : (links : List ℕ) → IsOrdered R cells links → IsOrdered R (set cells n new) links
+  rewrite-ordered links ordered =
+      let o = ordered.order in
+      let old = ordered.index in
+      let same_length = length-set cells n new in
+      record {
+        order = o;
+        index = record {
+          live = λ i l. elim (cases_eq (get_or o i 0) n) [
+            | inl same ↦ subst IsHeld (sym (ap (λ t. get_or (set cells n new) t Empty) same ∙ written)) tt
+            | inr other ↦ subst IsHeld (sym (get_or-set_other cells n (get_or o i 0) new Empty other)) (old.live i l)
+          ];
+          complete = λ s held.
+              let p = held-parts _ held in
+              let x = before s p.0 p.1 p.2 in
+              old.complete s (subst IsHeld (sym x.1) tt);
+          rising = λ i j a b e f less lj at_i at_j.
+              let x = before (get_or o i 0) a e at_i in
+              let y = before (get_or o j 0) b f at_j in
+              ap (λ k. R k f.key) (sym x.2) ∙ ap (R x.0.key) (sym y.2) ∙ old.rising i j a b x.0 y.0 less lj x.1 y.1;
+          counted = old.counted ∙ rewrite-count;
+          small = let x = old.small in omega arith;
+        };
+        lengths = ordered.lengths ∙ ap (λ m. m + 1) (sym same_length);
+        ring = subst (λ m. IsRing m links o) (sym same_length) ordered.ring;
+      }
 
   alone : (q : K) → q ≡ key → (t : ℕ) → ties R q (get_or (set cells n new) t Empty) ≡ true → t ≡ n
   alone q is t tie =

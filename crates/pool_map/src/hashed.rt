@@ -115,10 +115,17 @@ impl<K: Key, W: Drop> Table<K, W> for HashTable<K, W> {
     }
 
     fn at(&self, slot: u32) -> Option<(&K, &W)> {
+        if slot >= self.pool.slots() {
+            return None;
+        }
         match self.pool.look(slot) {
             Content::Held(_, entry) => Some((&entry.key, &entry.value)),
             Content::Empty => None,
         }
+    }
+
+    fn slot_of(&self, key: &K) -> Option<u32> {
+        self.chains.find(&self.pool, key)
     }
 
     fn remove(&mut self, key: &K) -> Option<W> {

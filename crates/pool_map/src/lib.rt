@@ -33,7 +33,7 @@ pub struct TableFull {
 /// charged to its account, of those that the table was made with. No call takes memory, and every answer but that of `at`
 /// follows from the map and the limits alone, so that two tables with the same map answer alike.
 pub trait Table<K: Key, W> {
-    ghost use Rattle.std.specs.Prelude.{◌≡◌, ◌+◌, ◌<◌, ◌↔◌, List, ℕ, length, replicate, option_copied, option_map, IsErr, OnOk, OnErr, IfErr, IfNone, Some, None, ◌≤◌};
+    ghost use Rattle.std.specs.Prelude.{◌≡◌, ◌+◌, ◌<◌, ◌↔◌, List, ℕ, length, replicate, option_copied, option_map, is_some, IsErr, OnOk, OnErr, IfErr, IfSome, IfNone, Some, None, ◌≤◌};
     ghost use Rattle.std.specs.FinMap as map;
     ghost use Rattle.slot_pool.specs.Pool.{Pool as Slots, content, limit_of, IsAccount};
     ghost use Rattle.slot_pool.specs.declared.Content.TheVariants.{Empty, Held};
@@ -78,11 +78,16 @@ pub trait Table<K: Key, W> {
     fn slots(&self) -> u32
         ensures { result ≡ length (pool self.now).slots };
 
-    /// The pair in a slot, if there is one. Each pair of the map stands in just one slot.
+    /// The pair in a slot, if there is one: a slot past the last has none. Each pair of the map stands in just one slot.
     fn at(&self, slot: u32) -> Option<(&K, &W)>
-        requires { slot < length (pool self.now).slots }
         ensures pair { option_map (λ pair. (pair.0.now, pair.1.now)) result ≡ pair_of (content (pool self.now) slot) }
         ensures each { IsListing K.cmp (pool self.now) };
+
+    /// The slot of a key, at which `at` answers it with its value. None comes exactly where the key is absent.
+    fn slot_of(&self, key: &K) -> Option<u32>
+        ensures slot { IfSome result (λ slot. pair_of (content (pool self.now) slot)
+            ≡ option_map (λ value. (key.now, value)) (value_at K.cmp (pool self.now) key.now)) }
+        ensures present { is_some result ≡ is_some (at_key K.cmp (pool self.now) key.now) };
 
     /// Takes a key out, with its value, if it is present. Its account may have one pair more.
     fn remove(&mut self, key: &K) -> Option<W>

@@ -7,6 +7,7 @@ use slot_pool::{Content, Pool, Slot};
 use std::alloc::{AllocError, Global};
 use std::cmp::Ordering;
 use std::marker::Model;
+use std::mem;
 
 /// A table that goes through its keys in order.
 #[derive(Drop)]
@@ -136,6 +137,25 @@ impl<K: Key, W: Drop> SortedTable<K, W> {
     }
 }
 
+impl<K: Key, W: Drop> SortedTable<K, W> {
+    ghost use Rattle.std.specs.Prelude.{◌≡◌, Some};
+    ghost use Rattle.pool_map.specs.Table.{contents, value_at, IsPresent, with_value_at, Rewrites};
+
+    /// Puts another value at a key that is present, and gives back the value before. The pair stays in its slot and is charged
+    /// to the same account.
+    pub fn replace(&mut self, key: &K, value: W) -> W
+        requires { IsPresent K.cmp self.old key.now }
+        ensures value { Some result ≡ value_at K.cmp self.old key.now }
+        ensures replaced { contents K.cmp self.new ≡ with_value_at (contents K.cmp self.old) key.now value }
+        ensures slots { Rewrites K.cmp self.old self.new key.now value }
+    {
+        match self.chains.find(&self.pool, key) {
+            Some(number) => mem::replace(&mut self.pool.get_mut(Slot { number }).value, value),
+            None => unreachable!(),
+        }
+    }
+}
+
 impl<K: Key, W> SortedTable<K, W> {
     ghost use Rattle.std.specs.Prelude.{◌≡◌, MatchOption};
     ghost use Rattle.pool_map.specs.Table.{contents, IsLeastAbove, HasNoneAbove};
@@ -210,10 +230,17 @@ impl<K: Key, W: Drop> Table<K, W> for SortedTable<K, W> {
     }
 
     fn at(&self, slot: u32) -> Option<(&K, &W)> {
+        if slot >= self.pool.slots() {
+            return None;
+        }
         match self.pool.look(slot) {
             Content::Held(_, entry) => Some((&entry.key, &entry.value)),
             Content::Empty => None,
         }
+    }
+
+    fn slot_of(&self, key: &K) -> Option<u32> {
+        self.chains.find(&self.pool, key)
     }
 
     fn remove(&mut self, key: &K) -> Option<W> {

@@ -83,10 +83,12 @@ fn matches_slots<T: Table<Crowded, u64>>(rt: &impl Abort, table: &T, model: &BTr
     for slot in 0..table.slots() {
         if let Some((key, value)) = table.at(slot) {
             assert_eq!(rt; model.get(&key.value), Some(value));
+            assert_eq!(rt; table.slot_of(key), Some(slot));
             seen = seen.wrapping_add(1);
         }
     }
     assert_eq!(rt; seen, model.len());
+    assert!(rt; table.at(table.slots()).is_none());
 }
 
 // What two inserts of different keys into a table of one slot answer.
@@ -148,6 +150,11 @@ fn goes_through_keys_in_order(rt: HostRuntime) -> Result<(), Fail> {
     ] {
         assert_eq!(rt; table.above(&Number { value }).map(|key| key.value), want);
     }
+    let twenty = Number { value: 20 };
+    if table.get(&twenty).is_some() {
+        assert_eq!(rt; table.replace(&twenty, 5), 0);
+    }
+    assert_eq!(rt; table.get(&twenty), Some(&5));
     Ok(())
 }
 
