@@ -47,8 +47,8 @@ impl FileKey {
     }
 }
 
-/// The word is the tag's first 8 bytes, turned by the user's number and by the version: the versions of one path, of all users, are
-/// spread.
+/// The word is the tag's first 8 bytes, turned by the user's number and by the version: the versions of one path, of all
+/// users, are spread.
 impl Key for FileKey {
     ghost use Rattle.file_index.specs.Order.{key_word, key_exact};
 

@@ -163,9 +163,8 @@ impl FileIndex {
         self.table.slots()
     }
 
-    /// The entry in a slot, if there is one. Each entry of the map stands in just one slot.
+    /// The entry in a slot, if there is one: a slot past the last has none. Each entry of the map stands in just one slot.
     pub fn entry_at(&self, slot: u32) -> Option<(UserId, Tag, Version, Entry)>
-        requires { slot < length self.now.slots }
         ensures entry { option_map entry_with result ≡ slot_of self.now.slots slot }
         ensures each { IsListed self.now.files self.now.slots }
     {

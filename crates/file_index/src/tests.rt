@@ -143,5 +143,6 @@ fn agrees_with_a_map(rt: HostRuntime) -> Result<(), Fail> {
         }
     }
     assert_eq!(rt; seen, index.len());
+    assert!(rt; index.entry_at(index.slots()).is_none());
     Ok(())
 }

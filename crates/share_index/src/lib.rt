@@ -310,9 +310,8 @@ impl ShareIndex {
         self.owners.slots()
     }
 
-    /// The fingerprint and its place in a slot, if there is one. Each stands in just one slot.
+    /// The fingerprint and its place in a slot, if there is one: a slot past the last has none. Each stands in just one slot.
     pub fn place_at(&self, slot: u32) -> Option<(Fp, Place)>
-        requires { slot < length self.now.place_slots }
         ensures place { option_map place_with result ≡ slot_of self.now.place_slots slot }
         ensures each { IsListed self.now.places self.now.place_slots }
     {
@@ -322,9 +321,8 @@ impl ShareIndex {
         }
     }
 
-    /// The user and the fingerprint in a slot, if there is one. Each stands in just one slot.
+    /// The user and the fingerprint in a slot, if there is one: a slot past the last has none. Each stands in just one slot.
     pub fn owner_at(&self, slot: u32) -> Option<(UserId, Fp)>
-        requires { slot < length self.now.owner_slots }
         ensures owner { option_map owner_with result ≡ option_map (λ pair. pair.0) (slot_of self.now.owner_slots slot) }
         ensures each { IsListed self.now.owners self.now.owner_slots }
     {

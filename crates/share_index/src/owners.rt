@@ -138,7 +138,6 @@ impl OwnerTable {
 
     // Whether the slot has an owner of the fingerprint.
     fn is_of(&self, slot: u32, fp: &[u8; 32]) -> bool
-        requires { slot < length self.now.slots }
         ensures shows { result ≡ shows_fp fp.now (slot_of self.now.slots slot) }
         ensures each { IsListed self.now.owners self.now.slots }
     {
@@ -155,9 +154,8 @@ impl OwnerTable {
         self.table.slots()
     }
 
-    /// The owner in a slot.
+    /// The owner in a slot: none in one past the last.
     pub(crate) fn at(&self, slot: u32) -> Option<Owner>
-        requires { slot < length self.now.slots }
         ensures owner { result ≡ option_map (λ pair. pair.0) (slot_of self.now.slots slot) }
         ensures each { IsListed self.now.owners self.now.slots }
     {

@@ -128,9 +128,8 @@ impl PlaceTable {
         self.table.slots()
     }
 
-    /// What stands in a slot.
+    /// What stands in a slot: nothing in one past the last.
     pub(crate) fn at(&self, slot: u32) -> Option<(Fp, Kept)>
-        requires { slot < length self.now.slots }
         ensures kept { option_map (λ found. (found.0.0, found.1)) result ≡ slot_of self.now.slots slot }
         ensures each { IsListed self.now.kept self.now.slots }
     {
