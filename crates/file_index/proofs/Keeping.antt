@@ -8,12 +8,12 @@ use Rattle.std.specs.declared.cmp.Ordering.TheVariants.{Less, Equal, Greater}
 use Rattle.std.specs.FinMap.{FinMap, get, insert, remove, empty, get-empty}
 use Rattle.slot_pool.specs.Pool.{Pool, limit_of}
 use Rattle.pool_map.specs.declared.Entry.{Entry as Pair}
-use Rattle.pool_map.specs.Table.{contents, charged, value_at, IsLeastAbove, HasNoneAbove}
-use Rattle.pool_map.specs.Shown.{shown, get-shown}
+use Rattle.pool_map.specs.Table.{contents, charged, value_at, with_value_at, rewritten, IsLeastAbove, HasNoneAbove}
+use Rattle.pool_map.specs.Shown.{shown, get-shown, shown-insert}
 use Rattle.index_base.specs.declared.Accounts.{Accounts}
 use Rattle.index_base.specs.declared.IndexErr.TheVariants.{Full}
 use Rattle.index_base.specs.Accounts.{limits_of, limit_for, account_for, IsKnown}
-use Rattle.index_base.specs.Charges.{IsCharged, charged-use, unknown-use, limit-account, charged-empty, charged-insert, charged-remove, got-insert, got-remove}
+use Rattle.index_base.specs.Charges.{IsCharged, charged-use, unknown-use, limit-account, charged-empty, charged-insert, charged-remove, charged-rewritten, got-insert, got-remove}
 use Rattle.cd_base.specs.declared.ids.Tag.{Tag}
 use Rattle.cd_base.specs.declared.ids.Version.{Version}
 use Rattle.file_index.specs.declared.key.FileKey.{FileKey}
@@ -67,6 +67,27 @@ kept-insert p q accounts k a e kept limits is at known long = record {
         | inr old ↦ kept.tags t (some-is _ x.0 old)
       ];
 }
+
+-- another entry at a key that the table has
+pub kept-rewritten : (p q : Pool (Pair FileKey Entry)) (accounts : Accounts) (k : FileKey) (e : Entry) (x : ℕ × Entry) → IsKept p accounts → q.limits ≡ p.limits → contents key_cmp q ≡ with_value_at (contents key_cmp p) k e → get (contents key_cmp p) k ≡ Some x → IsKept q accounts
+kept-rewritten p q accounts k e x kept limits is at = record {
+  limits = limits ∙ kept.limits;
+  charged = subst (IsCharged accounts (λ (k : FileKey). k.user)) (sym is) (charged-rewritten key_total key_exact (λ (k : FileKey). k.user) accounts (contents key_cmp p) kept.charged k e x at);
+  tags = λ t some.
+      let y = value-of _ some in
+      let to : contents key_cmp q ≡ insert (contents key_cmp p) k (x.0, e) = is ∙ ap (rewritten (contents key_cmp p) k e) at in
+      elim (got-insert key_total key_exact (contents key_cmp p) k t (x.0, e) y.0 (ap (λ (m : FinMap key_cmp (ℕ × Entry)). get m t) (sym to) ∙ y.1)) [
+        | inl same ↦ kept.tags t (some-is _ x (ap (get (contents key_cmp p)) same.0 ∙ at))
+        | inr old ↦ kept.tags t (some-is _ y.0 old)
+      ];
+}
+
+pub rewritten-files : (p q : Pool (Pair FileKey Entry)) (k : FileKey) (e : Entry) (x : ℕ × Entry) → get (contents key_cmp p) k ≡ Some x → contents key_cmp q ≡ with_value_at (contents key_cmp p) k e → shown value (contents key_cmp q) ≡ insert (shown value (contents key_cmp p)) k e
+rewritten-files p q k e x at to = ap (shown value) (to ∙ ap (rewritten (contents key_cmp p) k e) at) ∙ shown-insert value key_total key_exact (contents key_cmp p) k (x.0, e)
+
+-- a key of the files has its account and its entry in the table
+pub entry-of : (m : FinMap key_cmp (ℕ × Entry)) (k : FileKey) → is_some (get (shown value m) k) ≡ true → (x : ℕ × Entry) × (get m k ≡ Some x)
+entry-of m k some = value-of _ (sym (present-shown m k) ∙ some)
 
 pub kept-remove : (p q : Pool (Pair FileKey Entry)) (accounts : Accounts) (k : FileKey) → IsKept p accounts → q.limits ≡ p.limits → contents key_cmp q ≡ remove (contents key_cmp p) k → IsKept q accounts
 kept-remove p q accounts k kept limits is = record {

@@ -3,12 +3,12 @@
 //! An index takes all its memory when it is made. From then on `put` answers by the room alone.
 #![tactic(auto)]
 
-ghost use Rattle.std.specs.Prelude.{◌≡◌, ◌≤◌, ◌<◌, ◌*◌, ◌^◌, ◌↔◌, IfOk, IfErr, OnOk, OnErr, IsErr, MatchOption, None, option_map, length};
+ghost use Rattle.std.specs.Prelude.{◌≡◌, ◌≤◌, ◌<◌, ◌*◌, ◌^◌, ◌↔◌, IfOk, IfErr, OnOk, OnErr, IsErr, IsSome, MatchOption, None, option_map, length};
 ghost use Rattle.std.specs.FinMap as map;
 ghost use Rattle.index_base.specs.declared.Accounts.TheVariants.{Shared, PerUser};
 ghost use Rattle.index_base.specs.declared.IndexErr.TheVariants.{Full};
 ghost use Rattle.index_base.specs.Accounts.{limit_for, slots_of};
-ghost use Rattle.index_base.specs.Slots.{slot_of, IsListed};
+ghost use Rattle.index_base.specs.Slots.{slot_of, IsListed, IsRewritten};
 ghost use Rattle.file_index.specs.Files.{key_of, used_by, IsNext, HasNoNext, entry_with};
 ghost use Rattle.file_index.specs.Kept.{IsLeastFrom, HasNoneFrom, HasTags, IsFound};
 
@@ -124,6 +124,17 @@ impl FileIndex {
             }
             None => Err(IndexErr::Full { used: 0, limit: 0 }),
         }
+    }
+
+    /// Puts another entry at a version that the user has. It stays in its slot.
+    pub fn move_entry(&mut self, user: UserId, tag: &Tag, version: Version, entry: Entry)
+        requires { IsSome (map.get self.old.files (key_of user.0 tag.now.0 version.0)) }
+        ensures files { self.new.files ≡ map.insert self.old.files (key_of user.0 tag.now.0 version.0) entry }
+        ensures moved { IsRewritten self.old.slots self.new.slots (key_of user.0 tag.now.0 version.0) entry }
+        ensures slots { length self.new.slots ≡ length self.old.slots }
+        ensures accounts { self.new.accounts ≡ self.old.accounts }
+    {
+        self.table.replace(&FileKey::of(user, tag, version), entry);
     }
 
     // The least key above the last one, or from the user's least one on.

@@ -1,6 +1,6 @@
 -- What each call does to the counts that tie the two tables together.
 use Rattle.std.proofs.Common.{◌≡◌, ◌≢◌, ℕ, zero, suc, ◌+◌, ◌-◌, ◌<◌, ◌≤◌, true, cond, List, [], ◌∷◌, length, Option, Some, None, refl, sym, ap, ◌∙◌, subst, arith, inl, inr, ◌⊎◌, sum_by, true≢false}
-use Rattle.std.specs.Prelude.{is_none, option_map, slice_index_or, map, ◌==◌}
+use Rattle.std.specs.Prelude.{is_none, is_some, option_map, IfSome, slice_index_or, map, ◌==◌}
 use Rattle.std.proofs.lemmas.List.Sums.{sum_by-cons, count_by-le-length}
 use Rattle.std.proofs.lemmas.Bool.{cases_Bool, cond-true, cond-false, false_from_ne_true}
 use Rattle.std.specs.declared.cmp.Ordering.{Ordering}
@@ -157,6 +157,20 @@ module _ (p : Places) (o : Owners) (n : ℕ) (is : IsIndexed p o n) where
     left = let was = is.left in let count = is.counted fp x at in let now = ap (λ (m : FinMap fp_cmp Kept). unplaced_in m o.owners) to in omega (arith, unplaced-dropped p.kept o.owners fp x at);
   }
 
+  -- another place, with as many owners
+  pub indexed-move : (q : Places) (fp : List ℕ) (x y : Kept) → q.kept ≡ insert p.kept fp y → get p.kept fp ≡ Some x → y.owners ≡ x.owners → IsIndexed q o n
+  indexed-move q fp x y put at same = record {
+    counted = λ f k got. elim (written p.kept fp f y k (ap (λ (m : FinMap fp_cmp Kept). get m f) (sym put) ∙ got)) [
+      | inl e ↦ ap (λ (z : Kept). z.owners) e.1 ∙ same ∙ is.counted fp x at ∙ ap (owners_of o.owners) (sym e.0)
+      | inr old ↦ is.counted f k old.1
+    ];
+    left = is.left ∙ sym (ap (λ (m : FinMap fp_cmp Kept). unplaced_in m o.owners) put ∙ unplaced-over p.kept o.owners fp x y at);
+  }
+
+  -- where each owner's fingerprint has a place, nobody owns one without
+  pub none-unplaced : (fp : List ℕ) → get p.kept fp ≡ None → n ≡ 0 → 0 ≡ owners_of o.owners fp
+  none-unplaced fp none all_placed = let le = owners-le-unplaced fp (record { place = record { at = 0; len = 0 }; owners = 0 }) none in omega arith
+
   -- all owners of one fingerprint and those without a place are owners
   pub drop_place-fits : (fp : List ℕ) (x : Kept) → get p.kept fp ≡ Some x → n + x.owners ≤ len o.owners
   drop_place-fits fp x at = let was = is.left in let count = is.counted fp x at in omega (arith, unplaced-dropped p.kept o.owners fp x at, unplaced-le-len (remove p.kept fp) o.owners)
@@ -301,6 +315,27 @@ listed-places kept slots is = record {
       let key_y : y.0.0 ≡ k = ap (λ (z : List ℕ × Place). z.0) y.2 in
       is.once i j k x.0.1 y.0.1 (x.1 ∙ ap (λ (q : List ℕ). Some (q, x.0.1)) key_x) (y.1 ∙ ap (λ (q : List ℕ). Some (q, y.0.1)) key_y);
 }
+
+twice : (fp : List ℕ) (o : Option Kept) → option_map (through place_in) (option_map (λ (k : Kept). (fp, k)) o) ≡ option_map (λ (place : Place). (fp, place)) (option_map place_in o)
+twice fp None = refl
+twice fp (Some x) = refl
+
+-- the slot of a fingerprint shows its place
+pub slot-placed : (kept : FinMap fp_cmp Kept) (slots : List (Option (List ℕ × Kept))) (fp : List ℕ) (answer : Option ℕ) → IfSome answer (λ s. slot_of slots s ≡ option_map (λ k. (fp, k)) (get kept fp)) → IfSome answer (λ s. slot_of (placed_slots slots) s ≡ option_map (λ place. (fp, place)) (get (shown place_in kept) fp))
+slot-placed kept slots fp None here = tt
+slot-placed kept slots fp (Some s) here =
+    placed-slot slots s
+    ∙ ap (option_map (through place_in)) here
+    ∙ twice fp (get kept fp)
+    ∙ ap (option_map (λ (place : Place). (fp, place))) (sym (get-shown place_in kept fp))
+
+some-place : (o : Option Kept) → is_some (option_map place_in o) ≡ is_some o
+some-place None = refl
+some-place (Some x) = refl
+
+-- what is kept of a fingerprint has its place
+pub present-place : (kept : FinMap fp_cmp Kept) (fp : List ℕ) → is_some (get (shown place_in kept) fp) ≡ is_some (get kept fp)
+present-place kept fp = ap is_some (get-shown place_in kept fp) ∙ some-place (get kept fp)
 
 pub absent-place : (kept : FinMap fp_cmp Kept) (fp : List ℕ) → get (shown place_in kept) fp ≡ None → get kept fp ≡ None
 absent-place kept fp e = none-mapped (get kept fp) (sym (get-shown place_in kept fp) ∙ e)

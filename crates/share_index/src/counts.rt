@@ -48,8 +48,8 @@ impl UserCounts {
         Ok(UserCounts { table, batches: 0 })
     }
 
-    // How many fingerprints a user owns.
-    fn count(&self, user: u32) -> u32
+    /// How many fingerprints a user owns.
+    pub(crate) fn count(&self, user: u32) -> u32
         ensures { result ≡ count_at self.now.counts user }
     {
         self.table

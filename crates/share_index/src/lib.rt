@@ -3,14 +3,14 @@
 //! An index takes all its memory when it is made. From then on `set_place` and `add_owner` answer by the room alone.
 #![tactic(auto)]
 
-ghost use Rattle.std.specs.Prelude.{◌≡◌, ◌≤◌, ◌<◌, ◌+◌, ◌-◌, ◌*◌, ◌^◌, ◌↔◌, IfOk, IfErr, OnOk, OnErr, IsErr, IsSome, IsTrue, None, option_map, length};
+ghost use Rattle.std.specs.Prelude.{◌≡◌, ◌≤◌, ◌<◌, ◌+◌, ◌-◌, ◌*◌, ◌^◌, ◌↔◌, IfOk, IfErr, OnOk, OnErr, IsErr, IfSome, IsSome, IsTrue, None, is_some, option_map, length};
 ghost use Rattle.std.specs.FinMap as map;
 ghost use Rattle.index_base.specs.declared.Accounts.TheVariants.{Shared, PerUser};
 ghost use Rattle.index_base.specs.declared.IndexErr.TheVariants.{Full};
-ghost use Rattle.index_base.specs.Accounts.{limit_for, slots_of};
-ghost use Rattle.index_base.specs.Slots.{slot_of, IsListed};
+ghost use Rattle.index_base.specs.Accounts.{limit_for, slots_of, keys_of};
+ghost use Rattle.index_base.specs.Slots.{slot_of, IsListed, IsRewritten};
 ghost use Rattle.share_index.specs.Order.{owner_of};
-ghost use Rattle.share_index.specs.Shares.{used_by, uses_at, ownerless_in, batches_of, place_with, owner_with};
+ghost use Rattle.share_index.specs.Shares.{used_by, uses_at, owners_of, ownerless_in, batches_of, place_with, owner_with};
 
 mod counts;
 mod key;
@@ -108,6 +108,16 @@ impl ShareIndex {
         }
     }
 
+    /// The slot of a fingerprint's place, at which `place_at` answers both. None comes exactly where the fingerprint has no
+    /// place.
+    pub fn place_slot(&self, fp: &Fp) -> Option<u32>
+        ensures slot { IfSome result (λ slot. slot_of self.now.place_slots slot
+            ≡ option_map (λ place. (fp.now.0, place)) (map.get self.now.places fp.now.0)) }
+        ensures placed { is_some result ≡ is_some (map.get self.now.places fp.now.0) }
+    {
+        self.places.find(&fp.0)
+    }
+
     /// Whether the user owns the fingerprint.
     pub fn owns(&self, user: UserId, fp: &Fp) -> bool
         ensures { IsTrue result ↔ IsSome (map.get self.now.owners (owner_of user.0 fp.now.0)) }
@@ -120,6 +130,30 @@ impl ShareIndex {
         ensures { result ≡ map.get self.now.owners (owner_of user.0 fp.now.0) }
     {
         self.owners.uses(&Owner::of(user, fp))
+    }
+
+    // How many users own a fingerprint without a place. It is one step, unless an owner has a fingerprint without a place: then
+    // it looks through the owners.
+    fn unplaced_owners(&self, fp: &Fp) -> u32
+        requires { map.get self.now.places fp.now.0 ≡ None }
+        ensures { result ≡ owners_of self.now.owners fp.now.0 }
+    {
+        if self.unplaced == 0 {
+            0
+        } else {
+            self.owners.count_of(&fp.0)
+        }
+    }
+
+    /// Whether any user owns the fingerprint. It is one step for a fingerprint with a place. For another it looks through the
+    /// owners, unless each of them has a fingerprint with a place.
+    pub fn is_owned(&self, fp: &Fp) -> bool
+        ensures { IsTrue result ↔ 0 < owners_of self.now.owners fp.now.0 }
+    {
+        match self.places.get(&fp.0) {
+            Some(kept) => kept.owners > 0,
+            None => self.unplaced_owners(fp) > 0,
+        }
     }
 
     /// Gives a fingerprint without a place one. `Full` comes exactly where as many have a place as may, and the index is then
@@ -140,14 +174,33 @@ impl ShareIndex {
             let used = self.places.len();
             return Err(IndexErr::Full { used, limit: used });
         }
-        let owners = if self.unplaced == 0 {
-            0
-        } else {
-            self.owners.count_of(&fp.0)
-        };
+        let owners = self.unplaced_owners(&fp);
         self.places.add(fp.0, Kept { place, owners });
         self.unplaced -= owners;
         Ok(())
+    }
+
+    /// Gives a fingerprint that has a place another one. It stays in its slot, and its owners stay.
+    pub fn move_place(&mut self, fp: &Fp, place: Place)
+        requires { IsSome (map.get self.old.places fp.now.0) }
+        ensures places { self.new.places ≡ map.insert self.old.places fp.now.0 place }
+        ensures moved { IsRewritten self.old.place_slots self.new.place_slots fp.now.0 place }
+        ensures place_slots { length self.new.place_slots ≡ length self.old.place_slots }
+        ensures owners { self.new.owners ≡ self.old.owners }
+        ensures owner_slots { self.new.owner_slots ≡ self.old.owner_slots }
+        ensures fps { self.new.fps ≡ self.old.fps }
+        ensures accounts { self.new.accounts ≡ self.old.accounts }
+    {
+        match self.places.get(&fp.0) {
+            Some(kept) => self.places.set(
+                &fp.0,
+                Kept {
+                    place,
+                    owners: kept.owners,
+                },
+            ),
+            None => unreachable!(),
+        }
     }
 
     /// Makes a user that doesn't own a fingerprint its owner, with no uses. `Full` comes exactly where the account that the
@@ -280,6 +333,13 @@ impl ShareIndex {
         ensures { result ≡ map.len self.now.owners }
     {
         self.owners.len()
+    }
+
+    /// The number of fingerprints that a user owns. It is kept, and not counted anew.
+    pub fn owned_by(&self, user: UserId) -> u32
+        ensures { result ≡ keys_of (λ k. k.user) self.now.owners user.0 }
+    {
+        self.owners.owned_by(user.0)
     }
 
     /// The number of fingerprints with a place that no user owns. It is kept, and not counted anew.

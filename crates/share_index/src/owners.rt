@@ -3,7 +3,7 @@
 ghost use Rattle.std.specs.Prelude.{◌≡◌, ◌<◌, ◌^◌, ◌↔◌, IfOk, IfErr, OnOk, OnErr, IsErr, IsSome, None, length, option_map};
 ghost use Rattle.std.specs.FinMap as map;
 ghost use Rattle.index_base.specs.declared.IndexErr.TheVariants.{Full};
-ghost use Rattle.index_base.specs.Accounts.{limit_for, slots_of, use_for};
+ghost use Rattle.index_base.specs.Accounts.{limit_for, slots_of, use_for, keys_of};
 ghost use Rattle.index_base.specs.Slots.{slot_of, IsListed};
 ghost use Rattle.share_index.specs.Shares.{batches_of, owners_of};
 ghost use Rattle.share_index.specs.Owning.{used_of, shows_fp};
@@ -121,6 +121,13 @@ impl OwnerTable {
         ensures { result ≡ batches_of self.now.owners }
     {
         self.counts.batches()
+    }
+
+    /// How many fingerprints a user owns.
+    pub(crate) fn owned_by(&self, user: u32) -> u32
+        ensures { result ≡ keys_of (λ k. k.user) self.now.owners user }
+    {
+        self.counts.count(user)
     }
 
     /// How many users own a fingerprint. It looks through all owners.

@@ -1,8 +1,8 @@
 //! The placed shares.
 
-ghost use Rattle.std.specs.Prelude.{◌≡◌, ◌<◌, ◌==◌, ◌↔◌, false, if◌then◌else◌, IfOk, IsSome, IsTrue, None, length, option_map};
+ghost use Rattle.std.specs.Prelude.{◌≡◌, ◌<◌, ◌==◌, ◌↔◌, false, if◌then◌else◌, is_some, IfOk, IfSome, IsSome, IsTrue, None, length, option_map};
 ghost use Rattle.std.specs.FinMap as map;
-ghost use Rattle.index_base.specs.Slots.{slot_of, IsListed};
+ghost use Rattle.index_base.specs.Slots.{slot_of, IsListed, IsRewritten};
 ghost use Rattle.share_index.specs.Placing.{zeros};
 
 use crate::key::Kept;
@@ -61,6 +61,15 @@ impl PlaceTable {
         self.table.get(fp).copied()
     }
 
+    /// The slot of a fingerprint, if anything is kept of it.
+    pub(crate) fn find(&self, fp: &[u8; 32]) -> Option<u32>
+        ensures slot { IfSome result (λ slot. slot_of self.now.slots slot
+            ≡ option_map (λ kept. (fp.now, kept)) (map.get self.now.kept fp.now)) }
+        ensures present { is_some result ≡ is_some (map.get self.now.kept fp.now) }
+    {
+        self.table.slot_of(fp)
+    }
+
     /// Whether no further fingerprint may be placed.
     pub(crate) fn is_full(&self) -> bool
         ensures full { IsTrue result ↔ (map.len self.now.kept ≡ self.now.room) }
@@ -83,10 +92,11 @@ impl PlaceTable {
         }
     }
 
-    /// Writes over what is kept of a fingerprint.
+    /// Writes over what is kept of a fingerprint, which stays in its slot.
     pub(crate) fn set(&mut self, fp: &[u8; 32], kept: Kept)
         requires { IsSome (map.get self.old.kept fp.now) }
         ensures kept { self.new.kept ≡ map.insert self.old.kept fp.now kept }
+        ensures rewritten { IsRewritten self.old.slots self.new.slots fp.now kept }
         ensures room { self.new.room ≡ self.old.room }
         ensures slots { length self.new.slots ≡ length self.old.slots }
     {

@@ -51,6 +51,11 @@ fn full_at_one_place(rt: HostRuntime) -> Result<(), Fail> {
         Some(IndexErr::Full { used: 1, limit: 1 })
     );
     assert_eq!(rt; index.ownerless(), 1);
+    let key = fp(1);
+    if index.place_of(&key).is_some() {
+        index.move_place(&key, Place { at: 5, len: 9 });
+    }
+    assert_eq!(rt; index.place_of(&key), Some(Place { at: 5, len: 9 }));
     Ok(())
 }
 
@@ -127,6 +132,7 @@ fn slots_match(rt: &impl Abort, index: &ShareIndex, model: &BTreeMap<(u32, u8), 
     for slot in 0..index.place_slots() {
         if let Some((key, found)) = index.place_at(slot) {
             assert_eq!(rt; index.place_of(&key), Some(found));
+            assert_eq!(rt; index.place_slot(&key), Some(slot));
             places = places.wrapping_add(1);
         }
     }
@@ -156,7 +162,9 @@ fn owned_by(model: &BTreeMap<(u32, u8), u32>, user: u32) -> usize {
 fn counts_match(rt: &impl Abort, index: &ShareIndex, model: &BTreeMap<(u32, u8), u32>) {
     let mut batches = 0usize;
     for user in 0u32..3 {
-        batches = batches.wrapping_add(owned_by(model, user).div_ceil(256));
+        let owned = owned_by(model, user);
+        assert_eq!(rt; index.owned_by(UserId(user)) as usize, owned);
+        batches = batches.wrapping_add(owned.div_ceil(256));
     }
     assert_eq!(rt; index.batches() as usize, batches);
     let mut ownerless = 0u32;
@@ -164,6 +172,7 @@ fn counts_match(rt: &impl Abort, index: &ShareIndex, model: &BTreeMap<(u32, u8),
         let owned = model.get(&(0, number)).is_some()
             || model.get(&(1, number)).is_some()
             || model.get(&(2, number)).is_some();
+        assert_eq!(rt; index.is_owned(&fp(number)), owned);
         if !owned && index.place_of(&fp(number)).is_some() {
             ownerless = ownerless.wrapping_add(1);
         }

@@ -1,4 +1,4 @@
-use Rattle.std.proofs.Common.{◌≡◌, ◌∙◌, ap, sym, refl, arith, true≢false}
+use Rattle.std.proofs.Common.{◌∙◌, ap, sym, refl, arith, true≢false}
 use Rattle.std.specs.FinMap.{get, insert}
 use Rattle.pool_map.specs.Shown.{shown, len-shown, shown-insert}
 use Rattle.index_base.specs.declared.IndexErr.TheVariants.{Full}
@@ -9,7 +9,6 @@ use Rattle.share_index.specs.Indexed.{place_in}
 use Rattle.share_index.proofs.Placing.{fp_total}
 use Rattle.share_index.proofs.Indexing.{absent-place, indexed-place, owners-le-unplaced}
 use Rattle.share_index.proofs.ShareIndex.set_place.Goals as goal
-use Rattle.share_index.proofs.ShareIndex.set_place.Goals.{then-self-eq0, else-self-eq0}
 
 pub returns-then-is_full-clause-refuses : goal.returns-then-is_full-clause-refuses
 returns-then-is_full-clause-refuses c =
@@ -26,22 +25,18 @@ add-requires-clause-absent c = (absent-place c.self.inside.places.kept c.args.fp
 
 pub overflow_sub-self : goal.overflow_sub-self
 overflow_sub-self c =
-    let x : Kept = record { place = c.args.place; owners = c.if-self-eq0.owners } in
-    let le = owners-le-unplaced c.self.inside.places c.self.inside.owners c.self.inside.unplaced c.self.invariant c.args.fp.0 x (absent-place c.self.inside.places.kept c.args.fp.0 (ap (λ (s : Shares). get s.places c.args.fp.0) c.self.view_is ∙ c.requires)) in
-    elim c.if-self-eq0.branch [
-      | then-self-eq0 w ↦ let zero = w.owners-is in omega arith
-      | else-self-eq0 w ↦ let some = w.owners-is in let count = w.count_of-owners.ensures in omega arith
-    ]
+    let x : Kept = record { place = c.args.place; owners = c.unplaced_owners-owners.result } in
+    let none = absent-place c.self.inside.places.kept c.args.fp.0 (ap (λ (s : Shares). get s.places c.args.fp.0) c.self.view_is ∙ c.requires) in
+    let le = owners-le-unplaced c.self.inside.places c.self.inside.owners c.self.inside.unplaced c.self.invariant c.args.fp.0 x none in
+    let count = c.unplaced_owners-owners.ensures ∙ ap (λ (s : Shares). owners_of s.owners c.args.fp.0) (sym c.self.view_is) in
+    omega arith
 
 pub invariant_of-self : goal.invariant_of-self
 invariant_of-self c =
-    let x : Kept = record { place = c.args.place; owners = c.if-self-eq0.owners } in
-    let le = owners-le-unplaced c.self.inside.places c.self.inside.owners c.self.inside.unplaced c.self.invariant c.args.fp.0 x (absent-place c.self.inside.places.kept c.args.fp.0 (ap (λ (s : Shares). get s.places c.args.fp.0) c.self.view_is ∙ c.requires)) in
-    let count : c.if-self-eq0.owners ≡ owners_of c.self.inside.owners.owners c.args.fp.0 = elim c.if-self-eq0.branch [
-      | then-self-eq0 w ↦ let zero = w.owners-is in let none = w.if-self-eq0.true in omega arith
-      | else-self-eq0 w ↦ w.owners-is ∙ w.count_of-owners.ensures
-    ] in
-    indexed-place c.self.inside.places c.self.inside.owners c.self.inside.unplaced c.self.invariant c.add.new.self c.args.fp.0 x c.add.ensures.kept (absent-place c.self.inside.places.kept c.args.fp.0 (ap (λ (s : Shares). get s.places c.args.fp.0) c.self.view_is ∙ c.requires)) count
+    let x : Kept = record { place = c.args.place; owners = c.unplaced_owners-owners.result } in
+    let none = absent-place c.self.inside.places.kept c.args.fp.0 (ap (λ (s : Shares). get s.places c.args.fp.0) c.self.view_is ∙ c.requires) in
+    let count = c.unplaced_owners-owners.ensures ∙ ap (λ (s : Shares). owners_of s.owners c.args.fp.0) (sym c.self.view_is) in
+    indexed-place c.self.inside.places c.self.inside.owners c.self.inside.unplaced c.self.invariant c.add.new.self c.args.fp.0 x c.add.ensures.kept none count
 
 pub returns-clause-ok : goal.returns-clause-ok
 returns-clause-ok c =

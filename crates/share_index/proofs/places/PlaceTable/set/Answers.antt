@@ -4,10 +4,15 @@ use Rattle.std.specs.FinMap.{get, insert}
 use Rattle.slot_pool.specs.Pool.{Pool}
 use Rattle.pool_map.specs.declared.Entry.{Entry as Pair}
 use Rattle.share_index.specs.declared.key.Kept.{Kept}
+use Rattle.index_base.specs.Slots.{rewritten-shown}
+use Rattle.share_index.specs.Order.{fp_exact}
 use Rattle.share_index.specs.Placing.{Places}
 use Rattle.std.proofs.Common.{List, ℕ}
 use Rattle.share_index.proofs.Placing.{present, value-is, set-is, set-sub-fits, set-add-fits, placing-set}
 use Rattle.share_index.proofs.places.PlaceTable.set.Goals as goal
+
+pub returns-clause-rewritten : goal.returns-clause-rewritten
+returns-clause-rewritten c = rw (← c.self.view_is) (rewritten-shown (λ (k : Kept). k) fp_exact c.self.inside.table c.replace-old.new.self c.args.fp.now c.args.kept c.replace-old.ensures.slots)
 
 pub replace-old-requires : goal.replace-old-requires
 replace-old-requires c =
