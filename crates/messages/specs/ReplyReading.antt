@@ -1,5 +1,5 @@
 -- What reading the content of a reply gives: fields from left to right.
-use Rattle.std.specs.Prelude.{ℕ, Bool, List, [], ◌∷◌, length, Option, Some, None, Result, Err, ◌==◌, nat_le, if◌then◌else◌}
+use Rattle.std.specs.Prelude.{ℕ, Bool, false, List, [], ◌∷◌, length, Option, Some, None, Result, Err, ◌==◌, nat_le, if◌then◌else◌}
 use Rattle.std.specs.Int.{w16, w32, w64}
 use Rattle.cd_base.specs.declared.rooms.Room.{Room}
 use Rattle.cd_base.specs.declared.rooms.Room.TheVariants as rooms
@@ -100,3 +100,8 @@ reply_left (kind ∷ fields) = reply_fields_left kind fields
 -- the reply that the bytes are, or the place of the first field that fails
 unfoldable pub reply_at : List ℕ → Result Reply ℕ
 reply_at bytes = placed bytes (reply_left bytes)
+
+-- the content says that it is a list of entries, which is read entry by entry
+abbrev pub is_of_entries : List ℕ → Bool
+is_of_entries [] = false
+is_of_entries (kind ∷ fields) = kind == 0x8B

@@ -1,6 +1,6 @@
 //! Reading a reply.
 
-ghost use Rattle.std.specs.Prelude.{◌≡◌, ◌<◌, ◌^◌, length, Ok, ◌↔◌};
+ghost use Rattle.std.specs.Prelude.{◌≡◌, ◌≢◌, ◌<◌, ◌^◌, ℕ, false, length, IsErr, IfErr, Ok, Err, ◌↔◌};
 ghost use Rattle.std.specs.Int.{w16};
 ghost use Rattle.grammar.specs.Readers.{Gives, done_at};
 ghost use Rattle.grammar.specs.Fields.{number_at, checked};
@@ -8,7 +8,7 @@ ghost use Rattle.message_fields.specs.Parts.{byte_as};
 ghost use Rattle.message_fields.specs.Readings.{IsReading};
 ghost use Rattle.messages.specs.declared.reply.Reply.{Reply};
 ghost use Rattle.messages.specs.Replies.{IsReply};
-ghost use Rattle.messages.specs.ReplyReading.{format_of, room_of, is_new_count, hello_left, known_left, stored_left, lacking_left, recipe_left, shares_left, not_yours_left, entries_left, full_left, damaged_left, rotten_left, malformed_left, plain_left, reply_left, reply_at};
+ghost use Rattle.messages.specs.ReplyReading.{format_of, room_of, is_new_count, hello_left, known_left, stored_left, lacking_left, recipe_left, shares_left, not_yours_left, entries_left, full_left, damaged_left, rotten_left, malformed_left, plain_left, reply_left, reply_at, is_of_entries};
 ghost use Rattle.messages.specs.Outcome.{IsRead};
 
 use crate::copies::{bytes_copy, shares_copy};
@@ -78,7 +78,8 @@ fn hello_of(fields: &[u8]) -> Result<Reply, Left>
 
 #[tactic(auto, unfolding(crate::specs::ReplyReading::known_left))]
 fn known_of(alloc: Global, fields: &[u8]) -> Result<Reply, Stop>
-    ensures { Gives (λ r. r) result (known_left fields.now) }
+    ensures value { Gives (λ r. r) result (known_left fields.now) }
+    ensures memory { IsErr (known_left fields.now) → IfErr result (λ e. e ≢ Stop.Memory) }
 {
     let (flags, rest) = flags_of(fields)?;
     ended(rest)?;
@@ -106,7 +107,8 @@ fn lacking_of(fields: &[u8]) -> Result<Reply, Left>
 
 #[tactic(auto, unfolding(crate::specs::ReplyReading::recipe_left))]
 fn recipe_of(alloc: Global, fields: &[u8]) -> Result<Reply, Stop>
-    ensures { Gives (λ r. r) result (recipe_left fields.now) }
+    ensures value { Gives (λ r. r) result (recipe_left fields.now) }
+    ensures memory { IsErr (recipe_left fields.now) → IfErr result (λ e. e ≢ Stop.Memory) }
 {
     match fields {
         [] => Err(Stop::Left(0)),
@@ -119,7 +121,8 @@ fn recipe_of(alloc: Global, fields: &[u8]) -> Result<Reply, Stop>
 
 #[tactic(auto, unfolding(crate::specs::ReplyReading::shares_left))]
 fn reply_shares_of(alloc: Global, fields: &[u8]) -> Result<Reply, Stop>
-    ensures { Gives (λ r. r) result (shares_left fields.now) }
+    ensures value { Gives (λ r. r) result (shares_left fields.now) }
+    ensures memory { IsErr (shares_left fields.now) → IfErr result (λ e. e ≢ Stop.Memory) }
 {
     let (shares, rest) = shares_of(fields)?;
     ended(rest)?;
@@ -226,7 +229,8 @@ fn plain_of(kind: u8, fields: &[u8]) -> Result<Reply, Left>
 #[tactic(auto, unfolding(crate::specs::ReplyReading::reply_fields_left, crate::specs::ReplyReading::reply_left))]
 fn reply_of(alloc: Global, content: &[u8]) -> Result<Reply, Stop>
     requires { length content.now < 2 ^ 32 }
-    ensures { Gives (λ r. r) result (reply_left content.now) }
+    ensures value { Gives (λ r. r) result (reply_left content.now) }
+    ensures memory { is_of_entries content.now ≡ false → IsErr (reply_left content.now) → IfErr result (λ e. e ≢ Stop.Memory) }
 {
     match content {
         [] => Err(Stop::Left(0)),
@@ -247,6 +251,8 @@ impl Reply {
     pub fn read(alloc: Global, content: &[u8]) -> Result<Reply, MsgErr>
         requires { length content.now < 2 ^ 32 }
         ensures reads { IsRead result (reply_at content.now) }
+        // Want of memory is no answer to content that is none, but to entries, which are read one by one.
+        ensures malformed { (at : ℕ) → reply_at content.now ≡ Err at → is_of_entries content.now ≡ false → result ≢ Err MsgErr.NoMemory }
         // Content is read as the reply that it is the spelling of, and no other content is read.
         ensures grammar { (r : Reply) → (reply_at content.now ≡ Ok r) ↔ IsReply content.now r }
     {

@@ -1,6 +1,6 @@
 //! Reading a request.
 
-ghost use Rattle.std.specs.Prelude.{◌≡◌, ◌<◌, ◌^◌, length, Ok, IfOk, ◌↔◌};
+ghost use Rattle.std.specs.Prelude.{◌≡◌, ◌≢◌, ◌<◌, ◌^◌, ℕ, length, Ok, Err, IfOk, ◌↔◌};
 ghost use Rattle.messages.specs.declared.request.Request.{Request};
 ghost use Rattle.messages.specs.Requests.{IsRequest};
 ghost use Rattle.messages.specs.RequestReading.{request_at};
@@ -68,6 +68,8 @@ impl Request {
     pub fn read(alloc: Global, content: &[u8]) -> Result<Request, MsgErr>
         requires { length content.now < 2 ^ 32 }
         ensures reads { IsRead result (request_at content.now) }
+        // Want of memory is no answer to content that is none.
+        ensures malformed { (at : ℕ) → request_at content.now ≡ Err at → result ≢ Err MsgErr.NoMemory }
         // Content is read as the request that it is the spelling of, and no other content is read.
         ensures grammar { (r : Request) → (request_at content.now ≡ Ok r) ↔ IsRequest content.now r }
     {
