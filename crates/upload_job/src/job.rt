@@ -37,7 +37,8 @@ impl Model for Job {
 }
 
 impl Job {
-    ghost use Rattle.std.specs.Prelude.{◌≡◌, ◌<◌, ◌≤◌, ◌≢◌, ◌↔◌, ℕ, List, length, All, IfOk, OnErr, IsTrue, IsSome, slice_get};
+    ghost use Rattle.std.specs.Prelude.{◌≡◌, ◌<◌, ◌≤◌, ◌≢◌, ◌↔◌, ℕ, List, false, length, All, Err, IfOk, OnErr, IsTrue, IsSome, slice_get};
+    ghost use Rattle.messages.specs.ReplyReading.{reply_at, is_of_entries};
     ghost use Rattle.cd_base.specs.Limits.{IsPath};
     ghost use Rattle.recipe.specs.Spelling.{file_limit};
     ghost use Rattle.upload_job.specs.Lane.{Done};
@@ -102,6 +103,8 @@ impl Job {
     pub fn answer(&mut self, lane: CloudNo, reply: &[u8]) -> Result<LaneNews, LaneErr>
         requires { IsSome (request_at self.old lane.0) }
         ensures answers { AnswersAt self.old lane.0 reply.now result self.new }
+        // Want of memory is no answer to content that is no reply, but to entries, which are read one by one.
+        ensures malformed { (at : ℕ) → reply_at reply.now ≡ Err at → is_of_entries reply.now ≡ false → result ≢ Err LaneErr.NoMemory }
         ensures others { (i : ℕ) → i ≢ lane.0 → slice_get self.new i ≡ slice_get self.old i }
     {
         let place = lane.0 as usize;

@@ -1,6 +1,7 @@
 //! What the content of a reply does to a lane.
 
-ghost use Rattle.std.specs.Prelude.{◌≡◌, ℕ, List, length, vec_len, IfOk};
+ghost use Rattle.std.specs.Prelude.{◌≡◌, ◌≢◌, ℕ, List, false, length, vec_len, IfOk, IsOk, Err};
+ghost use Rattle.messages.specs.ReplyReading.{reply_at, is_of_entries};
 ghost use Rattle.upload_job.specs.Upload.{Work, in_batches};
 ghost use Rattle.upload_job.specs.Lanes.{Answers, first_byte};
 ghost use Rattle.upload_job.specs.Index.{state_in, next_in, IsReplyRead, TurnsBy};
@@ -20,7 +21,8 @@ pub struct Turn {
 
 // The reply that the content is, or None where it is none that answers a lane: those have at most 65 bytes but for flags.
 fn read_reply(alloc: Global, content: &[u8]) -> Result<Option<Reply>, NoMemory>
-    ensures { IfOk result (IsReplyRead content.now) }
+    ensures read { IfOk result (IsReplyRead content.now) }
+    ensures malformed { (at : ℕ) → reply_at content.now ≡ Err at → is_of_entries content.now ≡ false → IsOk result }
 {
     if content.len() > 4_194_304 {
         return Ok(None);
@@ -44,7 +46,8 @@ fn kind_of(content: &[u8]) -> u8
 
 // What a step does, or the lack of one.
 fn turn_by(content: &[u8], step: Option<Step>) -> Turn
-    ensures { TurnsBy content.now step result }
+    ensures turns { TurnsBy content.now step result }
+    ensures memory { result.result ≢ Err LaneErr.NoMemory }
 {
     match step {
         Some(step) => Turn {
@@ -62,8 +65,9 @@ fn turn_by(content: &[u8], step: Option<Step>) -> Turn
 
 /// What content does to a lane.
 pub fn turn_of(alloc: Global, lane: &Lane, content: &[u8]) -> Turn
-    ensures { (w : Work) (all : List (List ℕ)) → length all ≡ vec_len lane.now.wanted → w.items ≡ lane.now.items → w.batches ≡ in_batches all
+    ensures turns { (w : Work) (all : List (List ℕ)) → length all ≡ vec_len lane.now.wanted → w.items ≡ lane.now.items → w.batches ≡ in_batches all
         → Answers (record { work = w; state = state_in all lane.now.stage }) content.now result.result (next_in all (state_in all lane.now.stage) result.next) }
+    ensures malformed { (at : ℕ) → reply_at content.now ≡ Err at → is_of_entries content.now ≡ false → result.result ≢ Err LaneErr.NoMemory }
 {
     match read_reply(alloc, content) {
         Ok(Some(reply)) => turn_by(content, step_of(lane, reply)),

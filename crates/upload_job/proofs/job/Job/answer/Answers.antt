@@ -35,7 +35,7 @@ returns-clause-answers c =
     let len = length-map c.index.result.now.wanted.items (share_in shares) ∙ sym c.index.result.now.wanted.ok.0 in
     answered c.self.inside.key c.self.inside.files c.self.inside.lanes.items c.args.self.now c.args.lane.0 c.index.result.now c.index_mut.result.now c.move_lane.new.lane c.turn_of-result.result.next c.args.reply.now c.turn_of-result.result.result
     c.self.view_is c.self.invariant (omega arith) c.index.ensures c.index_mut.ensures.value c.move_lane.ensures
-    (c.turn_of-result.ensures (work_in c.self.inside.key shares c.index.result.now) (shares_in shares c.index.result.now.wanted.items) len refl refl)
+    (c.turn_of-result.ensures.turns (work_in c.self.inside.key shares c.index.result.now) (shares_in shares c.index.result.now.wanted.items) len refl refl)
 
 pub returns-clause-others : goal.returns-clause-others
 returns-clause-others c = λ j ne. others_stay c.args.self.now _ c.args.lane.0 c.args.reply.now c.turn_of-result.result.result (returns-clause-answers c) j ne
