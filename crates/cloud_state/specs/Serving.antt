@@ -41,11 +41,13 @@ moments_of list None = 0
 moments_of list (Some (commands.Put user strings)) = laying_moments (fresh_after (strings_in list) strings) + 4
 moments_of list (Some (commands.Commit user tag version recipe)) = 6
 
--- a reply that some server gives to the request, and that says neither that a device failed nor that memory ran out
+-- a reply that some open server gives to the request: it says neither that a device failed, nor that the journal is damaged, nor that
+-- memory ran out
 pub record IsGiven (shape : Shape) (request : Request) (reply : Reply) : Type 0 where
   pub kind : IsReplyTo (items_of shape request) request reply
   pub memory : reply ≢ replies.NoMemory
   pub fault : reply ≢ replies.Fault
+  pub damaged : (at byte : ℕ) → reply ≢ replies.Damaged at byte
 
 -- The content is such a reply.
 pub record Gives (shape : Shape) (request : Request) (content : List ℕ) : Type 0 where

@@ -1,7 +1,8 @@
 -- Shares that are put one after another.
-use Rattle.std.proofs.Common.{◌≡◌, ℕ, ◌+◌, ◌*◌, ◌≤◌, List, [], ◌∷◌, ◌++◌, length, map, take, Option, Some, None, Ok, Err, IsTrue, refl, sym, ap, ◌∙◌, subst, arith, append-nil, append_assoc, length-append}
+use Rattle.std.proofs.Common.{◌≡◌, ◌⊎◌, ℕ, ◌+◌, ◌*◌, ◌≤◌, ◌<◌, List, [], ◌∷◌, ◌++◌, length, map, take, Option, Some, None, Ok, Err, IsTrue, refl, sym, ap, ◌∙◌, subst, arith, append-nil, append_assoc, length-append}
 use Rattle.std.specs.Prelude.{All, unwrap_or, slice_get}
 use Rattle.std.specs.List.{Contains, flat_map}
+use Rattle.std.specs.FinMap.{get}
 use Rattle.std.proofs.lemmas.List.{map_push, length-map}
 use Rattle.std.proofs.lemmas.Option.{slice_get_within, get_or_from_slice_get}
 use Rattle.std.proofs.lemmas.List.Elements.{All-nil, All-push, All-contains, Contains-get_or}
@@ -21,7 +22,6 @@ use Rattle.messages.specs.declared.reply.Reply.TheVariants as replies
 use Rattle.messages.specs.Replies.{reply_bytes}
 use Rattle.user_dedup.specs.Owning.{first_lacking, FindsLacking}
 use Rattle.user_dedup.proofs.Owned.{finds}
-use Rattle.read_replies.specs.Allowed.{Replies, SharesReply}
 use Rattle.share_index.specs.declared.key.Place.{Place}
 use Rattle.user_dedup.specs.declared.command.Command.{Command}
 use Rattle.user_dedup.specs.Cloud.{fingerprint, user_view, held_string}
@@ -30,10 +30,10 @@ use Rattle.cloud_store.specs.Contents.{strings_in, place_in}
 use Rattle.cloud_index.specs.declared.index.CloudIndex.{CloudIndex}
 use Rattle.cloud_index.specs.Memory.{Remembers}
 use Rattle.read_replies.specs.declared.blobs.Stop.TheVariants as stops
-use Rattle.read_replies.specs.Keeping.{Keeps, found_at, IsFoundShare}
-use Rattle.read_replies.specs.Steps.{IfRotten, OnlyRead, HasRead, SentOne, Sent}
+use Rattle.read_replies.specs.Keeping.{Keeps, IsOther, IsFoundShare}
+use Rattle.read_replies.specs.Steps.{IfRotten, OnlyRead, HasRead, SentOne, Sent, SentAll}
 use Rattle.read_replies.proofs.Marks.{one_more}
-use Rattle.read_replies.proofs.Held.{held_at, placed_range}
+use Rattle.read_replies.proofs.Held.{held_at}
 use Rattle.read_replies.proofs.Calling.{Answer, ok_answer, nothing_read, only_then, ok_read}
 
 -- the strings held for some fingerprints
@@ -150,20 +150,25 @@ more a b c number before mid now log0 log log' index all n old out out' fp at ar
 -- ---- the exits
 
 pub rotten_exit : (a b : ℕ → Cloud) (number before mid : ℕ) (log0 log : State) (index : CloudIndex) (all : List Fp) (fp : Fp) (at : Option Place) (r : Answer)
-    → log0.area ≡ Shares → OnlyRead a b number before mid → log ≡ log0 → Contains all fp → IsPlaceOf index fp at
+    → log0.area ≡ Shares → OnlyRead a b number before mid → log ≡ log0 → Contains all fp → at ≡ get index.shares.places fp.0
     → IfRotten r (λ named found. named ≡ fp)
-    → (IsTrue (b number).told → (p : Place) → at ≡ Some p → 1 ≤ p.len → p.len ≤ 8208 → IfRotten r (λ named found. found ≡ found_at ((b number).now log.area).read p.at p.len))
+    → (IsTrue (b number).told → (p : Place) → at ≡ Some p → 1 ≤ p.len → p.len ≤ 8208 → IfRotten r (λ named found. IsOther ((b number).now log.area).read p.at p.len named found))
+    → (at ≡ None → IfRotten r (λ named found. found ≡ fingerprint []))
+    → ((p : Place) → at ≡ Some p → (p.len < 1) ⊎ (8208 < p.len) → IfRotten r (λ named found. found ≡ fingerprint []))
     → IfRotten r (λ named found. Contains all named × IsFoundShare (a number) index named found)
-rotten_exit a b number before mid log0 log index all fp at (Ok x) area only log_is among place named found = tt
-rotten_exit a b number before mid log0 log index all fp at (Err stops.Failed) area only log_is among place named found = tt
-rotten_exit a b number before mid log0 log index all fp at (Err (stops.Rotten n f)) area only log_is among place named found = (
-  subst (Contains all) (sym named) among,
-  λ told shape number' list sound remembers p e.
-      let here : place_in (strings_in list) fp ≡ Some p = ap (place_in (strings_in list)) (sym named) ∙ e in
-      let range = placed_range shape number' list fp p sound here in
-      found (subst IsTrue (sym only.call.told) told) p (place shape list remembers ∙ here) range.some range.few
-      ∙ ap (λ (l : List ℕ). found_at l p.at p.len) (same_area a b number before mid log0 log only log_is area),
-)
+rotten_exit a b number before mid log0 log index all fp at (Ok x) area only log_is among place named found none unfit = tt
+rotten_exit a b number before mid log0 log index all fp at (Err stops.Failed) area only log_is among place named found none unfit = tt
+rotten_exit a b number before mid log0 log index all fp at (Err (stops.Rotten n f)) area only log_is among place named found none unfit =
+    let here : at ≡ get index.shares.places n.0 = place ∙ ap (λ (x : Fp). get index.shares.places x.0) (sym named) in (
+      subst (Contains all) (sym named) among,
+      record {
+        lies = λ told p e some few.
+            subst (λ (l : List ℕ). IsOther l p.at p.len n f) (same_area a b number before mid log0 log only log_is area)
+            (found (subst IsTrue (sym only.call.told) told) p (here ∙ e) some few);
+        none = λ e. none (here ∙ e);
+        unfit = λ p e out. unfit p (here ∙ e) out;
+      },
+    )
 
 pub whole_exit : (a b : ℕ → Cloud) (number before mid : ℕ) (log0 log : State) (index : CloudIndex) (all : List Fp) (n : ℕ) (fp : Fp) (at : Option Place) (r : Answer)
     → log0.area ≡ Shares → OnlyRead a b number before mid → log ≡ log0 → Contains all fp → IsPlaceOf index fp at
@@ -182,16 +187,15 @@ pub shares_spelled : (strings : List (List ℕ)) (head out : List ℕ) (n : ℕ)
 shares_spelled strings head out n out_is head_is n_is =
     out_is ∙ ap (λ (h : List ℕ). h ++ flat_map share_bytes strings) (head_is ∙ ap (λ (k : ℕ). 137 ∷ to_be_bytes w16 k) n_is)
 
-pub shares_kind : (fps : List Fp) (head out : List ℕ) (n : ℕ) (Found : Fp → Fp → Type 0) → Sent fps head out → head ≡ 137 ∷ to_be_bytes w16 n → n ≡ length fps → IsBatch fps
-    → Replies out (SharesReply fps Found)
-shares_kind fps head out n Found sent head_is n_is batch =
+pub shares_kind : (fps : List Fp) (head out : List ℕ) (n : ℕ) → Sent fps head out → head ≡ 137 ∷ to_be_bytes w16 n → n ≡ length fps → IsBatch fps → SentAll fps out
+shares_kind fps head out n sent head_is n_is batch =
     let same : length sent.shares ≡ length fps = sym (length-map sent.shares fingerprint) ∙ ap length sent.named in
     let some : 1 ≤ length fps = batch.0 in
     let few : length fps ≤ 256 = batch.1 in
     record {
-      reply = replies.Shares sent.shares;
+      shares = sent.shares;
       is = record { fits = ((omega arith, omega arith), sent.ranges); spelled = shares_spelled sent.shares head out n sent.bytes head_is (n_is ∙ sym same) };
-      said = sent.named;
+      named = sent.named;
     }
 
 pub held_spelled : (list : List Command) (fps : List Fp) (head out : List ℕ) (n : ℕ) → out ≡ head ++ flat_map share_bytes (strings_for list fps) → head ≡ 137 ∷ to_be_bytes w16 n → n ≡ length fps

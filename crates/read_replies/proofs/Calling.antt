@@ -1,5 +1,7 @@
 -- Reading calls, one after another, and what they found.
-use Rattle.std.proofs.Common.{◌≡◌, ℕ, ◌<◌, List, length, take, drop, Result, Ok, Err, OnOk, IfErr, refl, sym, ap, ◌∙◌, subst, arith, length-take, length-drop, get_or-take}
+use Rattle.std.proofs.Common.{◌≡◌, ◌⊎◌, inl, inr, ℕ, ◌+◌, ◌<◌, List, [], ◌∷◌, length, get_or, take, drop, Result, Ok, Err, OnOk, IfErr, refl, sym, ap, ◌∙◌, subst, arith, length-take, length-drop, get_or-take}
+use Rattle.std.specs.Prelude.{◌≢◌}
+use Rattle.std.proofs.lemmas.Bool.{cases_eq}
 use Rattle.std.proofs.lemmas.List.{ext_get_or}
 use Rattle.cd_base.specs.declared.ids.Fp.{Fp}
 use Rattle.cd_edges.specs.Disk.{Cloud}
@@ -7,6 +9,10 @@ use Rattle.cd_edges.specs.Shelf.{IsCall, HasFailed, KeepsCounts, Stays, ReadsFro
 use Rattle.cd_edges.proofs.Calls.{called_twice, failed_after}
 use Rattle.read_replies.specs.declared.blobs.Stop.{Stop}
 use Rattle.read_replies.specs.declared.blobs.Stop.TheVariants as stops
+use Rattle.messages.specs.declared.reply.Reply.TheVariants as replies
+use Rattle.messages.specs.Replies.{IsReply}
+use Rattle.user_dedup.specs.Cloud.{fingerprint}
+use Rattle.read_replies.specs.Keeping.{IsOther}
 use Rattle.read_replies.specs.Steps.{IfRotten, OnFailed, UnlessFailed, OnlyRead, HasRead}
 
 -- what a step answers
@@ -16,6 +22,13 @@ Answer = Result (Unit {0}) Stop
 -- that nothing stopped it
 abbrev pub ok_answer : Answer
 ok_answer = Ok tt
+
+-- that something else was found
+abbrev rotten_answer : Fp → Fp → Answer
+rotten_answer n f = Err (stops.Rotten n f)
+
+not_ok : (n f : Fp) → rotten_answer n f ≡ ok_answer → ⊥
+not_ok n f e = cc
 
 -- ---- calls
 
@@ -101,6 +114,24 @@ compared a b number before now r fp found e stays call counts = record { stays =
     counted (Err stops.Failed) = tt
     counted (Err (stops.Rotten n f)) = counts
 
+-- ---- what a content is
+
+-- contents with one kind
+pub kinds : (content : List ℕ) (a b : ℕ) (xs ys : List ℕ) → content ≡ a ∷ xs → content ≡ b ∷ ys → a ≡ b
+kinds content a b xs ys one two = ap (λ (l : List ℕ). get_or l 0 0) (sym one ∙ two)
+
+pub shares_or_not_yours : (content : List ℕ) (shares : List (List ℕ)) (place : ℕ) → IsReply content (replies.Shares shares) → IsReply content (replies.NotYours place) → ⊥
+shares_or_not_yours content shares place is other = omega (arith, kinds content 137 138 _ _ is.spelled other.spelled)
+
+pub rotten_or_not_yours : (content : List ℕ) (named found : Fp) (place : ℕ) → IsReply content (replies.Rotten named found) → IsReply content (replies.NotYours place) → ⊥
+rotten_or_not_yours content named found place is other = omega (arith, kinds content 143 138 _ _ is.spelled other.spelled)
+
+pub recipe_or_missing : (content recipe : List ℕ) → IsReply content (replies.Recipe recipe) → IsReply content replies.Missing → ⊥
+recipe_or_missing content recipe is other = omega (arith, kinds content 135 136 _ _ is.spelled other.spelled)
+
+pub rotten_or_missing : (content : List ℕ) (named found : Fp) → IsReply content (replies.Rotten named found) → IsReply content replies.Missing → ⊥
+rotten_or_missing content named found is other = omega (arith, kinds content 143 136 _ _ is.spelled other.spelled)
+
 -- ---- what was found
 
 pub there_is : (held : List ℕ) (place count : ℕ) (out : List ℕ) → ReadsFrom held place count out → take count out ≡ take (length out) (drop place held)
@@ -111,6 +142,23 @@ there_is held place count out r =
     let within : k < count = omega (arith, lt, length-take count (drop place held)) in
     let inside : k < length out = omega (arith, within, r.lesser) in
     get_or-take count (drop place held) k 0 within ∙ sym (get_or-take (length out) (drop place held) k 0 inside))
+
+-- what was found is another, or fewer bytes lie there
+pub other_there : (r : Answer) (held : List ℕ) (place count : ℕ) (out : List ℕ) (fp : Fp) → ReadsFrom held place count out
+    → IfErr r (λ stop. stop ≡ stops.Rotten fp (fingerprint (take count out))) → (length (take count out) ≡ length out → fingerprint (take count out) ≡ fp → r ≡ Ok tt)
+    → IfRotten r (λ named found. IsOther held place (length out) named found)
+other_there (Ok x) held place count out fp reads e whole = tt
+other_there (Err stops.Failed) held place count out fp reads e whole = tt
+other_there (Err (stops.Rotten n f)) held place count out fp reads e whole =
+    let same : stops.Rotten n f ≡ stops.Rotten fp (fingerprint (take count out)) = e in
+    let n_is : n ≡ fp = cc in
+    let f_is : f ≡ fingerprint (take count out) = cc in
+    record { found_is = f_is ∙ ap fingerprint (there_is held place count out reads); other = by_length n_is f_is (cases_eq (length (take count out)) (length out)) }
+  where
+    by_length : n ≡ fp → f ≡ fingerprint (take count out) → (length (take count out) ≡ length out) ⊎ (length (take count out) ≡ length out → ⊥)
+        → (n ≢ f) ⊎ (length held < place + length out)
+    by_length n_is f_is (inl long) = inl (λ alike. not_ok n f (whole long (sym f_is ∙ sym alike ∙ n_is)))
+    by_length n_is f_is (inr short) = inr (omega (arith, short, reads.lesser, length-take count out))
 
 -- where the blob lies, it is what is there
 pub blob_there : (held : List ℕ) (place count len : ℕ) (out blob : List ℕ) → ReadsFrom held place count out → length out ≡ len → length blob ≡ len

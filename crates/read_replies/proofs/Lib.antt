@@ -6,3 +6,4 @@ pub mod Calling
 pub mod Along
 pub mod Plain
 pub mod Fetched
+pub mod Unowned

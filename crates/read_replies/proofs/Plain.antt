@@ -13,7 +13,7 @@ use Rattle.read_replies.specs.Allowed.{KnownReply, EntriesReply, SharesReply, Re
 
 pub known_plain : (user : UserId) (fps : List Fp) (reply : Reply) → KnownReply fps reply → IsPlain (requests.Query user fps) reply
 known_plain user fps (replies.Hello n k cloud format) r = absurd r
-known_plain user fps (replies.Known flags) r = record { kind = λ items. r; memory = λ e. let no : replies.Known flags ≡ replies.NoMemory = e in cc; fault = λ e. let no : replies.Known flags ≡ replies.Fault = e in cc }
+known_plain user fps (replies.Known flags) r = record { kind = λ items. r; memory = λ e. let no : replies.Known flags ≡ replies.NoMemory = e in cc; fault = λ e. let no : replies.Known flags ≡ replies.Fault = e in cc; damaged = λ at byte e. let no : replies.Known flags ≡ replies.Damaged at byte = e in cc }
 known_plain user fps (replies.Stored new) r = absurd r
 known_plain user fps replies.Committed r = absurd r
 known_plain user fps replies.Exists r = absurd r
@@ -41,7 +41,7 @@ entries_plain user last (replies.Recipe bytes) r = absurd r
 entries_plain user last replies.Missing r = absurd r
 entries_plain user last (replies.Shares shares) r = absurd r
 entries_plain user last (replies.NotYours place) r = absurd r
-entries_plain user last (replies.Entries keys) r = record { kind = λ items. r; memory = λ e. let no : replies.Entries keys ≡ replies.NoMemory = e in cc; fault = λ e. let no : replies.Entries keys ≡ replies.Fault = e in cc }
+entries_plain user last (replies.Entries keys) r = record { kind = λ items. r; memory = λ e. let no : replies.Entries keys ≡ replies.NoMemory = e in cc; fault = λ e. let no : replies.Entries keys ≡ replies.Fault = e in cc; damaged = λ at byte e. let no : replies.Entries keys ≡ replies.Damaged at byte = e in cc }
 entries_plain user last (replies.Full room used need limit) r = absurd r
 entries_plain user last replies.Fault r = absurd r
 entries_plain user last (replies.Damaged at byte) r = absurd r
@@ -58,13 +58,13 @@ shares_plain user fps Found replies.Exists r = absurd r
 shares_plain user fps Found (replies.Lacking place) r = absurd r
 shares_plain user fps Found (replies.Recipe bytes) r = absurd r
 shares_plain user fps Found replies.Missing r = absurd r
-shares_plain user fps Found (replies.Shares shares) r = record { kind = λ items. sym (length-map shares fingerprint) ∙ ap length r; memory = λ e. let no : replies.Shares shares ≡ replies.NoMemory = e in cc; fault = λ e. let no : replies.Shares shares ≡ replies.Fault = e in cc }
-shares_plain user fps Found (replies.NotYours place) r = record { kind = λ items. r; memory = λ e. let no : replies.NotYours place ≡ replies.NoMemory = e in cc; fault = λ e. let no : replies.NotYours place ≡ replies.Fault = e in cc }
+shares_plain user fps Found (replies.Shares shares) r = record { kind = λ items. sym (length-map shares fingerprint) ∙ ap length r; memory = λ e. let no : replies.Shares shares ≡ replies.NoMemory = e in cc; fault = λ e. let no : replies.Shares shares ≡ replies.Fault = e in cc; damaged = λ at byte e. let no : replies.Shares shares ≡ replies.Damaged at byte = e in cc }
+shares_plain user fps Found (replies.NotYours place) r = record { kind = λ items. r; memory = λ e. let no : replies.NotYours place ≡ replies.NoMemory = e in cc; fault = λ e. let no : replies.NotYours place ≡ replies.Fault = e in cc; damaged = λ at byte e. let no : replies.NotYours place ≡ replies.Damaged at byte = e in cc }
 shares_plain user fps Found (replies.Entries keys) r = absurd r
 shares_plain user fps Found (replies.Full room used need limit) r = absurd r
 shares_plain user fps Found replies.Fault r = absurd r
 shares_plain user fps Found (replies.Damaged at byte) r = absurd r
-shares_plain user fps Found (replies.Rotten named found) r = record { kind = λ items. tt; memory = λ e. let no : replies.Rotten named found ≡ replies.NoMemory = e in cc; fault = λ e. let no : replies.Rotten named found ≡ replies.Fault = e in cc }
+shares_plain user fps Found (replies.Rotten named found) r = record { kind = λ items. tt; memory = λ e. let no : replies.Rotten named found ≡ replies.NoMemory = e in cc; fault = λ e. let no : replies.Rotten named found ≡ replies.Fault = e in cc; damaged = λ at byte e. let no : replies.Rotten named found ≡ replies.Damaged at byte = e in cc }
 shares_plain user fps Found (replies.Malformed at) r = absurd r
 shares_plain user fps Found replies.NoMemory r = absurd r
 
@@ -76,14 +76,14 @@ recipe_plain user tag version Is Absent Found (replies.Stored new) r = absurd r
 recipe_plain user tag version Is Absent Found replies.Committed r = absurd r
 recipe_plain user tag version Is Absent Found replies.Exists r = absurd r
 recipe_plain user tag version Is Absent Found (replies.Lacking place) r = absurd r
-recipe_plain user tag version Is Absent Found (replies.Recipe bytes) r = record { kind = λ items. tt; memory = λ e. let no : replies.Recipe bytes ≡ replies.NoMemory = e in cc; fault = λ e. let no : replies.Recipe bytes ≡ replies.Fault = e in cc }
-recipe_plain user tag version Is Absent Found replies.Missing r = record { kind = λ items. tt; memory = λ e. let no : replies.Missing ≡ replies.NoMemory = e in cc; fault = λ e. let no : replies.Missing ≡ replies.Fault = e in cc }
+recipe_plain user tag version Is Absent Found (replies.Recipe bytes) r = record { kind = λ items. tt; memory = λ e. let no : replies.Recipe bytes ≡ replies.NoMemory = e in cc; fault = λ e. let no : replies.Recipe bytes ≡ replies.Fault = e in cc; damaged = λ at byte e. let no : replies.Recipe bytes ≡ replies.Damaged at byte = e in cc }
+recipe_plain user tag version Is Absent Found replies.Missing r = record { kind = λ items. tt; memory = λ e. let no : replies.Missing ≡ replies.NoMemory = e in cc; fault = λ e. let no : replies.Missing ≡ replies.Fault = e in cc; damaged = λ at byte e. let no : replies.Missing ≡ replies.Damaged at byte = e in cc }
 recipe_plain user tag version Is Absent Found (replies.Shares shares) r = absurd r
 recipe_plain user tag version Is Absent Found (replies.NotYours place) r = absurd r
 recipe_plain user tag version Is Absent Found (replies.Entries keys) r = absurd r
 recipe_plain user tag version Is Absent Found (replies.Full room used need limit) r = absurd r
 recipe_plain user tag version Is Absent Found replies.Fault r = absurd r
 recipe_plain user tag version Is Absent Found (replies.Damaged at byte) r = absurd r
-recipe_plain user tag version Is Absent Found (replies.Rotten named found) r = record { kind = λ items. tt; memory = λ e. let no : replies.Rotten named found ≡ replies.NoMemory = e in cc; fault = λ e. let no : replies.Rotten named found ≡ replies.Fault = e in cc }
+recipe_plain user tag version Is Absent Found (replies.Rotten named found) r = record { kind = λ items. tt; memory = λ e. let no : replies.Rotten named found ≡ replies.NoMemory = e in cc; fault = λ e. let no : replies.Rotten named found ≡ replies.Fault = e in cc; damaged = λ at byte e. let no : replies.Rotten named found ≡ replies.Damaged at byte = e in cc }
 recipe_plain user tag version Is Absent Found (replies.Malformed at) r = absurd r
 recipe_plain user tag version Is Absent Found replies.NoMemory r = absurd r

@@ -42,8 +42,10 @@ RecipeReply Is Absent Found replies.Missing = Absent
 RecipeReply Is Absent Found (replies.Rotten named found) = Found named found
 RecipeReply Is Absent Found reply = ⊥
 
--- A server that keeps to the rules gives the reply to the request, and it says neither that a device failed nor that memory ran out.
+-- An open server that keeps to the rules gives the reply to the request: it says neither that a device failed, nor that the journal is
+-- damaged, nor that memory ran out.
 pub record IsPlain (request : Request) (reply : Reply) : Type 0 where
   pub kind : (items : ℕ) → IsReplyTo items request reply
   pub memory : reply ≢ replies.NoMemory
   pub fault : reply ≢ replies.Fault
+  pub damaged : (at byte : ℕ) → reply ≢ replies.Damaged at byte

@@ -1,5 +1,6 @@
 -- What a cloud's areas and a server's memory keep of a list.
-use Rattle.std.specs.Prelude.{◌≡◌, ℕ, List, take, drop, Some, None, IsTrue}
+use Rattle.std.specs.Prelude.{◌≡◌, ◌≢◌, ◌⊎◌, ℕ, ◌+◌, ◌<◌, ◌≤◌, List, [], length, take, drop, Some, None, IsTrue}
+use Rattle.std.specs.FinMap.{get}
 use Rattle.cd_base.specs.declared.ids.Fp.{Fp}
 use Rattle.cd_base.specs.declared.shape.Shape.{Shape}
 use Rattle.cd_edges.specs.declared.area.Area.TheVariants.{Shares, Recipes}
@@ -11,7 +12,6 @@ use Rattle.share_index.specs.declared.key.Place.{Place}
 use Rattle.user_dedup.specs.declared.command.Command.{Command}
 use Rattle.user_dedup.specs.Cloud.{fingerprint}
 use Rattle.user_dedup.specs.Dedup.{IsSound}
-use Rattle.cloud_store.specs.Contents.{strings_in, place_in, entry_in}
 use Rattle.cloud_store.specs.Store.{HasList}
 use Rattle.cloud_index.specs.declared.index.CloudIndex.{CloudIndex}
 use Rattle.cloud_index.specs.Memory.{Remembers}
@@ -26,25 +26,37 @@ pub record Keeps (image : Image) (header : Header) (list : List Command) (index 
 abbrev pub found_at : List ℕ → ℕ → ℕ → Fp
 found_at area at len = fingerprint (take len (drop at area))
 
--- Of a told cloud, for each sound list that the index remembers: this is the fingerprint of what lies where the share with that
--- fingerprint has its place.
-abbrev pub IsFoundShare : Cloud → CloudIndex → Fp → Fp → Type 0
-IsFoundShare cloud index named found =
-    IsTrue cloud.told → (shape : Shape) (number : ℕ) (list : List Command) → IsSound shape number list → Remembers shape list index
-    → (place : Place) → place_in (strings_in list) named ≡ Some place → found ≡ found_at (reads cloud.now Shares) place.at place.len
+-- Something else lies at a place: this is the fingerprint of what lies there, as many bytes as there are up to so many. It isn't the
+-- one that was named, or fewer bytes are there.
+pub record IsOther (area : List ℕ) (at len : ℕ) (named found : Fp) : Type 0 where
+  pub found_is : found ≡ found_at area at len
+  pub other : (named ≢ found) ⊎ (length area < at + len)
 
--- The bytes have the fingerprint of the entry that the index remembers.
+-- By the place that the index has for the first fingerprint: where it has a length that a share may have, and the cloud is told, the
+-- area of shares has something else there, with the second fingerprint. Where the index has no place, or one of another length, the
+-- second fingerprint is that of no bytes.
+pub record IsFoundShare (cloud : Cloud) (index : CloudIndex) (named found : Fp) : Type 0 where
+  pub lies : IsTrue cloud.told → (place : Place) → get index.shares.places named.0 ≡ Some place → 1 ≤ place.len
+      → place.len ≤ 8208
+      → IsOther (reads cloud.now Shares) place.at place.len named found
+  pub none : get index.shares.places named.0 ≡ None → found ≡ fingerprint []
+  pub unfit : (place : Place) → get index.shares.places named.0 ≡ Some place → (place.len < 1) ⊎ (8208 < place.len)
+      → found ≡ fingerprint []
+
+-- The bytes have the fingerprint of the entry that the index has.
 abbrev pub IsNamed : CloudIndex → FileKey → List ℕ → Type 0
-IsNamed index key bytes = (shape : Shape) (list : List Command) → Remembers shape list index
-    → (entry : Entry) × (entry_in list key ≡ Some entry) × (fingerprint bytes ≡ entry.fp)
+IsNamed index key bytes = (entry : Entry) × (get index.files.files key ≡ Some entry) × (fingerprint bytes ≡ entry.fp)
 
--- The index remembers no entry.
+-- The index has no entry.
 abbrev pub HasNone : CloudIndex → FileKey → Type 0
-HasNone index key = (shape : Shape) (list : List Command) → Remembers shape list index → entry_in list key ≡ None
+HasNone index key = get index.files.files key ≡ None
 
--- The index remembers an entry with the first fingerprint; and on a told cloud, where the list is sound, the other is that of what
--- lies where its recipe has its place.
-abbrev pub IsFoundRecipe : Cloud → CloudIndex → FileKey → Fp → Fp → Type 0
-IsFoundRecipe cloud index key named found = (shape : Shape) (list : List Command) → Remembers shape list index
-    → (entry : Entry) × (entry_in list key ≡ Some entry) × (named ≡ entry.fp)
-    × (IsTrue cloud.told → (number : ℕ) → IsSound shape number list → found ≡ found_at (reads cloud.now Recipes) entry.at entry.len)
+-- The index has an entry with the first fingerprint. Where it has a length that a recipe may have, and the cloud is told, the area of
+-- recipes has something else at its place, with the second fingerprint. Where it has another length, the second is that of no bytes.
+pub record IsFoundRecipe (cloud : Cloud) (index : CloudIndex) (key : FileKey) (named found : Fp) : Type 0 where
+  pub entry : Entry
+  pub kept : get index.files.files key ≡ Some entry
+  pub named_is : named ≡ entry.fp
+  pub lies : IsTrue cloud.told → 1 ≤ entry.len → entry.len ≤ 1180190
+      → IsOther (reads cloud.now Recipes) entry.at entry.len named found
+  pub unfit : (entry.len < 1) ⊎ (1180190 < entry.len) → found ≡ fingerprint []

@@ -1,3 +1,4 @@
 pub mod Allowed
 pub mod Keeping
+pub mod Owned
 pub mod Steps

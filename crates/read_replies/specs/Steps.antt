@@ -79,6 +79,12 @@ pub record Sent (fps : List Fp) (old new : List ℕ) : Type 0 where
   pub ranges : All IsShare shares
   pub named : map fingerprint shares ≡ fps
 
+-- The content is the reply of shares of these fingerprints.
+pub record SentAll (fps : List Fp) (content : List ℕ) : Type 0 where
+  pub shares : List (List ℕ)
+  pub is : IsReply content (replies.Shares shares)
+  pub named : map fingerprint shares ≡ fps
+
 -- ---- recipes
 
 -- The content is a recipe's, of this fingerprint.

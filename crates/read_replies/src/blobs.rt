@@ -1,11 +1,11 @@
 //! Blobs, read and compared with their fingerprints.
 
-ghost use Rattle.std.specs.Prelude.{◌≡◌, List, ℕ, length, IsTrue, OnOk, IfErr, Ok};
+ghost use Rattle.std.specs.Prelude.{◌≡◌, List, ℕ, [], length, IsTrue, OnOk, IfErr, Ok};
 ghost use Rattle.cd_base.specs.declared.ids.Fp.{Fp};
 ghost use Rattle.cd_edges.specs.Disk.{Cloud};
 ghost use Rattle.container_log.specs.Laying.{Placed, IsAt};
 ghost use Rattle.user_dedup.specs.Cloud.{fingerprint};
-ghost use Rattle.read_replies.specs.Keeping.{found_at};
+ghost use Rattle.read_replies.specs.Keeping.{IsOther};
 ghost use Rattle.read_replies.specs.declared.blobs.Stop.TheVariants as stops;
 ghost use Rattle.read_replies.specs.Steps.{HasRead, IfRotten};
 
@@ -37,8 +37,8 @@ fn compare(there: &[u8], len: usize, fp: &Fp) -> Result<(), Stop>
     }
 }
 
-/// Fills the buffer with what lies at a place, by one device call. Rotten comes where fewer bytes are there or their fingerprint
-/// is another, and Failed only where the cloud's count of faults rose.
+/// Fills the buffer with what lies at a place. Rotten comes exactly where fewer bytes are there or their fingerprint is another, with
+/// that of the bytes that are there; and Failed only where the cloud's count of faults rose.
 pub(crate) fn read_blob<V: Shelf>(
     log: &mut Log,
     shelf: &mut V,
@@ -50,7 +50,7 @@ pub(crate) fn read_blob<V: Shelf>(
     ensures hashed { OnOk result (fingerprint out.new ≡ fp.now) }
     ensures named { IfRotten result (λ named found. named ≡ fp.now) }
     ensures found { IsTrue (V.cloud_at shelf.old cloud.0).told
-        → IfRotten result (λ named found. found ≡ found_at ((V.cloud_at shelf.old cloud.0).now log.old.area).read at (length out.old)) }
+        → IfRotten result (λ named found. IsOther ((V.cloud_at shelf.old cloud.0).now log.old.area).read at (length out.old) named found) }
     ensures whole { IsTrue (V.cloud_at shelf.old cloud.0).told → (b : Placed) → b.place ≡ at → length b.blob ≡ length out.old → fingerprint b.blob ≡ fp.now
         → IsAt ((V.cloud_at shelf.old cloud.0).now log.old.area).read b → IfRotten result (λ named found. ⊥) }
     ensures blob { IsTrue (V.cloud_at shelf.old cloud.0).told → (b : Placed) → b.place ≡ at → length b.blob ≡ length out.old → fingerprint b.blob ≡ fp.now
@@ -68,9 +68,9 @@ pub(crate) fn read_blob<V: Shelf>(
     }
 }
 
-/// Nothing is found where something was named.
+/// Nothing is found where something was named: what is found has the fingerprint of no bytes.
 pub(crate) fn nothing_at(fp: &Fp) -> Stop
-    ensures { (found : Fp) × (result ≡ stops.Rotten fp.now found) }
+    ensures { result ≡ stops.Rotten fp.now (fingerprint []) }
 {
     Stop::Rotten {
         named: *fp,

@@ -1,6 +1,6 @@
 //! The reply to GetRecipe.
 
-ghost use Rattle.std.specs.Prelude.{◌≡◌, ℕ, ◌≤◌, ◌<◌, List, length, IsTrue, OnOk, OnErr, IfErr};
+ghost use Rattle.std.specs.Prelude.{◌≡◌, ◌⊎◌, ℕ, ◌≤◌, ◌<◌, List, [], length, IsTrue, OnOk, OnErr, IfErr};
 ghost use Rattle.cd_base.specs.declared.ids.Fp.{Fp};
 ghost use Rattle.cd_base.specs.declared.shape.Shape.{Shape};
 ghost use Rattle.cd_edges.specs.declared.area.Area.TheVariants as areas;
@@ -16,7 +16,7 @@ ghost use Rattle.user_dedup.specs.declared.command.Command.{Command};
 ghost use Rattle.user_dedup.specs.Cloud.{fingerprint};
 ghost use Rattle.user_dedup.specs.Dedup.{answer_over};
 ghost use Rattle.read_replies.specs.Allowed.{Replies, RecipeReply};
-ghost use Rattle.read_replies.specs.Keeping.{Keeps, found_at, IsNamed, HasNone, IsFoundRecipe};
+ghost use Rattle.read_replies.specs.Keeping.{Keeps, IsOther, IsNamed, HasNone, IsFoundRecipe};
 ghost use Rattle.read_replies.specs.Steps.{HasRead, IfRotten, FetchedOne};
 
 use crate::blobs::{Stop, nothing_at, read_blob};
@@ -46,7 +46,7 @@ fn put_from<V: Shelf>(
     ensures ok { OnOk result (FetchedOne entry.now.fp reply.new) }
     ensures named { IfRotten result (λ named found. named ≡ entry.now.fp) }
     ensures found { IsTrue (V.cloud_at shelf.old cloud.0).told
-        → IfRotten result (λ named found. found ≡ found_at ((V.cloud_at shelf.old cloud.0).now log.old.area).read entry.now.at entry.now.len) }
+        → IfRotten result (λ named found. IsOther ((V.cloud_at shelf.old cloud.0).now log.old.area).read entry.now.at entry.now.len named found) }
     ensures whole { IsTrue (V.cloud_at shelf.old cloud.0).told → (b : Placed) → b.place ≡ entry.now.at → length b.blob ≡ entry.now.len → fingerprint b.blob ≡ entry.now.fp
         → IsAt ((V.cloud_at shelf.old cloud.0).now log.old.area).read b → IfRotten result (λ named found. ⊥) }
     ensures blob { IsTrue (V.cloud_at shelf.old cloud.0).told → (b : Placed) → b.place ≡ entry.now.at → length b.blob ≡ entry.now.len → fingerprint b.blob ≡ entry.now.fp
@@ -79,7 +79,9 @@ fn put_recipe<V: Shelf>(
     ensures ok { OnOk result (FetchedOne entry.now.fp reply.new) }
     ensures named { IfRotten result (λ named found. named ≡ entry.now.fp) }
     ensures found { IsTrue (V.cloud_at shelf.old cloud.0).told → 1 ≤ entry.now.len → entry.now.len ≤ 1180190
-        → IfRotten result (λ named found. found ≡ found_at ((V.cloud_at shelf.old cloud.0).now log.old.area).read entry.now.at entry.now.len) }
+        → IfRotten result (λ named found. IsOther ((V.cloud_at shelf.old cloud.0).now log.old.area).read entry.now.at entry.now.len named found) }
+    ensures unfit { (entry.now.len < 1) ⊎ (1180190 < entry.now.len)
+        → IfRotten result (λ named found. found ≡ fingerprint []) }
     ensures whole { IsTrue (V.cloud_at shelf.old cloud.0).told → 1 ≤ entry.now.len → entry.now.len ≤ 1180190
         → (b : Placed) → b.place ≡ entry.now.at → length b.blob ≡ entry.now.len → fingerprint b.blob ≡ entry.now.fp
         → IsAt ((V.cloud_at shelf.old cloud.0).now log.old.area).read b → IfRotten result (λ named found. ⊥) }
@@ -99,8 +101,9 @@ fn put_recipe<V: Shelf>(
 }
 
 /// The reply to GetRecipe becomes the content. It is Missing where the memory has no entry of this version of the user's file, and
-/// no device call is made. Else it is Recipe, with the bytes read by one device call and compared with the entry's fingerprint; or
-/// Rotten where fewer bytes lie there than were kept, or others. Rotten names the entry's fingerprint, and that of what was found.
+/// no device is called. Else it is Recipe, with the bytes read back and compared with the entry's fingerprint; or Rotten where fewer
+/// bytes lie there than were kept, or others. Rotten names the entry's fingerprint, and that of what was found at its place,
+/// whatever the memory has.
 ///
 /// Over a told cloud whose areas have the list that the memory has, it is the reply of that list. Failed comes only where the
 /// cloud's count of faults rose; nothing is known of the content then. The cloud's areas stay in any case.
@@ -124,6 +127,7 @@ pub fn recipe<V: Shelf>(
         → OnOk result (reply.new ≡ reply_bytes (answer_over header.shape header.cloud.0 list (requests.GetRecipe user tag.now version)).reply) }
     ensures kind { OnOk result (Replies reply.new (RecipeReply (IsNamed index.now (key_of user.0 tag.now.0 version.0)) (HasNone index.now (key_of user.0 tag.now.0 version.0))
         (IsFoundRecipe (V.cloud_at shelf.old cloud.0) index.now (key_of user.0 tag.now.0 version.0)))) }
+    ensures untouched { OnOk result (IsReply reply.new replies.Missing → shelf.new ≡ shelf.old) }
     ensures log { log.new ≡ log.old }
     ensures stays { Stays (V.cloud_at shelf.old cloud.0) (V.cloud_at shelf.new cloud.0) }
     ensures call { IsCall (V.cloud_at shelf.old) (V.cloud_at shelf.new) cloud.0 (V.faults shelf.old) (V.faults shelf.new) }

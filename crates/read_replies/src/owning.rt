@@ -11,6 +11,7 @@ ghost use Rattle.user_dedup.specs.Owning.{first_lacking};
 ghost use Rattle.user_dedup.specs.Dedup.{answer_over};
 ghost use Rattle.cloud_index.specs.Memory.{Remembers};
 ghost use Rattle.read_replies.specs.Allowed.{Replies, KnownReply};
+ghost use Rattle.read_replies.specs.Owned.{first_unowned};
 ghost use Rattle.read_replies.specs.Steps.{Flagged, IsMark};
 
 use crate::fixed::put_head;
@@ -64,6 +65,7 @@ pub fn known(index: &CloudIndex, user: UserId, fps: &FpsView<'_>, reply: &mut Re
 /// for 1 to 256 fingerprints.
 pub(crate) fn first_foreign(index: &CloudIndex, user: UserId, fps: &FpsView<'_>) -> Option<u16>
     requires { IsBatch fps.now }
+    ensures kept { result ≡ first_unowned index.now user fps.now }
     ensures value { (shape : Shape) (list : List Command) → Remembers shape list index.now
         → result ≡ first_lacking (user_view shape list user).own fps.now }
     ensures within { IfSome result (λ place. place < length fps.now) }

@@ -1,6 +1,6 @@
 //! The reply to GetShares.
 
-ghost use Rattle.std.specs.Prelude.{◌≡◌, ℕ, ◌+◌, ◌*◌, ◌≤◌, List, [], ◌++◌, length, map, unwrap_or, All, IsTrue, OnOk, OnErr, Some};
+ghost use Rattle.std.specs.Prelude.{◌≡◌, ◌⊎◌, ℕ, ◌+◌, ◌*◌, ◌≤◌, ◌<◌, List, [], ◌++◌, length, map, unwrap_or, All, IsTrue, OnOk, OnErr, Some, None};
 ghost use Rattle.std.specs.List.{Contains, flat_map};
 ghost use Rattle.cd_base.specs.declared.ids.Fp.{Fp};
 ghost use Rattle.cd_base.specs.declared.ids.UserId.{UserId};
@@ -18,12 +18,11 @@ ghost use Rattle.messages.specs.Replies.{reply_bytes, IsReply};
 ghost use Rattle.share_index.specs.declared.key.Place.{Place};
 ghost use Rattle.user_dedup.specs.declared.command.Command.{Command};
 ghost use Rattle.user_dedup.specs.Cloud.{fingerprint, user_view, held_string};
-ghost use Rattle.user_dedup.specs.Owning.{first_lacking};
 ghost use Rattle.user_dedup.specs.Dedup.{answer_over};
-ghost use Rattle.cloud_index.specs.Memory.{Remembers};
 ghost use Rattle.read_replies.specs.Allowed.{Replies, SharesReply};
-ghost use Rattle.read_replies.specs.Keeping.{Keeps, found_at, IsFoundShare};
-ghost use Rattle.read_replies.specs.Steps.{HasRead, IfRotten, SentOne, Sent};
+ghost use Rattle.read_replies.specs.Keeping.{Keeps, IsOther, IsFoundShare};
+ghost use Rattle.read_replies.specs.Owned.{first_unowned};
+ghost use Rattle.read_replies.specs.Steps.{HasRead, IfRotten, SentOne, Sent, SentAll};
 
 use crate::blobs::{Stop, nothing_at, read_blob};
 use crate::fixed::{put_head, put_not_yours, put_rotten};
@@ -53,7 +52,7 @@ fn put_from<V: Shelf>(
     ensures ok { OnOk result (SentOne fp.now reply.old reply.new) }
     ensures named { IfRotten result (λ named found. named ≡ fp.now) }
     ensures found { IsTrue (V.cloud_at shelf.old cloud.0).told
-        → IfRotten result (λ named found. found ≡ found_at ((V.cloud_at shelf.old cloud.0).now log.old.area).read place.at place.len) }
+        → IfRotten result (λ named found. IsOther ((V.cloud_at shelf.old cloud.0).now log.old.area).read place.at place.len named found) }
     ensures whole { IsTrue (V.cloud_at shelf.old cloud.0).told → (b : Placed) → b.place ≡ place.at → length b.blob ≡ place.len → fingerprint b.blob ≡ fp.now
         → IsAt ((V.cloud_at shelf.old cloud.0).now log.old.area).read b → IfRotten result (λ named found. ⊥) }
     ensures blob { IsTrue (V.cloud_at shelf.old cloud.0).told → (b : Placed) → b.place ≡ place.at → length b.blob ≡ place.len → fingerprint b.blob ≡ fp.now
@@ -87,7 +86,10 @@ fn put_share<V: Shelf>(
     ensures ok { OnOk result (SentOne fp.now reply.old reply.new) }
     ensures named { IfRotten result (λ named found. named ≡ fp.now) }
     ensures found { IsTrue (V.cloud_at shelf.old cloud.0).told → (p : Place) → place ≡ Some p → 1 ≤ p.len → p.len ≤ 8208
-        → IfRotten result (λ named found. found ≡ found_at ((V.cloud_at shelf.old cloud.0).now log.old.area).read p.at p.len) }
+        → IfRotten result (λ named found. IsOther ((V.cloud_at shelf.old cloud.0).now log.old.area).read p.at p.len named found) }
+    ensures none { place ≡ None → IfRotten result (λ named found. found ≡ fingerprint []) }
+    ensures unfit { (p : Place) → place ≡ Some p → (p.len < 1) ⊎ (8208 < p.len)
+        → IfRotten result (λ named found. found ≡ fingerprint []) }
     ensures whole { IsTrue (V.cloud_at shelf.old cloud.0).told → (p : Place) → place ≡ Some p → (b : Placed) → b.place ≡ p.at → length b.blob ≡ p.len → IsShare b.blob
         → fingerprint b.blob ≡ fp.now → IsAt ((V.cloud_at shelf.old cloud.0).now log.old.area).read b → IfRotten result (λ named found. ⊥) }
     ensures blob { IsTrue (V.cloud_at shelf.old cloud.0).told → (p : Place) → place ≡ Some p → (b : Placed) → b.place ≡ p.at → length b.blob ≡ p.len → IsShare b.blob
@@ -110,7 +112,7 @@ fn put_share<V: Shelf>(
     }
 }
 
-// Puts the share of each fingerprint, by one device call each, up to the first that isn't there.
+// Puts the share of each fingerprint, up to the first that isn't there.
 fn put_each<V: Shelf>(
     index: &CloudIndex,
     log: &mut Log,
@@ -158,7 +160,7 @@ fn put_shares<V: Shelf>(
     requires batch { IsBatch fps.now }
     requires area { log.old.area ≡ areas.Shares }
     requires buffer { 8208 ≤ length buffer.old }
-    ensures ok { OnOk result (Replies reply.new (SharesReply fps.now (IsFoundShare (V.cloud_at shelf.old cloud.0) index.now))) }
+    ensures ok { OnOk result (SentAll fps.now reply.new) }
     ensures rotten { IfRotten result (λ named found. Contains fps.now named × IsFoundShare (V.cloud_at shelf.old cloud.0) index.now named found) }
     ensures whole { IsTrue (V.cloud_at shelf.old cloud.0).told → (header : Header) (list : List Command) (user : UserId)
         → Keeps (reads (V.cloud_at shelf.old cloud.0).now) header list index.now → All (Contains (user_view header.shape list user).own) fps.now
@@ -177,9 +179,9 @@ fn put_shares<V: Shelf>(
 }
 
 /// The reply to GetShares becomes the content. Where the user doesn't own each fingerprint it is NotYours, with the place of the
-/// first, and no device call is made. Else it is Shares, with the share of each fingerprint, read by one device call each and
-/// compared with the fingerprint; or Rotten where fewer bytes lie there than were kept, or others. Rotten names the fingerprint,
-/// and that of what was found.
+/// first, and no device is called. Else it is Shares, with the share of each fingerprint, read back and compared with the
+/// fingerprint; or Rotten where fewer bytes lie there than were kept, or others. Rotten names the fingerprint, and that of what was
+/// found at the place that the memory has for it, whatever the memory has.
 ///
 /// Over a told cloud whose areas have the list that the memory has, it is the reply of that list. Failed comes only where the
 /// cloud's count of faults rose; nothing is known of the content then. The cloud's areas stay in any case.
@@ -202,8 +204,9 @@ pub fn shares<V: Shelf>(
         → Keeps (reads (V.cloud_at shelf.old cloud.0).now) header list index.now
         → OnOk result (reply.new ≡ reply_bytes (answer_over header.shape header.cloud.0 list (requests.GetShares user fps.now)).reply) }
     ensures kind { OnOk result (Replies reply.new (SharesReply fps.now (IsFoundShare (V.cloud_at shelf.old cloud.0) index.now))) }
-    ensures foreign { (shape : Shape) (list : List Command) (place : ℕ) → Remembers shape list index.now
-        → first_lacking (user_view shape list user).own fps.now ≡ Some place → OnOk result (reply.new ≡ reply_bytes (replies.NotYours place)) }
+    ensures foreign { (place : ℕ) → first_unowned index.now user fps.now ≡ Some place
+        → (shelf.new ≡ shelf.old) × OnOk result (reply.new ≡ reply_bytes (replies.NotYours place)) }
+    ensures untouched { (place : ℕ) → OnOk result (IsReply reply.new (replies.NotYours place) → shelf.new ≡ shelf.old) }
     ensures log { log.new ≡ log.old }
     ensures stays { Stays (V.cloud_at shelf.old cloud.0) (V.cloud_at shelf.new cloud.0) }
     ensures call { IsCall (V.cloud_at shelf.old) (V.cloud_at shelf.new) cloud.0 (V.faults shelf.old) (V.faults shelf.new) }

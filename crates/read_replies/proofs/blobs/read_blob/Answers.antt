@@ -1,9 +1,12 @@
-use Rattle.std.proofs.Common.{◌≡◌, ℕ, ◌≤◌, length, take, drop, refl, sym, ap, ◌∙◌, subst, arith, length-take}
+use Rattle.std.proofs.Common.{◌≡◌, ℕ, ◌≤◌, List, length, take, drop, IfErr, refl, sym, ap, ◌∙◌, subst, arith, length-take}
 use Rattle.std.proofs.lemmas.List.{take_all}
 use Rattle.cd_base.specs.declared.ids.Fp.{Fp}
 use Rattle.user_dedup.specs.Cloud.{fingerprint}
-use Rattle.read_replies.specs.Keeping.{found_at}
-use Rattle.read_replies.proofs.Calling.{rotten_as, not_rotten, when_ok, ok_both, compared, there_is, blob_there}
+use Rattle.read_replies.specs.declared.blobs.Stop.{Stop}
+use Rattle.read_replies.specs.declared.blobs.Stop.TheVariants as stops
+use Rattle.read_replies.specs.Keeping.{IsOther}
+use Rattle.read_replies.specs.Steps.{IfRotten}
+use Rattle.read_replies.proofs.Calling.{rotten_as, not_rotten, when_ok, ok_both, compared, other_there, blob_there}
 use Rattle.read_replies.proofs.blobs.read_blob.Goals as goal
 
 pub returns-in-Ok-clause-hashed : goal.returns-in-Ok-clause-hashed
@@ -22,9 +25,14 @@ returns-in-Ok-clause-named g c =
 pub returns-in-Ok-clause-found : goal.returns-in-Ok-clause-found
 returns-in-Ok-clause-found g c = λ told.
     let area = ((g.V.Shelf.cloud_at c.args.shelf.now c.args.cloud.0).now c.args.log.now.area).read in
-    rotten_as c.compare.result c.args.fp.now (fingerprint c.split_at.result.0.now) (λ (named found : Fp). found ≡ found_at area c.args.at (length c.args.out.now)) c.compare.ensures.err
-    (ap fingerprint (c.split_at.ensures.front ∙ there_is area c.args.at c.in-Ok.count c.read.new.out (c.in-Ok.ensures.bytes told)
-    ∙ ap (λ (n : ℕ). take n (drop c.args.at area)) c.read.auto.out))
+    let out = c.read.new.out in
+    let r = c.compare.result in
+    let fp = c.args.fp.now in
+    let front = c.split_at.ensures.front in
+    subst (λ (n : ℕ). IfRotten r (λ (named found : Fp). IsOther area c.args.at n named found)) c.read.auto.out
+    (other_there r area c.args.at c.in-Ok.count out fp (c.in-Ok.ensures.bytes told)
+    (subst (λ (l : List ℕ). IfErr r (λ (stop : Stop). stop ≡ stops.Rotten fp (fingerprint l))) front c.compare.ensures.err)
+    (λ long same. c.compare.ensures.whole (ap length front ∙ long ∙ c.read.auto.out) (ap fingerprint front ∙ same)))
 
 pub returns-in-Ok-clause-whole : goal.returns-in-Ok-clause-whole
 returns-in-Ok-clause-whole g c = λ told b place_is long same at.

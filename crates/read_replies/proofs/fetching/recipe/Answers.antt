@@ -1,4 +1,4 @@
-use Rattle.std.proofs.Common.{◌≡◌, Some, refl, sym, ap, ◌∙◌, subst}
+use Rattle.std.proofs.Common.{◌≡◌, [], Some, refl, sym, ap, ◌∙◌, subst}
 use Rattle.cd_base.specs.declared.ids.Fp.{Fp}
 use Rattle.cd_edges.specs.declared.area.Area.{Area}
 use Rattle.cd_edges.specs.Disk.{reads}
@@ -7,9 +7,10 @@ use Rattle.file_index.specs.Files.{key_of}
 use Rattle.messages.specs.declared.reply.Reply.TheVariants as replies
 use Rattle.messages.specs.Replies.{reply_bytes}
 use Rattle.cloud_store.specs.Contents.{entry_in}
-use Rattle.read_replies.specs.Keeping.{found_at}
+use Rattle.user_dedup.specs.Cloud.{fingerprint}
+use Rattle.read_replies.specs.Keeping.{IsOther}
 use Rattle.read_replies.proofs.Held.{entry_range, recipe_at, recipe_missing}
-use Rattle.read_replies.proofs.Calling.{rotten_at}
+use Rattle.read_replies.proofs.Calling.{rotten_at, recipe_or_missing, rotten_or_missing}
 use Rattle.read_replies.proofs.fetching.recipe.Goals as goal
 
 pub returns-in-Ok-clause-value : goal.returns-in-Ok-clause-value
@@ -24,7 +25,16 @@ returns-in-Ok-clause-value g c = λ told header list k.
 pub returns-in-Ok-clause-kind : goal.returns-in-Ok-clause-kind
 returns-in-Ok-clause-kind g c =
     let f = c.in-Ok.ensures.ok in
-    record { reply = replies.Recipe f.recipe; is = f.is; said = λ shape list is. (c.in-Some.entry, sym (c.entry.ensures.meaning shape list is) ∙ c.in-Some.is, f.named) }
+    record { reply = replies.Recipe f.recipe; is = f.is; said = (c.in-Some.entry, sym c.entry.ensures.kept ∙ c.in-Some.is, f.named) }
+
+pub returns-in-Ok-clause-untouched : goal.returns-in-Ok-clause-untouched
+returns-in-Ok-clause-untouched g c = λ other.
+    let f = c.in-Ok.ensures.ok in
+    absurd (recipe_or_missing c.put_recipe.new.reply f.recipe f.is other)
+
+pub returns-in-Err-Rotten-clause-untouched : goal.returns-in-Err-Rotten-clause-untouched
+returns-in-Err-Rotten-clause-untouched g c = λ other.
+    absurd (rotten_or_missing c.put_rotten.new.reply c.in-Err-Rotten.named c.in-Err-Rotten.found c.put_rotten.ensures other)
 
 pub returns-in-Err-Rotten-clause-value : goal.returns-in-Err-Rotten-clause-value
 returns-in-Err-Rotten-clause-value g c = λ told header list k.
@@ -44,17 +54,16 @@ returns-in-Err-Rotten-clause-kind g c =
     record {
       reply = replies.Rotten c.in-Err-Rotten.named c.in-Err-Rotten.found;
       is = c.put_rotten.ensures;
-      said = λ shape list is.
-          let e : entry_in list (key_of c.args.user.0 c.args.tag.now.0 c.args.version.0) ≡ Some entry = sym (c.entry.ensures.meaning shape list is) ∙ c.in-Some.is in (
-            entry,
-            e,
-            rotten_at c.in-Err-Rotten.field-0 _ _ (λ (named found : Fp). named ≡ entry.fp) c.in-Err-Rotten.field-0-is c.in-Err-Rotten.ensures.named,
-            λ told number sound.
-                let range = entry_range shape number list c.args.user c.args.tag.now c.args.version entry sound e in
-                rotten_at c.in-Err-Rotten.field-0 _ _ (λ (named found : Fp). found ≡ found_at (cloud.now c.args.log.now.area).read entry.at entry.len) c.in-Err-Rotten.field-0-is
-                (c.in-Err-Rotten.ensures.found told range.some range.few)
-                ∙ ap (λ (x : Area). found_at (cloud.now x).read entry.at entry.len) c.requires.area,
-          );
+      said = record {
+        entry = entry;
+        kept = sym c.entry.ensures.kept ∙ c.in-Some.is;
+        named_is = rotten_at c.in-Err-Rotten.field-0 _ _ (λ (named found : Fp). named ≡ entry.fp) c.in-Err-Rotten.field-0-is c.in-Err-Rotten.ensures.named;
+        lies = λ told some few.
+            subst (λ (x : Area). IsOther (cloud.now x).read entry.at entry.len c.in-Err-Rotten.named c.in-Err-Rotten.found) c.requires.area
+            (rotten_at c.in-Err-Rotten.field-0 _ _ (λ (named found : Fp). IsOther (cloud.now c.args.log.now.area).read entry.at entry.len named found) c.in-Err-Rotten.field-0-is
+            (c.in-Err-Rotten.ensures.found told some few));
+        unfit = λ out. rotten_at c.in-Err-Rotten.field-0 _ _ (λ (named found : Fp). found ≡ fingerprint []) c.in-Err-Rotten.field-0-is (c.in-Err-Rotten.ensures.unfit out);
+      };
     }
 
 pub returns-in-None-clause-value : goal.returns-in-None-clause-value
@@ -63,4 +72,4 @@ returns-in-None-clause-value g c = λ told header list k.
     ∙ ap reply_bytes (sym (recipe_missing header.shape list c.args.user c.args.tag.now c.args.version (sym (c.entry.ensures.meaning header.shape list k.remembers) ∙ c.in-None.is)))
 
 pub returns-in-None-clause-kind : goal.returns-in-None-clause-kind
-returns-in-None-clause-kind g c = record { reply = replies.Missing; is = c.put_missing.ensures; said = λ shape list is. sym (c.entry.ensures.meaning shape list is) ∙ c.in-None.is }
+returns-in-None-clause-kind g c = record { reply = replies.Missing; is = c.put_missing.ensures; said = sym c.entry.ensures.kept ∙ c.in-None.is }

@@ -10,7 +10,8 @@ pub returns-in-Err-clause-rotten : goal.returns-in-Err-clause-rotten
 returns-in-Err-clause-rotten g c =
     rotten_exit (g.V.Shelf.cloud_at c.args.shelf.now) (g.V.Shelf.cloud_at c.loop-place.shelf) c.args.cloud.0 (g.V.Shelf.faults c.args.shelf.now) (g.V.Shelf.faults c.loop-place.shelf)
     c.args.log.now c.loop-place.log c.args.index.now c.args.fps.now c.fp_at-fp.result c.place_of-at.result (Err c.in-Err.stop) c.requires.area c.loop-place.invariant.only c.loop-place.invariant.log_is
-    (among_at c.args.fps.now c.loop-place.place c.fp_at-fp.result c.fp_at-fp.ensures) c.place_of-at.ensures.meaning c.in-Err.ensures.named c.in-Err.ensures.found
+    (among_at c.args.fps.now c.loop-place.place c.fp_at-fp.result c.fp_at-fp.ensures) c.place_of-at.ensures.kept c.in-Err.ensures.named c.in-Err.ensures.found
+    c.in-Err.ensures.none c.in-Err.ensures.unfit
 
 pub returns-in-Err-clause-whole : goal.returns-in-Err-clause-whole
 returns-in-Err-clause-whole g c =

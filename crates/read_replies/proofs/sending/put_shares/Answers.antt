@@ -1,11 +1,9 @@
-use Rattle.read_replies.specs.Keeping.{IsFoundShare}
 use Rattle.read_replies.proofs.Along.{shares_kind, held_spelled}
 use Rattle.read_replies.proofs.sending.put_shares.Goals as goal
 
 pub returns-in-Ok-clause-ok : goal.returns-in-Ok-clause-ok
 returns-in-Ok-clause-ok g c =
-    shares_kind c.args.fps.now c.put_head.new.reply c.put_each.new.reply c.len.result (IsFoundShare (g.V.Shelf.cloud_at c.args.shelf.now c.args.cloud.0) c.args.index.now) c.in-Ok.ensures.ok
-    c.put_head.ensures.value c.len.ensures c.requires.batch
+    shares_kind c.args.fps.now c.put_head.new.reply c.put_each.new.reply c.len.result c.in-Ok.ensures.ok c.put_head.ensures.value c.len.ensures c.requires.batch
 
 pub returns-in-Ok-clause-held : goal.returns-in-Ok-clause-held
 returns-in-Ok-clause-held g c = λ told header list user k own.

@@ -1,4 +1,4 @@
-use Rattle.std.proofs.Common.{◌≡◌, ℕ, Option, Some, None, sym, ap, ◌∙◌}
+use Rattle.std.proofs.Common.{◌≡◌, ℕ, Option, Some, None, refl, sym, ap, ◌∙◌}
 use Rattle.cd_base.specs.declared.ids.Fp.{Fp}
 use Rattle.messages.specs.declared.reply.Reply.TheVariants as replies
 use Rattle.messages.specs.Replies.{reply_bytes}
@@ -6,7 +6,7 @@ use Rattle.user_dedup.specs.Cloud.{user_view}
 use Rattle.user_dedup.specs.Owning.{first_lacking}
 use Rattle.user_dedup.specs.Dedup.{shares_reply}
 use Rattle.read_replies.proofs.Along.{strings_for, all_owned}
-use Rattle.read_replies.proofs.Calling.{rotten_at}
+use Rattle.read_replies.proofs.Calling.{rotten_at, shares_or_not_yours, rotten_or_not_yours}
 use Rattle.read_replies.proofs.sending.shares.Goals as goal
 
 pub returns-in-Some-clause-value : goal.returns-in-Some-clause-value
@@ -15,10 +15,10 @@ returns-in-Some-clause-value g c = λ told header list k.
     ∙ ap (λ (o : Option ℕ). reply_bytes (shares_reply o (strings_for list c.args.fps.now))) (sym c.in-Some.is ∙ c.first_foreign.ensures.value header.shape list k.remembers)
 
 pub returns-in-Some-clause-foreign : goal.returns-in-Some-clause-foreign
-returns-in-Some-clause-foreign g c = λ shape list place is lack.
-    let e : Some c.in-Some.place ≡ Some place = sym c.in-Some.is ∙ c.first_foreign.ensures.value shape list is ∙ lack in
+returns-in-Some-clause-foreign g c = λ place lack.
+    let e : Some c.in-Some.place ≡ Some place = sym c.in-Some.is ∙ c.first_foreign.ensures.kept ∙ lack in
     let same : c.in-Some.place ≡ place = cc in
-    c.put_not_yours.ensures.spelled ∙ ap (λ (n : ℕ). reply_bytes (replies.NotYours n)) same
+    (refl, c.put_not_yours.ensures.spelled ∙ ap (λ (n : ℕ). reply_bytes (replies.NotYours n)) same)
 
 pub returns-in-Ok-clause-value : goal.returns-in-Ok-clause-value
 returns-in-Ok-clause-value g c = λ told header list k.
@@ -28,8 +28,22 @@ returns-in-Ok-clause-value g c = λ told header list k.
     ∙ ap (λ (o : Option ℕ). reply_bytes (shares_reply o (strings_for list c.args.fps.now))) none
 
 pub returns-in-Ok-clause-foreign : goal.returns-in-Ok-clause-foreign
-returns-in-Ok-clause-foreign g c = λ shape list place is lack.
-    absurd (let e : None ≡ Some place = sym c.in-None.is ∙ c.first_foreign.ensures.value shape list is ∙ lack in cc)
+returns-in-Ok-clause-foreign g c = λ place lack.
+    absurd (let e : None ≡ Some place = sym c.in-None.is ∙ c.first_foreign.ensures.kept ∙ lack in cc)
+
+pub returns-in-Ok-clause-kind : goal.returns-in-Ok-clause-kind
+returns-in-Ok-clause-kind g c =
+    let sent = c.in-Ok.ensures.ok in
+    record { reply = replies.Shares sent.shares; is = sent.is; said = sent.named }
+
+pub returns-in-Ok-clause-untouched : goal.returns-in-Ok-clause-untouched
+returns-in-Ok-clause-untouched g c = λ place other.
+    let sent = c.in-Ok.ensures.ok in
+    absurd (shares_or_not_yours c.put_shares.new.reply sent.shares place sent.is other)
+
+pub returns-in-Err-Rotten-clause-untouched : goal.returns-in-Err-Rotten-clause-untouched
+returns-in-Err-Rotten-clause-untouched g c = λ place other.
+    absurd (rotten_or_not_yours c.put_rotten.new.reply c.in-Err-Rotten.named c.in-Err-Rotten.found place c.put_rotten.ensures other)
 
 pub returns-in-Err-Rotten-clause-value : goal.returns-in-Err-Rotten-clause-value
 returns-in-Err-Rotten-clause-value g c = λ told header list k.
@@ -39,5 +53,9 @@ returns-in-Err-Rotten-clause-value g c = λ told header list k.
     (c.in-Err-Rotten.ensures.whole told header list c.args.user k (all_owned own c.args.fps.now none)))
 
 pub returns-in-Err-Rotten-clause-foreign : goal.returns-in-Err-Rotten-clause-foreign
-returns-in-Err-Rotten-clause-foreign g c = λ shape list place is lack.
-    absurd (let e : None ≡ Some place = sym c.in-None.is ∙ c.first_foreign.ensures.value shape list is ∙ lack in cc)
+returns-in-Err-Rotten-clause-foreign g c = λ place lack.
+    absurd (let e : None ≡ Some place = sym c.in-None.is ∙ c.first_foreign.ensures.kept ∙ lack in cc)
+
+pub returns-in-Err-Failed-clause-foreign : goal.returns-in-Err-Failed-clause-foreign
+returns-in-Err-Failed-clause-foreign g c = λ place lack.
+    absurd (let e : None ≡ Some place = sym c.in-None.is ∙ c.first_foreign.ensures.kept ∙ lack in cc)
