@@ -226,7 +226,7 @@ impl CommandLog {
         }
     }
 
-    /// Reads the share at a place: puts what Shares has from there on in front of `out`, by one device call, and answers how
+    /// Reads the share at a place: puts what Shares has from there on in front of `out`, and answers how
     /// many bytes that are. A share of the list that lies at the place, and has as many bytes as `out`, is what `out` then
     /// has. What is staged isn't seen. Nothing changes. Failed comes only where the cloud's count of faults rose. It takes
     /// no memory.
@@ -251,7 +251,7 @@ impl CommandLog {
         self.shares.read(shelf, cloud, place, out)
     }
 
-    /// Reads the recipe at a place: puts what Recipes has from there on in front of `out`, by one device call, and answers how
+    /// Reads the recipe at a place: puts what Recipes has from there on in front of `out`, and answers how
     /// many bytes that are. A recipe of the list that lies at the place, and has as many bytes as `out`, is what `out` then
     /// has. What is staged isn't seen. Nothing changes. Failed comes only where the cloud's count of faults rose. It takes
     /// no memory.
