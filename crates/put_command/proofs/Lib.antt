@@ -3,3 +3,4 @@ pub mod Picking
 pub mod Laying
 pub mod Wrote
 pub mod Outcomes
+mod Untouched

@@ -1,11 +1,14 @@
 //! Put.
 
-ghost use Rattle.std.specs.Prelude.{◌≡◌, ◌+◌, ◌≤◌, List, length, None, OnOk, OnErr, IsOk};
+ghost use Rattle.std.specs.Prelude.{◌≡◌, ℕ, ◌+◌, ◌≤◌, List, length, None, OnOk, OnErr, IsOk};
+ghost use Rattle.cd_base.specs.declared.rooms.Room.{Room};
 ghost use Rattle.cd_edges.specs.Disk.{LeavesOnly, moment};
 ghost use Rattle.cd_edges.specs.Shelf.{IsCall, HasFailed, KeepsCounts};
 ghost use Rattle.commit_journal.specs.declared.journal.Stage.TheVariants.{Shut};
 ghost use Rattle.message_fields.specs.Shares.{AreShares};
 ghost use Rattle.messages.specs.declared.request.Request.TheVariants as requests;
+ghost use Rattle.messages.specs.declared.reply.Reply.TheVariants as replies;
+ghost use Rattle.messages.specs.Replies.{IsReply};
 ghost use Rattle.user_dedup.specs.declared.command.Command.{Command};
 ghost use Rattle.cloud_store.specs.Space.{IsWithin};
 ghost use Rattle.cloud_store.specs.Standing.{StandsForSome};
@@ -56,6 +59,11 @@ fn add_news<V: Shelf>(
         → (serves state.old list (requests.Put user shares.now)).adds ≡ None → (shelf.new ≡ shelf.old) × (state.new ≡ state.old) × IsOk result }
 
     // whatever is known of the cloud
+    ensures none { OnOk result (IsReply reply.new (replies.Stored 0) → (shelf.new ≡ shelf.old)
+        × (state.new ≡ state.old)) }
+    ensures full { (room : Room) (used need limit : ℕ)
+        → OnOk result (IsReply reply.new (replies.Full room used need limit)
+        → (shelf.new ≡ shelf.old) × (state.new ≡ state.old)) }
     ensures kind { OnOk result (Gives state.old.header.shape (requests.Put user shares.now) reply.new) }
     ensures call { IsCall (V.cloud_at shelf.old) (V.cloud_at shelf.new) state.old.header.cloud.0 (V.faults shelf.old) (V.faults shelf.new) }
     ensures failed { OnErr result (HasFailed (V.cloud_at shelf.old state.old.header.cloud.0) (V.cloud_at shelf.new state.old.header.cloud.0) (V.faults shelf.old) (V.faults shelf.new)) }
@@ -133,6 +141,11 @@ pub fn put<V: Shelf>(
         → (serves state.old list (requests.Put user shares.now)).adds ≡ None → (shelf.new ≡ shelf.old) × (state.new ≡ state.old) × IsOk result }
 
     // whatever is known of the cloud
+    ensures none { OnOk result (IsReply reply.new (replies.Stored 0) → (shelf.new ≡ shelf.old)
+        × (state.new ≡ state.old)) }
+    ensures full { (room : Room) (used need limit : ℕ)
+        → OnOk result (IsReply reply.new (replies.Full room used need limit)
+        → (shelf.new ≡ shelf.old) × (state.new ≡ state.old)) }
     ensures kind { OnOk result (Gives state.old.header.shape (requests.Put user shares.now) reply.new) }
     ensures call { IsCall (V.cloud_at shelf.old) (V.cloud_at shelf.new) state.old.header.cloud.0 (V.faults shelf.old) (V.faults shelf.new) }
     ensures failed { OnErr result (HasFailed (V.cloud_at shelf.old state.old.header.cloud.0) (V.cloud_at shelf.new state.old.header.cloud.0) (V.faults shelf.old) (V.faults shelf.new)) }

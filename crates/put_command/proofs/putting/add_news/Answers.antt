@@ -11,6 +11,7 @@ use Rattle.command_log.proofs.Standing.{used_on}
 use Rattle.put_command.specs.Picked.{marked}
 use Rattle.put_command.specs.Written.{MayWrite}
 use Rattle.put_command.proofs.Outcomes.{still, no_moments, served_only, served_next, stored, is_full, sound_next, next_images, next_moments, fits_shares, fits_journal, settled_next}
+use Rattle.put_command.proofs.Untouched.{some_or_none, stored_or_full}
 use Rattle.put_command.proofs.putting.add_news.Goals as goal
 
 pub write-requires-clause-within : goal.write-requires-clause-within
@@ -140,3 +141,10 @@ returns-in-Err-write-clause-nothing g c list agrees within nothing =
     let new = p.by_list state.header.shape list agrees.remembers in
     let is = stored state list user sent strings new some (c.in-Ok.ensures.full state.header.shape list strings agrees.remembers within p.of used) in
     absurd (let never : None ≡ Some (commands.Put user strings) = sym nothing ∙ ap (λ (o : Outcome). o.adds) is in cc)
+
+pub returns-in-Ok-write-clause-none : goal.returns-in-Ok-write-clause-none
+returns-in-Ok-write-clause-none g c = λ none. absurd (some_or_none c.put_stored.new.reply (length c.args.news.now) c.requires.some c.put_stored.ensures none)
+
+pub returns-in-Ok-write-clause-full : goal.returns-in-Ok-write-clause-full
+returns-in-Ok-write-clause-full g c = λ room used need limit full.
+    absurd (stored_or_full c.put_stored.new.reply (length c.args.news.now) room used need limit c.put_stored.ensures full)
