@@ -88,7 +88,7 @@ answered_new header list user tag version r bytes is e lacks none = subst (IsAns
 
 -- ---- the entry's recipe where the area has it
 
-whole_there : (entry : Entry) (there : List ℕ) → length there ≡ entry.len → fingerprint there ≡ entry.fp → is_whole entry there ≡ true
+pub whole_there : (entry : Entry) (there : List ℕ) → length there ≡ entry.len → fingerprint there ≡ entry.fp → is_whole entry there ≡ true
 whole_there entry there long same = both (length there == entry.len) (bytes_eq (fingerprint there).0 entry.fp.0) (eq-eqb (length there) entry.len long)
     (subst (λ fp. bytes_eq (fingerprint there).0 fp.0 ≡ true) same (nat_list_eq_equiv.refl (fingerprint there).0))
   where
@@ -172,5 +172,6 @@ lacking_given shape user tag version r content place is within reply = record {
     kind = omega (arith, items_spelled shape r is);
     memory = λ e. let no : replies.Lacking place ≡ replies.NoMemory = e in cc;
     fault = λ e. let no : replies.Lacking place ≡ replies.Fault = e in cc;
+    damaged = λ at byte e. let no : replies.Lacking place ≡ replies.Damaged at byte = e in cc;
   };
 }

@@ -6,6 +6,7 @@ ghost use Rattle.user_dedup.specs.declared.command.Command.{Command};
 ghost use Rattle.user_dedup.specs.Cloud.{user_view};
 ghost use Rattle.user_dedup.specs.Owning.{fps_in, first_lacking};
 ghost use Rattle.cloud_index.specs.Memory.{Remembers};
+ghost use Rattle.read_replies.specs.Owned.{first_unowned};
 
 use cd_base::{Fp, UserId};
 use cloud_index::CloudIndex;
@@ -29,6 +30,7 @@ pub(crate) fn first_foreign(
     recipe: &RecipeView<'_>,
 ) -> Option<u32>
     requires { length recipe.now.items ≤ 32768 }
+    ensures kept { result ≡ first_unowned index.now user (fps_in recipe.now.items) }
     ensures value { (shape : Shape) (list : List Command) → Remembers shape list index.now
         → result ≡ first_lacking (user_view shape list user).own (fps_in recipe.now.items) }
     ensures within { IfSome result (λ place. place < length recipe.now.items) }

@@ -1,9 +1,11 @@
 //! A version that has an entry: its recipe, read back and compared.
 
-ghost use Rattle.std.specs.Prelude.{◌≡◌, ◌≤◌, List, ℕ, length, take, drop, IsTrue, OnOk};
+ghost use Rattle.std.specs.Prelude.{◌≡◌, ◌⊎◌, ◌<◌, ◌≤◌, List, ℕ, [], length, take, drop, IsTrue, OnOk};
 ghost use Rattle.cd_edges.specs.Disk.{Cloud};
 ghost use Rattle.cd_edges.specs.Shelf.{Stays};
+ghost use Rattle.messages.specs.declared.reply.Reply.TheVariants as replies;
 ghost use Rattle.messages.specs.Replies.{IsReply};
+ghost use Rattle.user_dedup.specs.Cloud.{fingerprint};
 ghost use Rattle.read_replies.specs.Allowed.{Replies};
 ghost use Rattle.commit_command.specs.Stored.{compared, stored_reply};
 ghost use Rattle.commit_command.specs.Steps.{Calls, IsOfEntry};
@@ -34,7 +36,7 @@ fn put_compared(there: &[u8], entry: &Entry, recipe: &[u8], reply: &mut ReplyBuf
     }
 }
 
-// The same of an entry with a length that a recipe may have: its bytes are read by one device call.
+// The same of an entry with a length that a recipe may have: its bytes are read.
 fn put_read<V: Shelf>(
     log: &mut CommandLog,
     shelf: &mut V,
@@ -62,8 +64,8 @@ fn put_read<V: Shelf>(
     }
 }
 
-/// The reply to a Commit of a version that has this entry: the entry's recipe is read back by one device call and compared. Of an
-/// entry whose length no recipe may have nothing is read. Failed comes only where the cloud's count of faults rose.
+/// The reply to a Commit of a version that has this entry: the entry's recipe is read back and compared. Of an entry whose length no
+/// recipe may have nothing is found. Failed comes only where the cloud's count of faults rose.
 pub(crate) fn put_stored<V: Shelf>(
     log: &mut CommandLog,
     shelf: &mut V,
@@ -76,6 +78,8 @@ pub(crate) fn put_stored<V: Shelf>(
     requires { 1180190 ≤ length buffer.old }
     ensures stored { IsTrue (V.cloud_at shelf.old cloud.0).told
         → OnOk result (IsReply reply.new (stored_reply ((V.cloud_at shelf.old cloud.0).now log.old.recipes.area).read entry.now recipe.now)) }
+    ensures unfit { (entry.now.len < 1) ⊎ (1180190 < entry.now.len)
+        → OnOk result (IsReply reply.new (replies.Rotten entry.now.fp (fingerprint []))) }
     ensures some { OnOk result (Replies reply.new (IsOfEntry entry.now)) }
     ensures log { log.new ≡ log.old }
     ensures stays { Stays (V.cloud_at shelf.old cloud.0) (V.cloud_at shelf.new cloud.0) }

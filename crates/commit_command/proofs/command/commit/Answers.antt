@@ -1,4 +1,5 @@
 use Rattle.std.proofs.Common.{◌≡◌, ℕ, ◌∙◌, List, Some, None, refl, sym, subst}
+use Rattle.file_index.specs.Files.{key_of}
 use Rattle.messages.specs.declared.request.Request.TheVariants as requests
 use Rattle.messages.specs.declared.reply.Reply.TheVariants as replies
 use Rattle.messages.specs.Replies.{IsReply}
@@ -8,7 +9,7 @@ use Rattle.cloud_state.specs.State.{Agrees}
 use Rattle.commit_command.specs.Steps.{Does}
 use Rattle.commit_command.proofs.Outcomes.{ok_result, unmoved}
 use Rattle.commit_command.proofs.Answered.{few_bytes, answered_new, lacking_does, entry_does, lacking_given}
-use Rattle.commit_command.proofs.Contents.{rotten_entry, full_entry}
+use Rattle.commit_command.proofs.Contents.{rotten_entry, full_entry, refused_entry, refused_new, steady_entry, steady_new}
 use Rattle.commit_command.proofs.command.commit.Given.{Over}
 use Rattle.commit_command.proofs.command.commit.Goals as goal
 use Rattle.commit_command.proofs.command.commit.Goals.{After-put_lacking, After-repeat, After-enter}
@@ -36,14 +37,14 @@ pub returns-in-Some-clause-moments : goal.returns-in-Some-clause-moments
 returns-in-Some-clause-moments g c = λ list agrees within. (does_lacking g c list agrees).moments
 
 pub returns-in-Some-clause-lacking : goal.returns-in-Some-clause-lacking
-returns-in-Some-clause-lacking g c = λ shape list place is lacks.
-    let same : Some c.in-Some.place ≡ Some place = sym c.in-Some.is ∙ c.first_foreign.ensures.value shape list is ∙ lacks in
+returns-in-Some-clause-lacking g c = λ place lacks.
+    let same : Some c.in-Some.place ≡ Some place = sym c.in-Some.is ∙ c.first_foreign.ensures.kept ∙ lacks in
     let place_is : c.in-Some.place ≡ place = cc in
     (refl, refl, subst (λ p. IsReply c.put_lacking.new.reply (replies.Lacking p)) place_is c.put_lacking.ensures)
 
 pub returns-in-Some-clause-stored : goal.returns-in-Some-clause-stored
-returns-in-Some-clause-stored g c = λ told shape list entry is owned at.
-    absurd (let no : Some c.in-Some.place ≡ None = sym c.in-Some.is ∙ c.first_foreign.ensures.value shape list is ∙ owned in cc)
+returns-in-Some-clause-stored g c = λ told entry owned at.
+    absurd (let no : Some c.in-Some.place ≡ None = sym c.in-Some.is ∙ c.first_foreign.ensures.kept ∙ owned in cc)
 
 pub returns-in-Some-clause-kind : goal.returns-in-Some-clause-kind
 returns-in-Some-clause-kind g c =
@@ -51,6 +52,12 @@ returns-in-Some-clause-kind g c =
 
 pub returns-in-Some-clause-full : goal.returns-in-Some-clause-full
 returns-in-Some-clause-full g c = λ room used need limit full. (refl, refl)
+
+pub returns-in-Some-clause-steady : goal.returns-in-Some-clause-steady
+returns-in-Some-clause-steady g c = λ named found rotten. (record { armed = refl; past = refl; now = refl }, refl)
+
+pub returns-in-Some-clause-refused : goal.returns-in-Some-clause-refused
+returns-in-Some-clause-refused g c = λ place lacking. (refl, refl)
 
 -- ---- the version has an entry
 
@@ -75,8 +82,14 @@ pub returns-in-Some-entry-clause-moments : goal.returns-in-Some-entry-clause-mom
 returns-in-Some-entry-clause-moments g c = λ list agrees within. (does_entry g c list agrees).moments
 
 pub returns-in-Some-entry-clause-lacking : goal.returns-in-Some-entry-clause-lacking
-returns-in-Some-entry-clause-lacking g c = λ shape list place is lacks.
-    absurd (let no : None ≡ Some place = sym c.in-None.is ∙ c.first_foreign.ensures.value shape list is ∙ lacks in cc)
+returns-in-Some-entry-clause-lacking g c = λ place lacks.
+    absurd (let no : None ≡ Some place = sym c.in-None.is ∙ c.first_foreign.ensures.kept ∙ lacks in cc)
+
+pub returns-in-Some-entry-clause-steady : goal.returns-in-Some-entry-clause-steady
+returns-in-Some-entry-clause-steady g c = λ named found. steady_entry c.repeat.result _ _ (c.repeat.ensures.stays.cloud, c.repeat.ensures.stays.index)
+
+pub returns-in-Some-entry-clause-refused : goal.returns-in-Some-entry-clause-refused
+returns-in-Some-entry-clause-refused g c = λ place. refused_entry c.repeat.result _ c.in-Some-entry.entry c.repeat.new.reply place c.repeat.ensures.some
 
 pub returns-in-Some-entry-clause-full : goal.returns-in-Some-entry-clause-full
 returns-in-Some-entry-clause-full g c = λ room used need limit. full_entry c.repeat.result _ c.in-Some-entry.entry c.repeat.new.reply room used need limit c.repeat.ensures.some
@@ -84,8 +97,8 @@ returns-in-Some-entry-clause-full g c = λ room used need limit. full_entry c.re
 pub returns-in-Some-entry-clause-rotten : goal.returns-in-Some-entry-clause-rotten
 returns-in-Some-entry-clause-rotten g c = λ named found.
     let state = c.args.state.now in
-    rotten_entry c.repeat.result (g.V.Shelf.cloud_at c.args.shelf.now state.header.cloud.0) state.index c.args.user c.args.tag.now c.args.version c.in-Some-entry.entry c.bytes.result.now c.repeat.new.reply named found
-    (λ shape list is. sym (c.entry.ensures.meaning shape list is) ∙ c.in-Some-entry.is) c.repeat.ensures.some c.repeat.ensures.stored
+    rotten_entry c.repeat.result (g.V.Shelf.cloud_at c.args.shelf.now state.header.cloud.0) state.index (key_of c.args.user.0 c.args.tag.now.0 c.args.version.0) c.in-Some-entry.entry
+    c.bytes.result.now c.repeat.new.reply named found (sym c.entry.ensures.kept ∙ c.in-Some-entry.is) c.repeat.ensures.some c.repeat.ensures.stored c.repeat.ensures.unfit
 
 -- ---- the version has none
 
@@ -113,5 +126,11 @@ pub returns-in-None-entry-clause-stays : goal.returns-in-None-entry-clause-stays
 returns-in-None-entry-clause-stays g c = λ list agrees within. (does_new g c list agrees).stays
 
 pub returns-in-None-entry-clause-lacking : goal.returns-in-None-entry-clause-lacking
-returns-in-None-entry-clause-lacking g c = λ shape list place is lacks.
-    absurd (let no : None ≡ Some place = sym c.in-None.is ∙ c.first_foreign.ensures.value shape list is ∙ lacks in cc)
+returns-in-None-entry-clause-lacking g c = λ place lacks.
+    absurd (let no : None ≡ Some place = sym c.in-None.is ∙ c.first_foreign.ensures.kept ∙ lacks in cc)
+
+pub returns-in-None-entry-clause-steady : goal.returns-in-None-entry-clause-steady
+returns-in-None-entry-clause-steady g c = λ named found. steady_new c.enter.result _ c.enter.new.reply named found c.enter.ensures.some
+
+pub returns-in-None-entry-clause-refused : goal.returns-in-None-entry-clause-refused
+returns-in-None-entry-clause-refused g c = λ place. refused_new c.enter.result _ c.enter.new.reply place c.enter.ensures.some
