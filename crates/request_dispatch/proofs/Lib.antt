@@ -1,3 +1,4 @@
 pub mod Places
 pub mod Rotting
+pub mod Leaving
 pub mod Still

@@ -30,7 +30,9 @@ use Rattle.read_replies.specs.Allowed.{Replies, IsPlain}
 use Rattle.read_replies.specs.Keeping.{Keeps}
 use Rattle.request_dispatch.specs.Asking.{IsFound}
 use Rattle.request_dispatch.specs.Executing.{Executes}
+use Rattle.request_dispatch.specs.Leaving.{LeavesAll}
 use Rattle.request_dispatch.specs.Reading.{after_reading, OnlyReads}
+use Rattle.request_dispatch.proofs.Leaving.{read_found}
 
 -- what server and cloud agree on is kept
 pub kept : (state : CloudState) (cloud : Cloud) (list : List Command) → Agrees state cloud list → Keeps (reads cloud.now) state.header list state.index
@@ -42,7 +44,7 @@ pub gives_plain : {T E : Type 0} (r : Result T E) (shape : Shape) (request : Req
 gives_plain (Err e) shape request content P s plain = tt
 gives_plain (Ok x) shape request content P s plain =
     let p = plain s.reply s.said in
-    record { reply = s.reply; is = s.is; given = record { kind = p.kind (items_of shape request); memory = p.memory; fault = p.fault } }
+    record { reply = s.reply; is = s.is; given = record { kind = p.kind (items_of shape request); memory = p.memory; fault = p.fault; damaged = p.damaged } }
 
 -- ---- the state
 
@@ -114,9 +116,16 @@ module _ (old new : CloudState) (c0 c1 : Cloud) (request : Request) (content : L
   moments_still (Err e) = tt
   moments_still (Ok x) = subst (λ (more : Option Command). moment c1 ≡ moment c0 + moments_of list more) (sym adds) (omega (arith, ap length stays.past))
 
+-- ---- the memory
+
+kept_all : {T E : Type 0} (r : Result T E) (P Same : Type 0) (old new : CloudState) → OnlyReads old new r → OnOk r (P → Same)
+    → OnOk r (P → Same × (new.index ≡ old.index) × (new.log ≡ old.log))
+kept_all (Err e) P Same old new o f = tt
+kept_all (Ok x) P Same old new o f = λ p. (f p, o.index, o.log)
+
 -- ---- all of it
 
-pub was_read : {T E : Type 0} (r : Result T E) (old new : CloudState) (before after : ℕ → Cloud) (faults_before faults_after : ℕ) (request : Request) (content : List ℕ)
+pub was_read : {T E : Type 0} (r : Result T E) (Same : Type 0) (old new : CloudState) (before after : ℕ → Cloud) (faults_before faults_after : ℕ) (request : Request) (content : List ℕ)
     → IsSettled old → IsOpen old → OnlyReads old new r → Stays (before old.header.cloud.0) (after old.header.cloud.0)
     → IsCall before after old.header.cloud.0 faults_before faults_after
     → OnErr r (HasFailed (before old.header.cloud.0) (after old.header.cloud.0) faults_before faults_after)
@@ -125,8 +134,9 @@ pub was_read : {T E : Type 0} (r : Result T E) (old new : CloudState) (before af
     → ((list : List Command) → (serves old list request).adds ≡ None)
     → ((named found : Fp) → OnOk r (IsReply content (replies.Rotten named found) → IsFound (before old.header.cloud.0) old.index request named found))
     → OnOk r (Gives old.header.shape request content)
-    → Executes old new before after faults_before faults_after request content r
-was_read r old new before after faults_before faults_after request content settled is_open o stays call failed counts value adds rotten kind =
+    → ((answer : Reply) → LeavesAll request answer → OnOk r (IsReply content answer → Same))
+    → Executes Same old new before after faults_before faults_after request content r
+was_read r Same old new before after faults_before faults_after request content settled is_open o stays call failed counts value adds rotten kind quiet =
     let c0 = before old.header.cloud.0 in
     let c1 = after old.header.cloud.0 in
     record {
@@ -139,6 +149,8 @@ was_read r old new before after faults_before faults_after request content settl
       moments = λ list agrees within. moments_still old new c0 c1 request content stays call.told list agrees (adds list) r;
       stays = λ list agrees within none. (stays, o.index);
       rotten = rotten;
+      found = λ named found. read_found r (IsReply content (replies.Rotten named found)) c0 c1 old.index new.index request named found stays call.told o.index (rotten named found);
+      untouched = λ answer leaves. kept_all r (IsReply content answer) Same old new o (quiet answer leaves);
       kind = kind;
       call = call;
       failed = failed;
@@ -172,5 +184,5 @@ greets header content written is = record {
     );
     spelled = is;
   };
-  given = record { kind = tt; memory = λ e. cc; fault = λ e. cc };
+  given = record { kind = tt; memory = λ e. cc; fault = λ e. cc; damaged = λ at byte e. cc };
 }

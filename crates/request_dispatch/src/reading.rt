@@ -8,7 +8,8 @@ ghost use Rattle.commit_journal.specs.declared.header.Header.{Header};
 ghost use Rattle.file_index.specs.Files.{key_of};
 ghost use Rattle.message_fields.specs.Fingerprints.{IsBatch};
 ghost use Rattle.messages.specs.declared.request.Request.TheVariants as requests;
-ghost use Rattle.messages.specs.Replies.{reply_bytes};
+ghost use Rattle.messages.specs.declared.reply.Reply.TheVariants as replies;
+ghost use Rattle.messages.specs.Replies.{reply_bytes, IsReply};
 ghost use Rattle.user_dedup.specs.declared.command.Command.{Command};
 ghost use Rattle.user_dedup.specs.Dedup.{answer_over};
 ghost use Rattle.cloud_state.specs.State.{IsSettled, IsOpen};
@@ -58,6 +59,7 @@ fn shares_by<V: Shelf>(
         → Keeps (reads (V.cloud_at shelf.old cloud.0).now) header list index.now
         → OnOk result (reply.new ≡ reply_bytes (answer_over header.shape header.cloud.0 list (requests.GetShares user fps.now)).reply) }
     ensures kind { OnOk result (Replies reply.new (SharesReply fps.now (IsFoundShare (V.cloud_at shelf.old cloud.0) index.now))) }
+    ensures untouched { (place : ℕ) → OnOk result (IsReply reply.new (replies.NotYours place) → shelf.new ≡ shelf.old) }
     ensures log { log.new ≡ after_reading log.old result }
     ensures stays { Stays (V.cloud_at shelf.old cloud.0) (V.cloud_at shelf.new cloud.0) }
     ensures call { IsCall (V.cloud_at shelf.old) (V.cloud_at shelf.new) cloud.0 (V.faults shelf.old) (V.faults shelf.new) }
@@ -96,6 +98,7 @@ fn recipe_by<V: Shelf>(
         → OnOk result (reply.new ≡ reply_bytes (answer_over header.shape header.cloud.0 list (requests.GetRecipe user tag.now version)).reply) }
     ensures kind { OnOk result (Replies reply.new (RecipeReply (IsNamed index.now (key_of user.0 tag.now.0 version.0)) (HasNone index.now (key_of user.0 tag.now.0 version.0))
         (IsFoundRecipe (V.cloud_at shelf.old cloud.0) index.now (key_of user.0 tag.now.0 version.0)))) }
+    ensures untouched { OnOk result (IsReply reply.new replies.Missing → shelf.new ≡ shelf.old) }
     ensures log { log.new ≡ after_reading log.old result }
     ensures stays { Stays (V.cloud_at shelf.old cloud.0) (V.cloud_at shelf.new cloud.0) }
     ensures call { IsCall (V.cloud_at shelf.old) (V.cloud_at shelf.new) cloud.0 (V.faults shelf.old) (V.faults shelf.new) }
@@ -127,7 +130,8 @@ pub(crate) fn send_shares<V: Shelf>(
     requires settled { IsSettled state.old }
     requires open { IsOpen state.old }
     requires batch { IsBatch fps.now }
-    ensures { Executes state.old state.new (V.cloud_at shelf.old) (V.cloud_at shelf.new) (V.faults shelf.old) (V.faults shelf.new) (requests.GetShares user fps.now) reply.new result }
+    ensures { Executes (shelf.new ≡ shelf.old) state.old state.new (V.cloud_at shelf.old) (V.cloud_at shelf.new)
+        (V.faults shelf.old) (V.faults shelf.new) (requests.GetShares user fps.now) reply.new result }
 {
     let cloud = state.header.cloud;
     shares_by(
@@ -153,7 +157,8 @@ pub(crate) fn send_recipe<V: Shelf>(
 ) -> Result<(), Failed>
     requires settled { IsSettled state.old }
     requires open { IsOpen state.old }
-    ensures { Executes state.old state.new (V.cloud_at shelf.old) (V.cloud_at shelf.new) (V.faults shelf.old) (V.faults shelf.new) (requests.GetRecipe user tag.now version) reply.new result }
+    ensures { Executes (shelf.new ≡ shelf.old) state.old state.new (V.cloud_at shelf.old) (V.cloud_at shelf.new)
+        (V.faults shelf.old) (V.faults shelf.new) (requests.GetRecipe user tag.now version) reply.new result }
 {
     let cloud = state.header.cloud;
     recipe_by(

@@ -5,6 +5,7 @@ ghost use Rattle.cd_base.specs.declared.ids.Fp.{Fp};
 ghost use Rattle.cd_edges.specs.Disk.{Cloud, LeavesOnly, moment};
 ghost use Rattle.cd_edges.specs.Shelf.{IsCall, HasFailed, KeepsCounts, Stays};
 ghost use Rattle.commit_journal.specs.declared.journal.Stage.TheVariants.{Shut};
+ghost use Rattle.messages.specs.declared.reply.Reply.{Reply};
 ghost use Rattle.messages.specs.declared.reply.Reply.TheVariants as replies;
 ghost use Rattle.messages.specs.Requests.{FitsRequest};
 ghost use Rattle.messages.specs.Replies.{IsReply};
@@ -14,6 +15,7 @@ ghost use Rattle.cloud_store.specs.Standing.{StandsForSome};
 ghost use Rattle.cloud_state.specs.State.{IsSettled, IsSameServer, IsOpen, Agrees};
 ghost use Rattle.cloud_state.specs.Serving.{serves, Served, IsServedOrNot, moments_of, Gives};
 ghost use Rattle.request_dispatch.specs.Asking.{IsOfShape, request_of, IsForMemory, IsFound};
+ghost use Rattle.request_dispatch.specs.Leaving.{LeavesAll};
 
 use crate::Asked;
 use crate::reading::{send_recipe, send_shares};
@@ -28,9 +30,11 @@ use read_replies::{entries, hello, known};
 /// and its cloud agree, and the list has one command more where the request adds one. Requests that add none leave the areas and
 /// the memory as they were; Hello, Query and List call no device.
 ///
-/// Over a cloud of which nothing is known the reply is still one for the request, and neither Fault nor NoMemory. Failed comes
-/// only where the cloud's count of faults rose; the server is shut then, nothing is known of the content, and the cloud stands
-/// for the list without the command or with it.
+/// Over a cloud of which nothing is known the reply is still one for the request, and neither Fault nor Damaged nor NoMemory. A
+/// reply that says that nothing is stored, entered or read (Stored with 0, Full, Lacking, Missing, NotYours) comes with no call of
+/// a device, and leaves memory and logs as they were; one that says Rotten names what lies there then. Failed comes only where the
+/// cloud's count of faults rose; the server is shut then, nothing is known of the content, and the cloud stands for the list
+/// without the command or with it.
 ///
 /// It asks for a settled and open server, and for a request that `Asked::read` read for its shape. It takes no memory.
 pub fn dispatch<V: Shelf>(
@@ -66,6 +70,11 @@ pub fn dispatch<V: Shelf>(
     // whatever the cloud has
     ensures rotten { (named found : Fp) → OnOk result (IsReply reply.new (replies.Rotten named found)
         → IsFound (V.cloud_at shelf.old state.old.header.cloud.0) state.old.index (request_of asked.now) named found) }
+    ensures found { (named found : Fp) → OnOk result (IsReply reply.new (replies.Rotten named found)
+        → IsFound (V.cloud_at shelf.new state.old.header.cloud.0) state.new.index (request_of asked.now) named found) }
+    ensures untouched { (answer : Reply) → LeavesAll (request_of asked.now) answer
+        → OnOk result (IsReply reply.new answer
+        → (shelf.new ≡ shelf.old) × (state.new.index ≡ state.old.index) × (state.new.log ≡ state.old.log)) }
     ensures kind { OnOk result (Gives state.old.header.shape (request_of asked.now) reply.new) }
 
     // the calls of the device

@@ -9,6 +9,8 @@ use Rattle.messages.specs.Replies.{IsReply}
 use Rattle.cloud_store.specs.Standing.{StandsForSome}
 use Rattle.cloud_state.specs.Serving.{serves, Served, IsServedOrNot, moments_of, Gives}
 use Rattle.request_dispatch.specs.Asking.{IsFound, request_of}
+use Rattle.request_dispatch.specs.Leaving.{LeavesAll}
+use Rattle.request_dispatch.proofs.Leaving.{put_leaves, commit_leaves, commit_found}
 use Rattle.request_dispatch.proofs.Still.{leaves_alone, served_alone, greets}
 use Rattle.request_dispatch.proofs.serving.dispatch.Goals as goal
 
@@ -96,3 +98,49 @@ returns-in-Commit-clause-rotten g c = λ named found.
     let cloud = g.V.Shelf.cloud_at c.args.shelf.now state.header.cloud.0 in
     subst (λ (r : Request). OnOk c.commit.result (IsReply c.commit.new.reply (replies.Rotten named found) → IsFound cloud state.index r named found)) (ap request_of (sym c.in-Commit.is))
     (c.commit.ensures.rotten named found)
+
+pub returns-in-Commit-clause-found : goal.returns-in-Commit-clause-found
+returns-in-Commit-clause-found g c = λ named found.
+    let state = c.args.state.now in
+    let c0 = g.V.Shelf.cloud_at c.args.shelf.now state.header.cloud.0 in
+    let c1 = g.V.Shelf.cloud_at c.commit.new.shelf state.header.cloud.0 in
+    let content = c.commit.new.reply in
+    let new = c.commit.new.state in
+    subst (λ (r : Request). OnOk c.commit.result (IsReply content (replies.Rotten named found) → IsFound c1 new.index r named found)) (ap request_of (sym c.in-Commit.is))
+    (commit_found c.commit.result (IsReply content (replies.Rotten named found)) c0 c1 state.index new.index _ named found c.commit.ensures.call.told
+    (c.commit.ensures.rotten named found) (c.commit.ensures.steady named found))
+
+pub returns-in-GetRecipe-clause-found : goal.returns-in-GetRecipe-clause-found
+returns-in-GetRecipe-clause-found g c = λ named found.
+    let c1 = g.V.Shelf.cloud_at c.send_recipe.new.shelf c.args.state.now.header.cloud.0 in
+    subst (λ (r : Request). OnOk c.send_recipe.result (IsReply c.send_recipe.new.reply (replies.Rotten named found) → IsFound c1 c.send_recipe.new.state.index r named found))
+    (ap request_of (sym c.in-GetRecipe.is)) (c.send_recipe.ensures.found named found)
+
+-- ---- replies that leave all as it was
+
+pub returns-in-Hello-clause-untouched : goal.returns-in-Hello-clause-untouched
+returns-in-Hello-clause-untouched g c = λ answer leaves is. (refl, refl, refl)
+
+pub returns-in-Query-clause-untouched : goal.returns-in-Query-clause-untouched
+returns-in-Query-clause-untouched g c = λ answer leaves is. (refl, refl, refl)
+
+pub returns-in-List-clause-untouched : goal.returns-in-List-clause-untouched
+returns-in-List-clause-untouched g c = λ answer leaves is. (refl, refl, refl)
+
+pub returns-in-Put-clause-untouched : goal.returns-in-Put-clause-untouched
+returns-in-Put-clause-untouched g c = λ answer leaves.
+    put_leaves c.put.result c.put.new.reply (c.put.new.shelf ≡ c.args.shelf.now) c.args.state.now c.put.new.state c.put.ensures.none c.put.ensures.full answer
+    (subst (λ (r : Request). LeavesAll r answer) (ap request_of c.in-Put.is) leaves)
+
+pub returns-in-Commit-clause-untouched : goal.returns-in-Commit-clause-untouched
+returns-in-Commit-clause-untouched g c = λ answer leaves.
+    commit_leaves c.commit.result c.commit.new.reply (c.commit.new.shelf ≡ c.args.shelf.now) c.args.state.now c.commit.new.state c.commit.ensures.refused c.commit.ensures.full answer
+    (subst (λ (r : Request). LeavesAll r answer) (ap request_of c.in-Commit.is) leaves)
+
+pub returns-in-GetRecipe-clause-untouched : goal.returns-in-GetRecipe-clause-untouched
+returns-in-GetRecipe-clause-untouched g c = λ answer leaves.
+    c.send_recipe.ensures.untouched answer (subst (λ (r : Request). LeavesAll r answer) (ap request_of c.in-GetRecipe.is) leaves)
+
+pub returns-in-GetShares-clause-untouched : goal.returns-in-GetShares-clause-untouched
+returns-in-GetShares-clause-untouched g c = λ answer leaves.
+    c.send_shares.ensures.untouched answer (subst (λ (r : Request). LeavesAll r answer) (ap request_of c.in-GetShares.is) leaves)
