@@ -3,3 +3,4 @@ pub mod Peers
 pub mod Openings
 pub mod Executed
 pub mod Bounds
+mod Refusing

@@ -22,15 +22,16 @@ pub struct Server {
 }
 
 impl Server {
-    ghost use Rattle.std.specs.Prelude.{◌≡◌, ◌≢◌, ◌⊎◌, ◌↔◌, ℕ, ◌+◌, ◌<◌, ◌^◌, List, [], length, true, false, IsTrue, IfOk, OnOk, OnErr, Ok, Err};
+    ghost use Rattle.std.specs.Prelude.{◌≡◌, ◌≢◌, ◌⊎◌, ◌↔◌, ℕ, ◌+◌, ◌<◌, ◌^◌, List, [], length, true, false, None, IsTrue, IfOk, OnOk, OnErr, Ok, Err};
     ghost use Rattle.std.specs.List.{Contains};
     ghost use Rattle.cd_base.specs.declared.ids.Fp.{Fp};
     ghost use Rattle.cd_edges.specs.declared.area.Area.TheVariants.{Journal};
     ghost use Rattle.cd_edges.specs.Disk.{moment, reads};
-    ghost use Rattle.cd_edges.specs.Shelf.{IsCall, HasFailed, KeepsCounts};
+    ghost use Rattle.cd_edges.specs.Shelf.{IsCall, HasFailed, KeepsCounts, Stays};
     ghost use Rattle.commit_journal.specs.declared.journal.Stage.TheVariants.{Shut};
     ghost use Rattle.commit_journal.specs.Openings.{OnFault};
     ghost use Rattle.messages.specs.declared.request.Request.{Request};
+    ghost use Rattle.messages.specs.declared.reply.Reply.{Reply};
     ghost use Rattle.messages.specs.declared.reply.Reply.TheVariants as replies;
     ghost use Rattle.messages.specs.Replies.{IsReply, reply_bytes};
     ghost use Rattle.user_dedup.specs.declared.command.Command.{Command};
@@ -42,6 +43,7 @@ impl Server {
     ghost use Rattle.cloud_state.specs.State.{AreRooms, IsOpen, IsSameServer, Agrees};
     ghost use Rattle.cloud_state.specs.Serving.{moments_of};
     ghost use Rattle.request_dispatch.specs.Asking.{IsForMemory, IsFound};
+    ghost use Rattle.request_dispatch.specs.Leaving.{LeavesAll};
     ghost use Rattle.commit_journal.specs.Openings.{HasBegun};
     ghost use Rattle.cloud_opening.specs.Synced.{BeginsSynced};
     ghost use Rattle.cloud_opening.specs.Exact.{Opens};
@@ -149,6 +151,10 @@ impl Server {
     /// On a cloud that stands as a peer the reply is the one that the peer's list gives, and the list has then the command that the request
     /// adds; or it is Fault, where a device failed, and the command may be there or not. A crash at any moment leaves the list, or the list with
     /// that command. After any other reply than Fault the server is open, and what was added is certain. It takes no memory.
+    ///
+    /// A request that adds nothing leaves the cloud's areas and the memory as they were. Stored with 0, Full, Lacking, Missing and NotYours by
+    /// an open server come with no call of a device at all. Rotten names what lies then where the memory has the share or the recipe, and what
+    /// lies there is another or shorter. An open server never answers Damaged.
     pub fn execute<V: Shelf>(&mut self, shelf: &mut V, request: &[u8], reply: &mut ReplyBuf)
         requires { length request.now < 2 ^ 32 }
         ensures same { IsSameServer self.old.state self.new.state }
@@ -167,6 +173,23 @@ impl Server {
             → Answered self.old.state.header.shape r self.new.state (V.cloud_at shelf.old (number_of self.old)) (V.cloud_at shelf.new (number_of self.old)) (V.faults shelf.old) (V.faults shelf.new) reply.new }
         ensures rotten { (r : Request) (named found : Fp) → IsOpen self.old.state → asked_at self.old.state.header.shape request.now ≡ Ok r → IsReply reply.new (replies.Rotten named found)
             → IsFound (V.cloud_at shelf.old (number_of self.old)) self.old.state.index r named found }
+        ensures found { (r : Request) (named found : Fp) → asked_at self.old.state.header.shape request.now ≡ Ok r
+            → IsReply reply.new (replies.Rotten named found)
+            → IsFound (V.cloud_at shelf.new (number_of self.old)) self.new.state.index r named found }
+        ensures undamaged { (r : Request) (at byte : ℕ) → IsOpen self.old.state
+            → asked_at self.old.state.header.shape request.now ≡ Ok r
+            → IsReply reply.new (replies.Damaged at byte) → ⊥ }
+        ensures stays { (list : List Command) (r : Request) → IsOpen self.old.state
+            → Agrees self.old.state (V.cloud_at shelf.old (number_of self.old)) list
+            → IsWithin self.old.state.rooms list → asked_at self.old.state.header.shape request.now ≡ Ok r
+            → (server_serves self.old list r).adds ≡ None
+            → Stays (V.cloud_at shelf.old (number_of self.old)) (V.cloud_at shelf.new (number_of self.old))
+            × (self.new.state.index ≡ self.old.state.index) }
+        ensures untouched { (r : Request) (answer : Reply) → IsOpen self.old.state
+            → asked_at self.old.state.header.shape request.now ≡ Ok r
+            → LeavesAll r answer → IsReply reply.new answer
+            → (shelf.new ≡ shelf.old) × (self.new.state.index ≡ self.old.state.index)
+            × (self.new.state.log ≡ self.old.state.log) }
         ensures no_call { (r : Request) → IsOpen self.old.state → asked_at self.old.state.header.shape request.now ≡ Ok r → IsForMemory r → (shelf.new ≡ shelf.old) × (self.new.state ≡ self.old.state) }
         ensures refusals { (r : Request) → asked_at self.old.state.header.shape request.now ≡ Ok r
             → IsOpen self.new.state ⊎ ((reply.new ≡ reply_bytes replies.Fault) ⊎ Refused self.old.state (V.cloud_at shelf.old (number_of self.old)) (V.cloud_at shelf.new (number_of self.old)) reply.new) }

@@ -1,11 +1,12 @@
 //! A request that was read, from an opening on where the server is closed.
 
-ghost use Rattle.std.specs.Prelude.{◌≡◌, ◌⊎◌, ℕ, ◌+◌, List, IsTrue, OnOk, OnErr, IfErr, Ok};
+ghost use Rattle.std.specs.Prelude.{◌≡◌, ◌⊎◌, ℕ, ◌+◌, List, None, IsTrue, OnOk, OnErr, IfErr, Ok};
 ghost use Rattle.cd_base.specs.declared.ids.Fp.{Fp};
 ghost use Rattle.cd_edges.specs.Disk.{Cloud, moment};
-ghost use Rattle.cd_edges.specs.Shelf.{IsCall, HasFailed, KeepsCounts};
+ghost use Rattle.cd_edges.specs.Shelf.{IsCall, HasFailed, KeepsCounts, Stays};
 ghost use Rattle.commit_journal.specs.declared.journal.Stage.TheVariants.{Shut};
 ghost use Rattle.commit_journal.specs.Openings.{OnFault};
+ghost use Rattle.messages.specs.declared.reply.Reply.{Reply};
 ghost use Rattle.messages.specs.declared.reply.Reply.TheVariants as replies;
 ghost use Rattle.messages.specs.Replies.{IsReply, reply_bytes};
 ghost use Rattle.messages.specs.Requests.{FitsRequest};
@@ -17,6 +18,7 @@ ghost use Rattle.cloud_store.specs.Standing.{ImagesSince, MayBecome};
 ghost use Rattle.cloud_state.specs.State.{IsOpen, IsSettled, IsSameServer, Agrees};
 ghost use Rattle.cloud_state.specs.Serving.{serves, moments_of};
 ghost use Rattle.request_dispatch.specs.Asking.{request_of, IsOfShape, IsForMemory, IsFound};
+ghost use Rattle.request_dispatch.specs.Leaving.{LeavesAll};
 ghost use Rattle.share_server.specs.Refusals.{MayCome};
 ghost use Rattle.share_server.specs.Serving.{Executes, Answered, IsUnopened, Refused, CanOpen};
 ghost use Rattle.share_server.specs.Steps.{ServesAs, OpensAs, Does, AreNumbered};
@@ -57,6 +59,16 @@ fn serve<V: Shelf>(state: &mut CloudState, shelf: &mut V, asked: &Asked<'_>, rep
     ensures answered { Answered state.old.header.shape (request_of asked.now) state.new (V.cloud_at shelf.old state.old.header.cloud.0) (V.cloud_at shelf.new state.old.header.cloud.0) (V.faults shelf.old) (V.faults shelf.new) reply.new }
     ensures open { IsOpen state.new ⊎ (reply.new ≡ reply_bytes replies.Fault) }
     ensures rotten { (named found : Fp) → IsReply reply.new (replies.Rotten named found) → IsFound (V.cloud_at shelf.old state.old.header.cloud.0) state.old.index (request_of asked.now) named found }
+    ensures found { (named found : Fp) → IsReply reply.new (replies.Rotten named found)
+        → IsFound (V.cloud_at shelf.new state.old.header.cloud.0) state.new.index (request_of asked.now) named found }
+    ensures undamaged { (at byte : ℕ) → IsReply reply.new (replies.Damaged at byte) → ⊥ }
+    ensures stays { (list : List Command) → Agrees state.old (V.cloud_at shelf.old state.old.header.cloud.0) list
+        → IsWithin state.old.rooms list
+        → (serves state.old list (request_of asked.now)).adds ≡ None
+        → Stays (V.cloud_at shelf.old state.old.header.cloud.0) (V.cloud_at shelf.new state.old.header.cloud.0)
+        × (state.new.index ≡ state.old.index) }
+    ensures untouched { (answer : Reply) → LeavesAll (request_of asked.now) answer → IsReply reply.new answer
+        → (shelf.new ≡ shelf.old) × (state.new.index ≡ state.old.index) × (state.new.log ≡ state.old.log) }
     ensures no_call { IsForMemory (request_of asked.now) → (shelf.new ≡ shelf.old) × (state.new ≡ state.old) }
     ensures call { IsCall (V.cloud_at shelf.old) (V.cloud_at shelf.new) state.old.header.cloud.0 (V.faults shelf.old) (V.faults shelf.new) }
 {
@@ -117,6 +129,17 @@ pub(crate) fn answer<V: Shelf>(
     ensures answered { Answered state.old.header.shape (request_of asked.now) state.new (V.cloud_at shelf.old state.old.header.cloud.0) (V.cloud_at shelf.new state.old.header.cloud.0) (V.faults shelf.old) (V.faults shelf.new) reply.new }
     ensures rotten { (named found : Fp) → IsOpen state.old → IsReply reply.new (replies.Rotten named found)
         → IsFound (V.cloud_at shelf.old state.old.header.cloud.0) state.old.index (request_of asked.now) named found }
+    ensures found { (named found : Fp) → IsReply reply.new (replies.Rotten named found)
+        → IsFound (V.cloud_at shelf.new state.old.header.cloud.0) state.new.index (request_of asked.now) named found }
+    ensures undamaged { (at byte : ℕ) → IsOpen state.old → IsReply reply.new (replies.Damaged at byte) → ⊥ }
+    ensures stays { (list : List Command) → IsOpen state.old
+        → Agrees state.old (V.cloud_at shelf.old state.old.header.cloud.0) list → IsWithin state.old.rooms list
+        → (serves state.old list (request_of asked.now)).adds ≡ None
+        → Stays (V.cloud_at shelf.old state.old.header.cloud.0) (V.cloud_at shelf.new state.old.header.cloud.0)
+        × (state.new.index ≡ state.old.index) }
+    ensures untouched { (answer : Reply) → IsOpen state.old → LeavesAll (request_of asked.now) answer
+        → IsReply reply.new answer
+        → (shelf.new ≡ shelf.old) × (state.new.index ≡ state.old.index) × (state.new.log ≡ state.old.log) }
     ensures no_call { IsOpen state.old → IsForMemory (request_of asked.now) → (shelf.new ≡ shelf.old) × (state.new ≡ state.old) }
     ensures refusals { IsOpen state.new ⊎ ((reply.new ≡ reply_bytes replies.Fault) ⊎ Refused state.old (V.cloud_at shelf.old state.old.header.cloud.0) (V.cloud_at shelf.new state.old.header.cloud.0) reply.new) }
     ensures closed { IsTrue (V.cloud_at shelf.old state.old.header.cloud.0).told → ¬ IsOpen state.old

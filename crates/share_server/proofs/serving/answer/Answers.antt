@@ -1,11 +1,17 @@
-use Rattle.std.proofs.Common.{subst}
+use Rattle.std.proofs.Common.{◌≡◌, ℕ, None, ap, ◌∙◌, subst}
+use Rattle.cd_edges.specs.Disk.{Cloud}
+use Rattle.cd_edges.specs.Shelf.{Stays}
 use Rattle.commit_journal.specs.declared.header.Header.{Header}
 use Rattle.user_dedup.specs.Exec.{Peer}
+use Rattle.cloud_state.specs.declared.state.CloudState.{CloudState}
+use Rattle.cloud_state.specs.State.{Agrees}
 use Rattle.cloud_state.specs.Serving.{serves}
+use Rattle.cloud_store.specs.Space.{IsWithin}
 use Rattle.cloud_store.specs.Standing.{ImagesSince, MayBecome}
-use Rattle.request_dispatch.specs.Asking.{request_of}
+use Rattle.request_dispatch.specs.Asking.{request_of, IsFound}
 use Rattle.share_server.specs.Steps.{ServesAs, Does}
 use Rattle.share_server.proofs.Executed.{opened_executes, opened_images, shut_images, refused_executes}
+use Rattle.share_server.proofs.Refusing.{not_rotten}
 use Rattle.share_server.proofs.serving.answer.Goals as goal
 
 pub returns-in-Ok-clause-exec : goal.returns-in-Ok-clause-exec
@@ -39,3 +45,25 @@ returns-in-Err-clause-images g c p told serving =
     let old = c.args.state.now in let number = old.header.cloud.0 in
     let at = g.V.Shelf.cloud_at in
     shut_images (at c.args.shelf.now number) (at c.ensure_open.new.shelf number) old.header (serves old) p (request_of c.args.asked.now) (c.ensure_open.ensures.images p told serving)
+
+pub returns-in-Ok-clause-found : goal.returns-in-Ok-clause-found
+returns-in-Ok-clause-found g c named found rotten =
+    let after = c.serve.new.shelf in let new = c.serve.new.state in let r = request_of c.args.asked.now in
+    subst (λ (h : Header). IsFound (g.V.Shelf.cloud_at after h.cloud.0) new.index r named found) c.in-Ok.ensures.same.header (c.serve.ensures.found named found rotten)
+
+pub returns-in-Err-clause-found : goal.returns-in-Err-clause-found
+returns-in-Err-clause-found g c named found rotten = absurd (not_rotten c.in-Err.error c.put_refusal.new.reply named found c.put_refusal.ensures rotten)
+
+pub returns-in-Ok-clause-untouched : goal.returns-in-Ok-clause-untouched
+returns-in-Ok-clause-untouched g c answer is_open leaves is =
+    let alone = c.ensure_open.ensures.alone is_open in
+    let u = c.serve.ensures.untouched answer leaves is in
+    (u.0 ∙ alone.2, u.1 ∙ ap (λ (s : CloudState). s.index) alone.1, u.2 ∙ ap (λ (s : CloudState). s.log) alone.1)
+
+pub returns-in-Ok-clause-stays : goal.returns-in-Ok-clause-stays
+returns-in-Ok-clause-stays g c list is_open agrees within none =
+    let alone = c.ensure_open.ensures.alone is_open in
+    let old = c.args.state.now in let at = g.V.Shelf.cloud_at in let new = c.serve.new.state in let after = c.serve.new.shelf in let r = request_of c.args.asked.now in
+    let Q : CloudState → (ℕ → Cloud) → Type 0 = λ s k. Agrees s (k s.header.cloud.0) list → IsWithin s.rooms list → (serves s list r).adds ≡ None
+    → Stays (k s.header.cloud.0) (at after s.header.cloud.0) × (new.index ≡ s.index) in
+    subst (Q old) (ap at alone.2) (subst (λ (s : CloudState). Q s (at c.ensure_open.new.shelf)) alone.1 (c.serve.ensures.stays list)) agrees within none

@@ -2,6 +2,7 @@ use Rattle.std.proofs.Common.{arith}
 use Rattle.request_dispatch.specs.Asking.{request_of}
 use Rattle.share_server.proofs.Bounds.{reply_fits}
 use Rattle.share_server.proofs.Executed.{served_does, cut_does, served_images}
+use Rattle.share_server.proofs.Refusing.{not_damaged, fault_not_damaged, fault_not_rotten, fault_leaves}
 use Rattle.share_server.proofs.serving.serve.Goals as goal
 
 pub returns-in-Ok-clause-does : goal.returns-in-Ok-clause-does
@@ -35,3 +36,17 @@ returns-in-Err-clause-images g c p serving =
     let c0 = g.V.Shelf.cloud_at c.args.shelf.now number in let c1 = g.V.Shelf.cloud_at c.dispatch.new.shelf number in
     let ready = serving.ready c.requires.«open» in
     served_images old c0 c1 p (request_of c.args.asked.now) (d.any_moment p.list ready.1 ready.0.within)
+
+pub returns-in-Ok-clause-undamaged : goal.returns-in-Ok-clause-undamaged
+returns-in-Ok-clause-undamaged g c at byte damaged =
+    let kind = c.in-Ok.ensures.kind in
+    not_damaged c.dispatch.new.reply kind.reply at byte kind.given.damaged kind.is.spelled damaged.spelled
+
+pub returns-in-Err-clause-undamaged : goal.returns-in-Err-clause-undamaged
+returns-in-Err-clause-undamaged g c at byte damaged = fault_not_damaged c.put_fault.new.reply at byte c.put_fault.ensures.is damaged
+
+pub returns-in-Err-clause-found : goal.returns-in-Err-clause-found
+returns-in-Err-clause-found g c named found rotten = absurd (fault_not_rotten c.put_fault.new.reply named found c.put_fault.ensures.is rotten)
+
+pub returns-in-Err-clause-untouched : goal.returns-in-Err-clause-untouched
+returns-in-Err-clause-untouched g c answer leaves is = absurd (fault_leaves c.put_fault.new.reply (request_of c.args.asked.now) answer leaves c.put_fault.ensures.is is)
