@@ -36,8 +36,8 @@ use Rattle.local_link.specs.declared.link.LocalLink.{LocalLink}
 use Rattle.local_link.specs.Members.{IsServerOf}
 use Rattle.local_link.specs.Tells.{server_at, IsPeer, LeavesRest}
 use Rattle.local_link.specs.Steps.{Puts, IsClosedIn, Closes, Reopens}
-use Rattle.local_link.specs.Calls.{Replaces, Armed, WasBefore, no_commands, header_of}
-use Rattle.local_link.proofs.Standing.{server_of_put, here_now, there_now, said_of, known_of, closed_serves, header_same, counted, areas_serve}
+use Rattle.local_link.specs.Calls.{Replaces, Armed, WasBefore, no_commands, header_of, MayServe}
+use Rattle.local_link.proofs.Standing.{server_of_put, here_now, there_now, said_of, known_of, closed_serves, closed_stands, header_same, counted, areas_serve}
 
 -- ---- other rooms
 
@@ -67,6 +67,19 @@ pub rooms_stand_on : {E : Type 0} (r : Result (Unit {0}) E) (old new : Servers) 
     → IsPeer old.shape cloud c (server_at old cloud) p → ((list : List Command) → MaySettleAs p list → IsWithin rooms list) → OnOk r (IsPeer new.shape cloud c (server_at new cloud) p)
 rooms_stand_on (Ok u) old new cloud rooms c p lt put is within = rooms_stand old new cloud put.0 put.1 rooms put.2 lt put.3 c p within is
 rooms_stand_on (Err e) old new cloud rooms c p lt put is within = tt
+
+pub rooms_serve : {E : Type 0} (r : Result (Unit {0}) E) (old new : Servers) (cloud : ℕ) (rooms : Rooms) (c : Cloud) (p : Peer) → cloud < old.shape.n
+    → OnOk r ((before : Server) × (after : Server) × Puts old new cloud before after × IsClosedIn rooms after)
+    → MayServe old.shape cloud rooms c p → OnOk r (IsPeer new.shape cloud c (server_at new cloud) p)
+rooms_serve (Err e) old new cloud rooms c p lt put may = tt
+rooms_serve (Ok u) old new cloud rooms c p lt put may =
+    closed_stands new cloud rooms c p (subst (λ (s : Shape). cloud < s.n) (sym put.2.shape) lt) closed (subst (λ (s : Shape). MayServe s cloud rooms c p) (sym put.2.shape) may)
+  where
+    closed : (server : Server) → server_at new cloud ≡ Some server → IsClosedIn rooms server
+    closed server is =
+        let e : Some put.1 ≡ Some server = sym (here_now old new cloud put.0 put.1 put.2 lt) ∙ is in
+        let same : put.1 ≡ server = cc in
+        subst (IsClosedIn rooms) same put.3
 
 pub rooms_rest : {E : Type 0} {V : Type 0} (r : Result (Unit {0}) E) (clouds : V → ℕ → Cloud) (cloud : ℕ) (rooms : Rooms) (old new : LocalLink V) → new.shelf.now ≡ old.shelf.now
     → OnOk r ((before : Server) × (after : Server) × Puts old.servers new.servers cloud before after × IsClosedIn rooms after) → OnErr r (new.servers ≡ old.servers) → LeavesRest clouds cloud old new

@@ -2,6 +2,7 @@
 use Rattle.std.proofs.Common.{◌≡◌, ◌⊎◌, ℕ, ◌<◌, ◌≤◌, Bool, true, false, List, length, Option, Some, None, Ok, Err, refl, sym, ap, ◌∙◌, subst, arith, inl}
 use Rattle.std.specs.Prelude.{IsTrue, IsSomeAnd}
 use Rattle.cd_base.specs.Reading.{AreBytes}
+use Rattle.cd_base.specs.declared.ids.Fp.{Fp}
 use Rattle.cd_base.specs.declared.shape.Shape.{Shape}
 use Rattle.cd_edges.specs.Causes.{Rose}
 use Rattle.cd_edges.specs.Disk.{Cloud}
@@ -19,6 +20,7 @@ use Rattle.user_dedup.proofs.Asked.{asked_law}
 use Rattle.user_dedup.proofs.Execs.{keeps_sound}
 use Rattle.cloud_store.specs.Space.{full_for}
 use Rattle.cloud_store.specs.Standing.{StandsForSome, ImagesSince, MayBecome}
+use Rattle.request_dispatch.specs.Asking.{IsFound}
 use Rattle.share_server.specs.declared.server.Server.{Server}
 use Rattle.cloud_state.specs.State.{IsOpen}
 use Rattle.share_server.specs.Serving.{number_of, IsServing, server_serves, CanOpen, Refused}
@@ -26,7 +28,7 @@ use Rattle.local_link.specs.declared.servers.Servers.{Servers}
 use Rattle.local_link.specs.declared.link.LocalLink.{LocalLink}
 use Rattle.local_link.specs.Members.{IsServerOf}
 use Rattle.local_link.specs.Tells.{server_at, full_by, IsPeer}
-use Rattle.local_link.specs.Steps.{Puts, Executed, Replied, Executes}
+use Rattle.local_link.specs.Steps.{Puts, Executed, Replied, RepliesOpen, Executes}
 use Rattle.local_link.proofs.Standing.{server_of_put, here_now, said_of, known_of, peer_moves}
 use Rattle.local_link.proofs.Malformed.{place_fits}
 
@@ -74,6 +76,22 @@ module _ (old_servers new_servers : Servers) (cloud : ℕ) (before after : Serve
       let at_cloud : P cloud old_servers.shape = subst (λ (n : ℕ). P n old_servers.shape) of.number_is at_shape in
       said_of (server_at old_servers cloud) before (λ (s : Server). ¬ IsOpen s.state → CanOpen s.state (old cloud) ⊎ Refused s.state (old cloud) (new cloud) reply) put.here
       (λ shut. at_cloud told shut asked)
+
+  pub opened_here : (r : Request) → asked_at old_servers.shape content ≡ Ok r
+      → IsSomeAnd (server_at old_servers cloud) (λ (s : Server). IsOpen s.state → RepliesOpen old new faults_before faults_now r reply)
+  opened_here r asked =
+      said_of (server_at old_servers cloud) before (λ (s : Server). IsOpen s.state → RepliesOpen old new faults_before faults_now r reply) put.here
+      (λ is_open. subst (λ (s : Shape). asked_at s content ≡ Ok r → RepliesOpen old new faults_before faults_now r reply) of.shape_is (x.opened r is_open) asked)
+
+  pub found_here : (r : Request) → asked_at old_servers.shape content ≡ Ok r
+      → IsSomeAnd (server_at new_servers cloud) (λ (s : Server). (named what : Fp) → IsReply reply (replies.Rotten named what) → IsFound (new cloud) s.state.index r named what)
+  found_here r asked =
+      said_of (server_at new_servers cloud) after (λ (s : Server). (named what : Fp) → IsReply reply (replies.Rotten named what) → IsFound (new cloud) s.state.index r named what) here
+      (λ named what rotten.
+      let P : ℕ → Shape → Type 0 = λ n s. asked_at s content ≡ Ok r → IsReply reply (replies.Rotten named what) → IsFound (new n) after.state.index r named what in
+      let at_shape : P (number_of before) old_servers.shape = subst (P (number_of before)) of.shape_is (x.found r named what) in
+      let at_cloud : P cloud old_servers.shape = subst (λ (n : ℕ). P n old_servers.shape) of.number_is at_shape in
+      at_cloud asked rotten)
 
   told_goes : (p : Peer) (r : Request) → AreBytes content → (old cloud).told ≡ true → IsPeer old_servers.shape cloud (old cloud) (server_at old_servers cloud) p → asked_at old_servers.shape content ≡ Ok r
       → GoesOn old_servers new_servers cloud (old cloud) (new cloud) p r reply
@@ -218,6 +236,18 @@ pub closed_counted : {V : Type 0} (clouds : V → ℕ → Cloud) (a b : LocalLin
     → IsSomeAnd server (λ (s : Server). ¬ IsOpen s.state → CanOpen s.state old ⊎ Refused s.state old (clouds b.shelf.now cloud) reply)
 closed_counted {V} clouds a b cloud server old reply e is =
     subst (λ (l : LocalLink V). IsSomeAnd server (λ (s : Server). ¬ IsOpen s.state → CanOpen s.state old ⊎ Refused s.state old (clouds l.shelf.now cloud) reply)) (sym e) is
+
+pub opened_counted : {V : Type 0} (clouds : V → ℕ → Cloud) (faults : V → ℕ) (a b : LocalLink V) (server : Option Server) (old : ℕ → Cloud) (before : ℕ) (r : Request) (reply : List ℕ) → b ≡ a
+    → IsSomeAnd server (λ (s : Server). IsOpen s.state → RepliesOpen old (clouds a.shelf.now) before (faults a.shelf.now) r reply)
+    → IsSomeAnd server (λ (s : Server). IsOpen s.state → RepliesOpen old (clouds b.shelf.now) before (faults b.shelf.now) r reply)
+opened_counted {V} clouds faults a b server old before r reply e is =
+    subst (λ (l : LocalLink V). IsSomeAnd server (λ (s : Server). IsOpen s.state → RepliesOpen old (clouds l.shelf.now) before (faults l.shelf.now) r reply)) (sym e) is
+
+pub found_counted : {V : Type 0} (clouds : V → ℕ → Cloud) (a b : LocalLink V) (cloud : ℕ) (r : Request) (reply : List ℕ) → b ≡ a
+    → IsSomeAnd (server_at a.servers cloud) (λ (s : Server). (named what : Fp) → IsReply reply (replies.Rotten named what) → IsFound (clouds a.shelf.now cloud) s.state.index r named what)
+    → IsSomeAnd (server_at b.servers cloud) (λ (s : Server). (named what : Fp) → IsReply reply (replies.Rotten named what) → IsFound (clouds b.shelf.now cloud) s.state.index r named what)
+found_counted {V} clouds a b cloud r reply e is =
+    subst (λ (l : LocalLink V). IsSomeAnd (server_at l.servers cloud) (λ (s : Server). (named what : Fp) → IsReply reply (replies.Rotten named what) → IsFound (clouds l.shelf.now cloud) s.state.index r named what)) (sym e) is
 
 pub total_counted : {V : Type 0} (faults : V → ℕ) (a b : LocalLink V) (before : ℕ) → b ≡ a → faults a.shelf.now ≡ before → faults b.shelf.now ≡ before
 total_counted {V} faults a b before e is = ap (λ (l : LocalLink V). faults l.shelf.now) e ∙ is

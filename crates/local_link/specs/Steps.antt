@@ -1,6 +1,7 @@
 -- What a call does to one of the servers.
 use Rattle.std.specs.Prelude.{◌≡◌, ◌≢◌, ◌⊎◌, ℕ, Bool, true, IsTrue, List, length, Some, Result, Ok, Err, IfOk, OnOk, OnErr, slice_set}
 use Rattle.std.specs.List.{Contains}
+use Rattle.cd_base.specs.declared.ids.Fp.{Fp}
 use Rattle.cd_base.specs.declared.rooms.Rooms.{Rooms}
 use Rattle.cd_base.specs.declared.shape.Shape.{Shape}
 use Rattle.cd_edges.specs.declared.area.Area.TheVariants.{Journal}
@@ -25,6 +26,8 @@ use Rattle.cloud_store.specs.Space.{IsWithin}
 use Rattle.cloud_state.specs.State.{IsOpen, IsSameServer}
 use Rattle.cloud_store.specs.Standing.{ImagesNow, ImagesSince, MayBecome}
 use Rattle.cloud_store.specs.Store.{StandsFor}
+use Rattle.request_dispatch.specs.Asking.{IsFound}
+use Rattle.request_dispatch.specs.Leaving.{LeavesAll}
 use Rattle.share_server.specs.declared.server.Server.{Server}
 use Rattle.share_server.specs.Serving.{number_of, IsServing, server_serves, settled_with, ReopensAs, CanOpen, Refused}
 use Rattle.local_link.specs.declared.servers.Servers.{Servers}
@@ -63,6 +66,13 @@ pub record Replied (shape : Shape) (old new : Cloud) (faults_before faults_after
   pub fault : answer ≡ replies.Fault → HasFailed old new faults_before faults_after
   pub still : answer ≢ replies.Fault → KeepsCounts old new faults_before faults_after
 
+-- What an open server replies: it never says that the journal is damaged; and where it says that it stores, enters or reads nothing, no cloud
+-- was called.
+pub record RepliesOpen (old new : ℕ → Cloud) (faults_before faults_after : ℕ) (request : Request) (reply : List ℕ) : Type 0 where
+  pub undamaged : (at byte : ℕ) → IsReply reply (replies.Damaged at byte) → ⊥
+  pub untouched : (answer : Reply) → LeavesAll request answer → IsReply reply answer → (new ≡ old)
+      × (faults_after ≡ faults_before)
+
 -- A server executed the content, over the clouds of a shelf.
 pub record Executes (before after : Server) (old new : ℕ → Cloud) (faults_before faults_after : ℕ) (content reply : List ℕ) : Type 0 where
   pub same : IsSameServer before.state after.state
@@ -78,6 +88,11 @@ pub record Executes (before after : Server) (old new : ℕ → Cloud) (faults_be
       → Replied before.state.header.shape (old (number_of before)) (new (number_of before)) faults_before faults_after request reply
   pub closed : (request : Request) → IsTrue (old (number_of before)).told → ¬ IsOpen before.state → asked_at before.state.header.shape content ≡ Ok request
       → CanOpen before.state (old (number_of before)) ⊎ Refused before.state (old (number_of before)) (new (number_of before)) reply
+  pub opened : (request : Request) → IsOpen before.state → asked_at before.state.header.shape content ≡ Ok request
+      → RepliesOpen old new faults_before faults_after request reply
+  pub found : (request : Request) (named what : Fp) → asked_at before.state.header.shape content ≡ Ok request
+      → IsReply reply (replies.Rotten named what)
+      → IsFound (new (number_of before)) after.state.index request named what
   pub call : IsCall old new (number_of before) faults_before faults_after
 
 -- A server was opened, over the clouds of a shelf.

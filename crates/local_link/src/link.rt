@@ -1,13 +1,17 @@
 //! The link to all clouds of a shelf.
 
-ghost use Rattle.std.specs.Prelude.{◌≡◌, ◌<◌, ℕ, List, IsTrue};
+ghost use Rattle.std.specs.Prelude.{◌≡◌, ◌<◌, ℕ, List, Some, IsTrue};
 ghost use Rattle.std.specs.List.{Contains};
+ghost use Rattle.cd_edges.specs.Disk.{Cloud};
 ghost use Rattle.user_dedup.specs.Exec.{Peer, MaySettleAs};
+ghost use Rattle.share_server.specs.declared.server.Server.{Server};
+ghost use Rattle.share_server.specs.Serving.{IsServing};
+ghost use Rattle.local_link.specs.declared.servers.Servers.{Servers};
 ghost use Rattle.cloud_store.specs.Standing.{ImagesSince};
 ghost use Rattle.local_link.specs.declared.link.LocalLink.{LocalLink};
 ghost use Rattle.local_link.specs.Calls.{header_of};
 ghost use Rattle.user_dedup.specs.Link.{Exchange, Passes, ReadsFrom};
-ghost use Rattle.local_link.specs.Tells.{telling, StandsAt};
+ghost use Rattle.local_link.specs.Tells.{server_at, telling, StandsAt};
 
 use crate::Fate;
 use crate::servers::Servers;
@@ -38,6 +42,10 @@ impl<'a, V: Shelf> LocalLink<'a, V> {
     ghost use Rattle.commit_journal.specs.declared.journal.Stage.TheVariants.{Shut};
     ghost use Rattle.messages.specs.declared.request.Request.{Request};
     ghost use Rattle.messages.specs.declared.reply.Reply.{Reply};
+    ghost use Rattle.messages.specs.declared.reply.Reply.TheVariants as replies;
+    ghost use Rattle.messages.specs.Replies.{IsReply};
+    ghost use Rattle.cd_base.specs.declared.ids.Fp.{Fp};
+    ghost use Rattle.request_dispatch.specs.Asking.{IsFound};
     ghost use Rattle.user_dedup.specs.declared.command.Command.{Command};
     ghost use Rattle.user_dedup.specs.Requests.{asked_at};
     ghost use Rattle.user_dedup.specs.Exec.{Peer, MaySettleAs, Stays, CountsOn};
@@ -57,7 +65,7 @@ impl<'a, V: Shelf> LocalLink<'a, V> {
     ghost use Rattle.cd_edges.specs.Disk.{reads};
     ghost use Rattle.local_link.specs.declared.fate.Fate.TheVariants.{Deliver, LoseRequest};
     ghost use Rattle.local_link.specs.Tells.{server_at, is_delivered, telling, LeavesRest};
-    ghost use Rattle.local_link.specs.Steps.{IsClosedIn, Replied};
+    ghost use Rattle.local_link.specs.Steps.{IsClosedIn, Replied, RepliesOpen};
     ghost use Rattle.local_link.specs.Calls.{header_of, MayServe, Replaces, Armed, WasBefore, no_commands};
 
     /// A link to the clouds of this shelf, over a closed server for each, all in these rooms. The next ask is delivered, and none was lost.
@@ -146,12 +154,16 @@ impl<'a, V: Shelf> LocalLink<'a, V> {
         self.fate = fate;
     }
 
-    /// Puts a closed server in these rooms in the cloud's place. Nothing else changes, and for want of memory nothing does.
+    /// Puts a closed server in these rooms in the cloud's place. Nothing else changes, and for want of memory nothing does. The cloud stands for
+    /// each peer whose lists are within the new rooms, whatever the rooms before.
     pub fn set_rooms(&mut self, cloud: CloudNo, rooms: Rooms) -> Result<(), NoMemory>
         requires reached { IsTrue ((telling V.cloud_at).reaches self.old cloud.0) }
         requires rooms { AreRooms rooms }
         ensures closed { OnOk result (IsSomeAnd (server_at self.new.servers cloud.0) (IsClosedIn rooms)) }
         ensures stands { (p : Peer) → (telling V.cloud_at).stands self.old cloud.0 p → ((list : List Command) → MaySettleAs p list → IsWithin rooms list)
+            → OnOk result ((telling V.cloud_at).stands self.new cloud.0 p) }
+        ensures serves { (p : Peer)
+            → MayServe self.old.servers.shape cloud.0 rooms (V.cloud_at self.old.shelf.now cloud.0) p
             → OnOk result ((telling V.cloud_at).stands self.new cloud.0 p) }
         ensures others { LeavesRest V.cloud_at cloud.0 self.old self.new }
         ensures still { (self.new.shelf ≡ self.old.shelf) × (self.new.fate ≡ self.old.fate) × (self.new.losses ≡ self.old.losses) }
@@ -312,6 +324,22 @@ impl<'a, V: Shelf> LocalLink<'a, V> {
             → (content : List ℕ) × OnOk result (reply.new ≡ content) × IsSomeAnd (server_at self.old.servers cloud.0) (λ server. ¬ IsOpen server.state
             → CanOpen server.state (V.cloud_at self.old.shelf.now cloud.0) ⊎ Refused server.state (V.cloud_at self.old.shelf.now cloud.0) (V.cloud_at self.new.shelf.now cloud.0) content) }
 
+        // An open server never replies Damaged; and a reply that says that nothing is stored, entered or read comes with no call of a device.
+        ensures opened { self.old.fate ≢ LoseRequest → (r : Request)
+            → asked_at ((telling V.cloud_at).shape self.old) request.now ≡ Ok r
+            → (content : List ℕ) × OnOk result (reply.new ≡ content)
+            × IsSomeAnd (server_at self.old.servers cloud.0) (λ server. IsOpen server.state
+            → RepliesOpen (V.cloud_at self.old.shelf.now) (V.cloud_at self.new.shelf.now)
+            (V.faults self.old.shelf.now) (V.faults self.new.shelf.now) r content) }
+
+        // Rotten names what lies then where the server's memory has the share or the recipe, and that it is another or shorter.
+        ensures found { self.old.fate ≢ LoseRequest → (r : Request)
+            → asked_at ((telling V.cloud_at).shape self.old) request.now ≡ Ok r
+            → (content : List ℕ) × OnOk result (reply.new ≡ content)
+            × IsSomeAnd (server_at self.new.servers cloud.0) (λ server. (named what : Fp)
+            → IsReply content (replies.Rotten named what)
+            → IsFound (V.cloud_at self.new.shelf.now cloud.0) server.state.index r named what) }
+
         // Any request that wasn't lost on its way there is executed.
         ensures executed { self.old.fate ≢ LoseRequest → (r : Request) → asked_at ((telling V.cloud_at).shape self.old) request.now ≡ Ok r
             → (p : Peer) → (telling V.cloud_at).stands self.old cloud.0 p
@@ -365,6 +393,20 @@ pub fn law_of_readings<V: Shelf>()
     // and it is the same shelf
     ensures same_reference { (named : List ℕ) (asks : List Exchange) (old new : LocalLink V) → Passes (telling V.cloud_at) (ReadsFrom named) old asks new
         → new.shelf.ghost_name ≡ old.shelf.ghost_name }
+{}
+
+/// Areas that stay keep a server's conditions: over a cloud whose areas are as they were, with each image that a crash may leave, a server
+/// serves the peer that it served, with the cloud's counts. So no call of a shelf on another cloud, no read and no arming ends them.
+pub fn law_of_areas()
+    ensures { (server : Server) (old new : Cloud) (p : Peer) → new.told ≡ old.told → new.now ≡ old.now
+        → IsServing server old p
+        → IsServing server new (record { list = p.list; pending = p.pending; faults = new.faults; armings = new.armings }) }
+{}
+
+/// The header of each server is that of its cloud's number in a store of the servers' shape.
+pub fn law_of_headers()
+    ensures { (servers : Servers) (cloud : ℕ) (server : Server) → server_at servers cloud ≡ Some server
+        → server.state.header ≡ header_of servers.shape cloud }
 {}
 
 impl<'a, V: Shelf> Link for LocalLink<'a, V> {

@@ -4,7 +4,7 @@ use Rattle.user_dedup.specs.Link.{LeavesOthers, serves}
 use Rattle.cloud_store.specs.Standing.{MayBecome}
 use Rattle.local_link.specs.Tells.{server_at, telling, LeavesRest}
 use Rattle.local_link.proofs.Standing.{rest_by, others_by, full_same, here_now}
-use Rattle.local_link.proofs.Executing.{goes_on, refused_clouds, clouds_counted, refuses, refused_reply, images_since, images_stay, peer_counted, images_counted, replied_here, uncounted_here, called_here, closed_here, none_called, calls_counted, replied_counted, closed_counted, total_counted}
+use Rattle.local_link.proofs.Executing.{goes_on, refused_clouds, clouds_counted, refuses, refused_reply, images_since, images_stay, peer_counted, images_counted, replied_here, uncounted_here, called_here, closed_here, none_called, calls_counted, replied_counted, closed_counted, total_counted, opened_here, found_here, opened_counted, found_counted}
 use Rattle.local_link.proofs.link.LocalLink.ask_cloud.Goals as goal
 
 pub returns-in-Deliver-clause-executed : goal.returns-in-Deliver-clause-executed
@@ -183,4 +183,43 @@ returns-in-LoseReply-clause-closed g c = λ ne r told asked.
       closed_counted g.V.Shelf.cloud_at _ c.lose-in-LoseReply.new.self c.args.cloud.0 (server_at c.args.self.now.servers c.args.cloud.0) (g.V.Shelf.cloud_at c.args.self.now.shelf.now c.args.cloud.0) _ c.lose-in-LoseReply.ensures.counted
           (closed_here c.args.self.now.servers c.execute-in-LoseReply.new.self c.args.cloud.0 e.0 e.1 e.2 (ltb-true c.args.cloud.0 c.args.self.now.servers.shape.n c.requires.reached)
           (g.V.Shelf.cloud_at c.args.self.now.shelf.now) (g.V.Shelf.cloud_at c.execute-in-LoseReply.new.shelf) _ _ c.args.request.now c.execute-in-LoseReply.new.reply e.3 r told asked),
+    )
+
+pub returns-in-Deliver-clause-opened : goal.returns-in-Deliver-clause-opened
+returns-in-Deliver-clause-opened g c = λ ne r asked.
+    let e = c.execute.ensures in (
+      c.execute.new.reply,
+      refl,
+      opened_here c.args.self.now.servers c.execute.new.self c.args.cloud.0 e.0 e.1 e.2 (ltb-true c.args.cloud.0 c.args.self.now.servers.shape.n c.requires.reached)
+          (g.V.Shelf.cloud_at c.args.self.now.shelf.now) (g.V.Shelf.cloud_at c.execute.new.shelf) _ _ c.args.request.now c.execute.new.reply e.3 r asked,
+    )
+
+pub returns-in-Deliver-clause-found : goal.returns-in-Deliver-clause-found
+returns-in-Deliver-clause-found g c = λ ne r asked.
+    let e = c.execute.ensures in (
+      c.execute.new.reply,
+      refl,
+      found_here c.args.self.now.servers c.execute.new.self c.args.cloud.0 e.0 e.1 e.2 (ltb-true c.args.cloud.0 c.args.self.now.servers.shape.n c.requires.reached)
+          (g.V.Shelf.cloud_at c.args.self.now.shelf.now) (g.V.Shelf.cloud_at c.execute.new.shelf) _ _ c.args.request.now c.execute.new.reply e.3 r asked,
+    )
+
+pub returns-in-LoseReply-clause-opened : goal.returns-in-LoseReply-clause-opened
+returns-in-LoseReply-clause-opened g c = λ ne r asked.
+    let e = c.execute-in-LoseReply.ensures in (
+      c.execute-in-LoseReply.new.reply,
+      tt,
+      opened_counted g.V.Shelf.cloud_at g.V.Shelf.faults _ c.lose-in-LoseReply.new.self (server_at c.args.self.now.servers c.args.cloud.0) (g.V.Shelf.cloud_at c.args.self.now.shelf.now)
+          (g.V.Shelf.faults c.args.self.now.shelf.now) r _ c.lose-in-LoseReply.ensures.counted
+          (opened_here c.args.self.now.servers c.execute-in-LoseReply.new.self c.args.cloud.0 e.0 e.1 e.2 (ltb-true c.args.cloud.0 c.args.self.now.servers.shape.n c.requires.reached)
+          (g.V.Shelf.cloud_at c.args.self.now.shelf.now) (g.V.Shelf.cloud_at c.execute-in-LoseReply.new.shelf) _ _ c.args.request.now c.execute-in-LoseReply.new.reply e.3 r asked),
+    )
+
+pub returns-in-LoseReply-clause-found : goal.returns-in-LoseReply-clause-found
+returns-in-LoseReply-clause-found g c = λ ne r asked.
+    let e = c.execute-in-LoseReply.ensures in (
+      c.execute-in-LoseReply.new.reply,
+      tt,
+      found_counted g.V.Shelf.cloud_at _ c.lose-in-LoseReply.new.self c.args.cloud.0 r _ c.lose-in-LoseReply.ensures.counted
+          (found_here c.args.self.now.servers c.execute-in-LoseReply.new.self c.args.cloud.0 e.0 e.1 e.2 (ltb-true c.args.cloud.0 c.args.self.now.servers.shape.n c.requires.reached)
+          (g.V.Shelf.cloud_at c.args.self.now.shelf.now) (g.V.Shelf.cloud_at c.execute-in-LoseReply.new.shelf) _ _ c.args.request.now c.execute-in-LoseReply.new.reply e.3 r asked),
     )
