@@ -1,3 +1,5 @@
 pub mod Sent
 pub mod Lanes
 pub mod Reaching
+pub mod Measure
+pub mod Works

@@ -1,16 +1,19 @@
 //! What a job asks, a cloud reads.
 #![tactic(auto)]
 
-ghost use Rattle.std.specs.Prelude.{◌≡◌, ◌≤◌, ℕ, List, length, Some, Ok};
+ghost use Rattle.std.specs.Prelude.{◌≡◌, ◌<◌, ◌≤◌, ℕ, List, length, Some, Ok, false};
 ghost use Rattle.cd_base.specs.declared.shape.Shape.{Shape};
 ghost use Rattle.messages.specs.declared.request.Request.{Request};
+ghost use Rattle.messages.specs.declared.reply.Reply.{Reply};
 ghost use Rattle.messages.specs.Requests.{request_bytes, FitsRequest};
 ghost use Rattle.messages.specs.Replies.{frame_limit};
 ghost use Rattle.user_dedup.specs.Requests.{HasRecipe, asked_at};
 ghost use Rattle.upload_job.specs.Lanes.{LaneView, request_at};
 ghost use Rattle.lane_requests.specs.Reached.{IsReached};
+ghost use Rattle.lane_requests.specs.Runs.{Progress, request_of, progress_after, stops_at, left_of};
 
-/// Each request of a lane to which a job comes is one that a cloud of the shape reads as it is, and fits into a frame.
+/// Each request of a lane to which a job comes is one that a cloud of the shape reads as it is, and fits into
+/// a frame.
 pub fn law_of_lane_requests()
     // a cloud of the shape reads what is written as the request
     ensures read { (shape : Shape) (lanes : List LaneView) (i : ℕ) (request : Request) → IsReached shape lanes → request_at lanes i ≡ Some request
@@ -24,4 +27,11 @@ pub fn law_of_lane_requests()
     // each field is in its range, and the recipe of a Commit is one of the shape
     ensures fits { (shape : Shape) (lanes : List LaneView) (i : ℕ) (request : Request) → IsReached shape lanes → request_at lanes i ≡ Some request
         → FitsRequest request × HasRecipe shape request }
+{}
+
+/// A lane that goes on until a reply stops it comes to an end, whatever its cloud replies: each reply that
+/// doesn't stop it leaves less.
+pub fn law_of_ends()
+    ensures { (p : Progress) (request : Request) (reply : Reply) → request_of p.lane ≡ Some request
+        → stops_at p.lacked reply ≡ false → left_of (progress_after p reply) < left_of p }
 {}

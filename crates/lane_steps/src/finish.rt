@@ -1,0 +1,58 @@
+//! A lane to its end.
+
+ghost use Rattle.std.specs.Prelude.{◌≡◌, ◌<◌, ◌≤◌, length, IsTrue};
+ghost use Rattle.user_dedup.specs.Link.{LeavesOthers};
+ghost use Rattle.lane_requests.specs.Reached.{IsReached};
+ghost use Rattle.lane_steps.specs.Steps.{Finishes, IsFound};
+
+use crate::news::{has_lacked, make_room, stops, tell};
+use crate::{StepErr, step_lane};
+use cd_base::{Bytes, CloudNo, NoMemory};
+use frames::ReplyBuf;
+use upload_job::{Job, LaneNews};
+use user_dedup::Link;
+
+/// Brings a lane of the job on, step by step, and appends what each reply tells to `told`. Ok where the lane
+/// has no request any more, or where a reply stopped it: that a device failed, that the cloud's memory ran
+/// out, or the second time that the cloud lacks a share. Behind a failed device the lane keeps its request,
+/// and may be brought on again.
+///
+/// An error is that of the step that made it, as `step_lane` says. `told` has then the news of each step
+/// before it, by which the lane moved.
+pub fn finish_lane<L: Link>(
+    link: &mut L,
+    job: &mut Job,
+    lane: CloudNo,
+    content: &mut Bytes,
+    reply: &mut ReplyBuf,
+    told: &mut Vec<LaneNews>,
+) -> Result<(), StepErr>
+    requires below { lane.0 < length job.old }
+    requires reaches { IsTrue (L.tells.reaches link.old lane.0) }
+    requires reached { IsReached (L.tells.shape link.old) job.old }
+    ensures finishes { Finishes L.tells L.talk lane.0 link.old job.old told.old.items result
+        link.new job.new told.new.items }
+    ensures reached { IsReached (L.tells.shape link.old) job.new }
+    ensures others { LeavesOthers L.tells lane.0 link.old link.new }
+    ensures later { L.tells.losses link.old ≤ L.tells.losses link.new }
+    ensures lossless { IsTrue (L.tells.lossless link.old) → IsFound result × IsTrue (L.tells.lossless link.new) }
+{
+    let mut lacked = false;
+    'requests: loop {
+        match make_room(told) {
+            Ok(()) => {}
+            Err(NoMemory) => return Err(StepErr::NoMemory),
+        }
+        match step_lane(link, job, lane, content, reply) {
+            Ok(None) => return Ok(()),
+            Ok(Some(news)) => {
+                tell(told, news);
+                if stops(lacked, &news) {
+                    return Ok(());
+                }
+                lacked = has_lacked(lacked, &news);
+            }
+            Err(e) => return Err(e),
+        }
+    }
+}

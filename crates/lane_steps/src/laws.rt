@@ -1,0 +1,35 @@
+//! Laws of a lane that went on over a link, for the proofs of callers. The calls do nothing: their clauses
+//! are theorems.
+
+ghost use Rattle.std.specs.Prelude.{ℕ, List};
+ghost use Rattle.user_dedup.specs.Exec.{Peer};
+ghost use Rattle.user_dedup.specs.Link.{Does, Talk};
+ghost use Rattle.lane_requests.specs.Runs.{Turn, Progress, LaneRun, LaneAlong};
+ghost use Rattle.lane_steps.specs.Steps.{Heard, SayTheSame, TalksBy};
+
+use user_dedup::Link;
+
+/// From each state that its cloud stood for, the cloud went on by the requests and replies of the lane.
+pub fn law_of_peers<L: Link>()
+    // to the lane's end
+    ensures run { (cloud : ℕ) (lane last : Progress) (old new : L) (turns : List (Turn L)) (p : Peer)
+        → LaneRun (Heard L.tells L.talk cloud) lane old turns last new → L.tells.stands old cloud p
+        → (q : Peer) × L.tells.stands new cloud q × (others : List (Turn Peer))
+        × SayTheSame turns others × LaneRun (Does L.tells cloud old) lane p others last q }
+    // and up to any of its steps
+    ensures along { (cloud : ℕ) (lane last : Progress) (old new : L) (turns : List (Turn L)) (p : Peer)
+        → LaneAlong (Heard L.tells L.talk cloud) lane old turns last new → L.tells.stands old cloud p
+        → (q : Peer) × L.tells.stands new cloud q × (others : List (Turn Peer))
+        × SayTheSame turns others × LaneAlong (Does L.tells cloud old) lane p others last q }
+{}
+
+/// Where a link tells what is said with the cloud, just the lane's requests were sent, in order, and each
+/// reply was the next to come.
+pub fn law_of_talks<L: Link>()
+    ensures run { (cloud : ℕ) (lane last : Progress) (old new : L) (turns : List (Turn L)) (before : Talk)
+        → LaneRun (Heard L.tells L.talk cloud) lane old turns last new → L.talk old cloud before
+        → (after : Talk) × L.talk new cloud after × TalksBy turns before after }
+    ensures along { (cloud : ℕ) (lane last : Progress) (old new : L) (turns : List (Turn L)) (before : Talk)
+        → LaneAlong (Heard L.tells L.talk cloud) lane old turns last new → L.talk old cloud before
+        → (after : Talk) × L.talk new cloud after × TalksBy turns before after }
+{}
