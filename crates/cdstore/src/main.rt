@@ -4,13 +4,11 @@
 //! its standard output to `cd_top::run`, and ends with the status that this answers.
 #![tactic(auto)]
 
-mod stream;
-
 use cd_top::run;
+use real_edges::{StdSink, StdSource};
 use std::env;
 use std::io::ErrorKind;
 use std::process::ExitCode;
-use stream::{StdSink, StdSource};
 
 const HELP: &str = "\
 usage: cdstore replay DIR

@@ -5,7 +5,7 @@ ghost use Rattle.std.specs.Prelude.{◌≡◌, ◌≤◌, ◌<◌, length, IfSom
 use cd_edges::{Failed, Sink, Source};
 use std::io::{Read, Stdin, Stdout, Write};
 
-/// Standard input.
+/// Standard input. The only cause of `Failed` is that the system refuses a read.
 #[derive(Drop)]
 pub struct StdSource {
     input: Stdin,
@@ -13,6 +13,7 @@ pub struct StdSource {
 }
 
 impl StdSource {
+    /// Nothing has failed yet.
     pub fn new(input: Stdin) -> StdSource {
         StdSource { input, faults: 0 }
     }
@@ -34,7 +35,8 @@ impl Source for StdSource {
     }
 }
 
-/// Standard output, which is flushed after each write.
+/// Standard output, which is flushed after each write. The only causes of `Failed` are that the system refuses a write or a flush, or
+/// takes nothing of a piece that isn't empty.
 #[derive(Drop)]
 pub struct StdSink {
     output: Stdout,
@@ -42,6 +44,7 @@ pub struct StdSink {
 }
 
 impl StdSink {
+    /// Nothing has failed yet.
     pub fn new(output: Stdout) -> StdSink {
         StdSink { output, faults: 0 }
     }

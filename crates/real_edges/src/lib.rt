@@ -1,0 +1,16 @@
+//! The outside as the system has it: the standard streams, clouds that lie in a folder, and sockets. Each counts its failures and tells
+//! nothing of what it holds or passes on.
+#![tactic(auto)]
+
+mod folder;
+mod sockets;
+mod streams;
+mod tally;
+
+pub use folder::DirShelf;
+pub use sockets::TcpPorts;
+pub use streams::{StdSink, StdSource};
+pub use tally::Tally;
+
+#[cfg(test)]
+mod tests;
