@@ -65,7 +65,8 @@ pub fn serve_connection<V: Shelf, P: Ports>(
         → (q : Peer) × IsServing server.new (V.cloud_at shelf.new (number_of server.old)) q
         × Serves (ServesOne server.old.state.header.shape (server_serves server.old))
         (P.tells ports.old) (P.tells ports.new) port p q result }
-    ensures replied { Serves (RepliesOne server.old.state.header.shape) (P.tells ports.old) (P.tells ports.new) port tt tt result }
+    ensures replied { Serves (RepliesOne server.old.state.header.shape)
+        (P.tells ports.old) (P.tells ports.new) port tt tt result }
     ensures same { IsSameServer server.old.state server.new.state }
     ensures call { IsCall (V.cloud_at shelf.old) (V.cloud_at shelf.new) (number_of server.old) (V.faults shelf.old)
         (V.faults shelf.new) }

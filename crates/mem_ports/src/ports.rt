@@ -132,7 +132,8 @@ impl Ports for MemPorts {
         ensures cause { HasCause self.old.count.faults self.new.count.faults result }
         ensures fails { IsErr result ↔ IsNamed self.old }
         ensures counts { Counts self.old.count self.new.count (is_ok result) }
-        ensures rest { (self.new.streams ≡ self.old.streams) × (self.new.opened ≡ self.old.opened) × KeepsSizes self.old self.new }
+        ensures rest { (self.new.streams ≡ self.old.streams) × (self.new.opened ≡ self.old.opened)
+            × KeepsSizes self.old self.new }
     {
         if self.count.begin() {
             return self.count.refuse();

@@ -46,7 +46,8 @@ impl MemStream {
     pub fn give(&mut self, most: usize, out: &mut [u8]) -> usize
         ensures count { result ≡ min (min (length out.old) most) (vec_len self.old.bytes - self.old.place) }
         ensures long { length out.new ≡ length out.old }
-        ensures came { drop self.old.place self.old.bytes.items ≡ take result out.new ++ drop self.new.place self.new.bytes.items }
+        ensures came { drop self.old.place self.old.bytes.items
+            ≡ take result out.new ++ drop self.new.place self.new.bytes.items }
         ensures bytes_stay { self.new.bytes ≡ self.old.bytes }
         ensures place { self.new.place ≡ self.old.place + result }
         ensures sent_stays { self.new.sent ≡ self.old.sent }

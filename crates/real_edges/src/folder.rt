@@ -210,9 +210,11 @@ impl DirShelf {
 
     // Counts a fault where there is one.
     fn answer<T>(&mut self, cloud: CloudNo, outcome: io::Result<T>) -> Result<T, Failed>
-        ensures call { IsCall (cloud_of self.old.tally) (cloud_of self.new.tally) cloud.0 self.old.tally.total self.new.tally.total }
+        ensures call { IsCall (cloud_of self.old.tally) (cloud_of self.new.tally) cloud.0
+            self.old.tally.total self.new.tally.total }
         ensures failed { OnErr outcome
-            (HasFailed (cloud_of self.old.tally cloud.0) (cloud_of self.new.tally cloud.0) self.old.tally.total self.new.tally.total) }
+            (HasFailed (cloud_of self.old.tally cloud.0) (cloud_of self.new.tally cloud.0)
+            self.old.tally.total self.new.tally.total) }
         ensures same { OnOk outcome (self.new.tally ≡ self.old.tally) }
         ensures value { IfOk outcome (λ value. result ≡ Ok value) }
         ensures refused { OnErr outcome (IsErr result) }
@@ -225,8 +227,10 @@ impl DirShelf {
 
     // Counts a fault of the cloud.
     fn refuse<T>(&mut self, cloud: CloudNo) -> Result<T, Failed>
-        ensures call { IsCall (cloud_of self.old.tally) (cloud_of self.new.tally) cloud.0 self.old.tally.total self.new.tally.total }
-        ensures failed { HasFailed (cloud_of self.old.tally cloud.0) (cloud_of self.new.tally cloud.0) self.old.tally.total self.new.tally.total }
+        ensures call { IsCall (cloud_of self.old.tally) (cloud_of self.new.tally) cloud.0
+            self.old.tally.total self.new.tally.total }
+        ensures failed { HasFailed (cloud_of self.old.tally cloud.0) (cloud_of self.new.tally cloud.0)
+            self.old.tally.total self.new.tally.total }
         ensures refused { IsErr result }
     {
         self.tally.count_fault(cloud);
