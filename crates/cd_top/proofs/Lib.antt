@@ -1,7 +1,5 @@
-pub mod Clouds
-pub mod Restoring
-pub mod LinesRead
-pub mod Named
-pub mod StepsMade
 pub mod Texts
+pub mod Closing
+pub mod Unopened
 pub mod WordsRead
+pub mod Completing

@@ -1,10 +1,8 @@
 -- Texts that were written one after another.
-use Rattle.std.proofs.Common.{◌≡◌, ◌≤◌, ℕ, List, [], ◌∷◌, ◌++◌, length, take, drop, Option, Some, None, refl, sym, ap, ◌∙◌, append_assoc, append-nil}
+use Rattle.std.proofs.Common.{◌≡◌, ℕ, List, [], ◌++◌, take, drop, Option, Some, None, sym, ap, ◌∙◌, append_assoc, append-nil}
 use Rattle.std.specs.Io.KnownBytes.{Appends}
 use Rattle.std.proofs.lemmas.List.{take-append-drop}
-use Rattle.cd_edges.specs.Causes.{Rose}
-use Rattle.cd_top.specs.Endings.{IsFront}
-use Rattle.cd_top.specs.Writing.{IsCut}
+use Rattle.cd_top.specs.Replay.{WritesFront}
 
 -- a text and then another
 pub appends_both : (before middle after : Option (List ℕ)) (x y : List ℕ) → Appends before middle x → Appends middle after y → Appends before after (x ++ y)
@@ -18,13 +16,10 @@ appends_nothing None = tt
 appends_nothing (Some xs) = sym (append-nil xs)
 
 -- a sink took so many bytes of a text
-pub cut_at : (before after : Option (List ℕ)) (text read : List ℕ) (sent : ℕ) → read ≡ text → Appends before after (take sent read) → IsCut before after text
-cut_at before after text read sent same appends = record {
-  cut = take sent read;
-  front = record { more = drop sent read; is = take-append-drop sent read ∙ same };
+pub front_at : (before after : Option (List ℕ)) (text read : List ℕ) (sent : ℕ) → read ≡ text → Appends before after (take sent read) → WritesFront text before after
+front_at before after text read sent same appends = record {
+  text = take sent read;
+  more = drop sent read;
+  front = take-append-drop sent read ∙ same;
   written = appends;
 }
-
--- what a list holds after it was cleared and written to
-pub written_anew : (cleared out read line : List ℕ) → cleared ≡ [] → out ≡ cleared ++ line → read ≡ out → read ≡ line
-written_anew cleared out read line empty is same = same ∙ is ∙ ap (λ l. l ++ line) empty

@@ -1,8 +1,3 @@
-pub mod Puts
-pub mod Held
-pub mod Pieces
-pub mod News
-pub mod Due
-pub mod Endings
-pub mod Writing
-pub mod Steps
+pub mod Replay
+pub mod Ends
+pub mod Complete

@@ -1,10 +1,7 @@
-//! The top call of cdstore: `run` takes the words, the input and the output of the program, and answers its status.
+//! The program's call: it runs the words that are given to cdstore.
 #![tactic(auto)]
 
-pub mod first;
-mod replay;
-mod restore;
-mod stored;
+mod ending;
 mod top;
 
 pub use top::run;

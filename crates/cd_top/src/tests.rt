@@ -1,214 +1,281 @@
-//! Sessions through `run`, over a source and a sink in memory.
+//! Sessions through `run`, over a source, a sink and a shelf in memory.
 
 ghost use Rattle.std.specs.Prelude.{◌≤◌};
 
 use crate::run;
-use cd_fakes::{MemSink, MemSource};
+use cd_base::CloudNo;
+use cd_edges::{Area, Shelf};
+use cd_fakes::{MemShelf, MemSink, MemSource};
 use std::alloc::Global;
 use std::test::Fail;
 
-const FIRST: &[u8] = b"cdstore 1 4 3\nput 7 61 1 414243\nget 7 61 1 0,1,2\nget 7 61 1 1,2,3\n";
-
-const FIRST_TEXT: &[u8] = b"open 4 3\nstored 1\ngot 414243\ngot 414243\ndone 3\n";
-
-// What a session ended with: its status and what was written.
-#[derive(Drop)]
-struct Ended {
+// A session, what it writes and answers, and the lengths that it leaves in each of the first four clouds: journal, shares, recipes.
+struct Row {
+    script: &'static str,
+    text: &'static str,
     status: u8,
-    text: Vec<u8>,
+    areas: Option<[u64; 3]>,
 }
 
-fn ran(
+const ROWS: [Row; 14] = [
+    // empty file
+    Row {
+        script: "cdstore 1 4 3 9000 9000 9000 90 90 90\nupload 7 61 1 -\nstep 1 0\nstep 1 1\nstep 1 2\nstep 1 3\nget 7 61 1 0,1,2\n",
+        text: "open 4 3\njob 1\nstep 1 0 committed\nstep 1 1 committed\nstep 1 2 committed\nstep 1 3 committed\nstored 1\ngot -\ndone 6\n",
+        status: 0,
+        areas: Some([108, 0, 25]),
+    },
+    // one byte
+    Row {
+        script: "cdstore 1 4 3 9000 9000 9000 90 90 90\nupload 7 61 1 41\nfinish 1\nget 7 61 1 1,2,3\n",
+        text: "open 4 3\njob 1\nstep 1 0 known 0 1\nstep 1 0 stored 1 1\nstep 1 0 committed\nstep 1 1 known 0 1\nstep 1 1 stored 1 1\nstep 1 1 committed\nstep 1 2 known 0 1\nstep 1 2 stored 1 1\nstep 1 2 committed\nstep 1 3 known 0 1\nstep 1 3 stored 1 1\nstep 1 3 committed\nstored 1\nend 1 stored\ngot 41\ndone 3\n",
+        status: 0,
+        areas: Some([165, 11, 61]),
+    },
+    // the same user again
+    Row {
+        script: "cdstore 1 4 3 9000 9000 9000 90 90 90\nupload 7 61 1 41\nfinish 1\nupload 7 61 2 41\nfinish 2\n",
+        text: "open 4 3\njob 1\nstep 1 0 known 0 1\nstep 1 0 stored 1 1\nstep 1 0 committed\nstep 1 1 known 0 1\nstep 1 1 stored 1 1\nstep 1 1 committed\nstep 1 2 known 0 1\nstep 1 2 stored 1 1\nstep 1 2 committed\nstep 1 3 known 0 1\nstep 1 3 stored 1 1\nstep 1 3 committed\nstored 1\nend 1 stored\njob 2\nstep 2 0 known 1 1\nstep 2 0 committed\nstep 2 1 known 1 1\nstep 2 1 committed\nstep 2 2 known 1 1\nstep 2 2 committed\nstep 2 3 known 1 1\nstep 2 3 committed\nstored 2\nend 2 stored\ndone 4\n",
+        status: 0,
+        areas: Some([259, 11, 122]),
+    },
+    // another user
+    Row {
+        script: "cdstore 1 4 3 9000 9000 9000 90 90 90\nupload 7 61 1 41\nfinish 1\nupload 8 61 1 41\nfinish 2\n",
+        text: "open 4 3\njob 1\nstep 1 0 known 0 1\nstep 1 0 stored 1 1\nstep 1 0 committed\nstep 1 1 known 0 1\nstep 1 1 stored 1 1\nstep 1 1 committed\nstep 1 2 known 0 1\nstep 1 2 stored 1 1\nstep 1 2 committed\nstep 1 3 known 0 1\nstep 1 3 stored 1 1\nstep 1 3 committed\nstored 1\nend 1 stored\njob 2\nstep 2 0 known 0 1\nstep 2 0 stored 1 1\nstep 2 0 committed\nstep 2 1 known 0 1\nstep 2 1 stored 1 1\nstep 2 1 committed\nstep 2 2 known 0 1\nstep 2 2 stored 1 1\nstep 2 2 committed\nstep 2 3 known 0 1\nstep 2 3 stored 1 1\nstep 2 3 committed\nstored 2\nend 2 stored\ndone 4\n",
+        status: 0,
+        areas: Some([304, 11, 122]),
+    },
+    // lost
+    Row {
+        script: "cdstore 1 4 3 9000 9000 9000 90 90 90\nupload 7 61 1 -\nlose 1 0\ndrop 1 0\nstep 1 0\nstep 1 0\n",
+        text: "open 4 3\njob 1\nlost 1 0\nlost 1 0\nstep 1 0 committed\nstep 1 0 done\ndone 5\n",
+        status: 0,
+        areas: None,
+    },
+    // two jobs for one version
+    Row {
+        script: "cdstore 1 4 3 9000 9000 9000 90 90 90\nupload 7 61 1 -\nupload 7 61 1 41\nstep 1 0\nstep 1 1\nfinish 2\nfinish 1\nget 7 61 1 0,1,2\n",
+        text: "open 4 3\njob 1\njob 2\nstep 1 0 committed\nstep 1 1 committed\nstep 2 0 known 0 1\nstep 2 0 stored 1 1\nstep 2 0 exists\nstep 2 1 known 0 1\nstep 2 1 stored 1 1\nstep 2 1 exists\nstep 2 2 known 0 1\nstep 2 2 stored 1 1\nstep 2 2 committed\nstep 2 3 known 0 1\nstep 2 3 stored 1 1\nstep 2 3 committed\nend 2 open\nstep 1 2 exists\nstep 1 3 exists\nend 1 open\nrefused recipesdiffer 0 2 1\ndone 7\n",
+        status: 0,
+        areas: None,
+    },
+    // a full room
+    Row {
+        script: "cdstore 1 4 3 10 1000 1000 10 10 10\nupload 7 61 1 41\nstep 1 0\nstep 1 0\nstep 1 0\n",
+        text: "open 4 3\njob 1\nstep 1 0 known 0 1\nstep 1 0 full shares 0 11 10\nstep 1 0 done\ndone 4\n",
+        status: 0,
+        areas: None,
+    },
+    // room for it
+    Row {
+        script: "cdstore 1 4 3 11 1000 1000 10 10 10\nupload 7 61 1 41\nstep 1 0\nstep 1 0\nstep 1 0\n",
+        text: "open 4 3\njob 1\nstep 1 0 known 0 1\nstep 1 0 stored 1 1\nstep 1 0 committed\ndone 4\n",
+        status: 0,
+        areas: None,
+    },
+    // no shape
+    Row {
+        script: "cdstore 1 3 3\n",
+        text: "script 1 12 33\n",
+        status: 2,
+        areas: None,
+    },
+    // the widest shape
+    Row {
+        script: "cdstore 1 16 15 1000 1000 1000 10 10 10\n",
+        text: "open 16 15\ndone 0\n",
+        status: 0,
+        areas: None,
+    },
+    // no line
+    Row {
+        script: "",
+        text: "script 1 0 end\n",
+        status: 2,
+        areas: None,
+    },
+    // an absent version
+    Row {
+        script: "cdstore 1 4 3 9000 9000 9000 90 90 90\nget 7 61 1 0,1,2\n",
+        text: "open 4 3\nrefused missing 0\ndone 1\n",
+        status: 0,
+        areas: None,
+    },
+    // no last newline
+    Row {
+        script: "cdstore 1 4 3 9000 9000 9000 90 90 90\nget 7 61 1 0,1,2",
+        text: "open 4 3\nscript 2 16 end\n",
+        status: 2,
+        areas: None,
+    },
+    // a line that isn't carried out yet
+    Row {
+        script: "cdstore 1 4 3 9000 9000 9000 90 90 90\nreplace 0\n",
+        text: "open 4 3\nscript 2 0 72\n",
+        status: 2,
+        areas: None,
+    },
+];
+
+// Runs words and a script over a shelf, and answers the status and what was written. The source and the sink pass at most so many
+// bytes at once, and these reads of the source fail.
+fn ended(
     alloc: Global,
     words: &[&str],
     script: &[u8],
     most: usize,
-    source_fails: &[u64],
-    sink_fails: &[u64],
-) -> Result<Ended, Fail>
+    fails: &[u64],
+    shelf: &mut MemShelf,
+) -> Result<(u8, Vec<u8>), Fail>
     requires { 1 ≤ most }
 {
     let mut names = Vec::new(alloc);
     for word in words {
         names.push(String::from_str(alloc, word)?)?;
     }
-    let mut source = MemSource::of(alloc, script, most, source_fails)?;
-    let mut sink = MemSink::of(alloc, 4096, most, sink_fails)?;
-    let status = run(alloc, &names, &mut source, &mut sink);
+    let mut source = MemSource::of(alloc, script, most, fails)?;
+    let mut sink = MemSink::of(alloc, 4096, most, &[])?;
+    let status = run(alloc, &names, &mut source, &mut sink, shelf);
     let mut text = Vec::new(alloc);
     text.extend_from_slice(sink.written())?;
-    Ok(Ended { status, text })
+    Ok((status, text))
 }
 
-fn session(alloc: Global, script: &[u8]) -> Result<Ended, Fail> {
-    ran(alloc, &["replay", "d"], script, 4096, &[], &[])
+// The same for the words `replay d`.
+fn session(alloc: Global, script: &str, shelf: &mut MemShelf) -> Result<(u8, Vec<u8>), Fail> {
+    ended(alloc, &["replay", "d"], script.as_bytes(), 7, &[], shelf)
 }
 
-#[test]
-fn a_file_comes_back(rt: HostRuntime) -> Result<(), Fail> {
-    for most in [1, 3, 4096] {
-        let ended = ran(rt.alloc(), &["replay", "d"], FIRST, most.max(1), &[], &[])?;
-        assert_eq!(rt; ended.text.as_slice(), FIRST_TEXT);
-        assert_eq!(rt; ended.status, 0);
-    }
-    Ok(())
+fn shelf(alloc: Global, fails: &[(CloudNo, u64)]) -> Result<MemShelf, Fail> {
+    Ok(MemShelf::of(alloc, 16, 1024, 256, fails)?)
 }
 
-#[test]
-fn what_is_there_stays(rt: HostRuntime) -> Result<(), Fail> {
-    let ended = session(
-        rt.alloc(),
-        b"cdstore 1 4 2\nput 7 61 1 0102\nput 7 61 1 0103\nput 7 61 1 0102\nget 7 61 1 2,3\nget 7 61 2 0,1\nput 8 61 1 -\nget 8 61 1 0,3\n",
-    )?;
-    let wanted =
-        b"open 4 2\nstored 1\nexists\nstored 3\ngot 0102\nrefused missing 0\nstored 4\ngot -\ndone 7\n";
-    assert_eq!(rt; ended.text.as_slice(), wanted.as_slice());
-    assert_eq!(rt; ended.status, 0);
-    Ok(())
+// The lengths of a cloud's areas.
+fn lengths(shelf: &mut MemShelf, cloud: u8) -> [u64; 3] {
+    let cloud = CloudNo(cloud);
+    [
+        shelf.len(cloud, Area::Journal).unwrap_or(0),
+        shelf.len(cloud, Area::Shares).unwrap_or(0),
+        shelf.len(cloud, Area::Recipes).unwrap_or(0),
+    ]
 }
 
 #[test]
-fn wrong_scripts_are_named(rt: HostRuntime) -> Result<(), Fail> {
-    let scripts: [(&[u8], &[u8]); 8] = [
-        (b"", b"script 1 0 end\n"),
-        (b"cdstore 1 3 3\n", b"script 1 12 33\n"),
-        (
-            b"cdstore 1 4 3\nget 7 61 1 0,1,2",
-            b"open 4 3\nscript 2 16 end\n",
-        ),
-        (
-            b"cdstore 1 4 3\nget 7 61 1 0,1,2\nput 7 00 1 41\n",
-            b"open 4 3\nrefused missing 0\nscript 3 6 30\n",
-        ),
-        (
-            b"cdstore 1 4 3\nget 7 61 1 0,1\n",
-            b"open 4 3\nscript 2 11 30\n",
-        ),
-        (
-            b"cdstore 1 4 3\nput 7 61 1 41 \n",
-            b"open 4 3\nscript 2 13 20\n",
-        ),
-        (
-            b"cdstore 1 4 3\nput 07 61 1 41\n",
-            b"open 4 3\nscript 2 4 30\n",
-        ),
-        (b"cdstore 1 4 3\n\n", b"open 4 3\nscript 2 0 end\n"),
-    ];
-    for (script, text) in scripts {
-        let ended = session(rt.alloc(), script)?;
-        assert_eq!(rt; ended.text.as_slice(), text);
-        assert_eq!(rt; ended.status, 2);
-    }
-    Ok(())
-}
-
-#[test]
-fn failures_have_their_status(rt: HostRuntime) -> Result<(), Fail> {
-    let script = b"cdstore 1 4 3\nput 7 61 1 41\n";
-    let ended = ran(rt.alloc(), &["replay", "d"], script, 14, &[2], &[])?;
-    assert_eq!(rt; ended.text.as_slice(), b"open 4 3\n".as_slice());
-    assert_eq!(rt; ended.status, 3);
-    for call in 1..6 {
-        let ended = ran(rt.alloc(), &["replay", "d"], FIRST, 4096, &[], &[call])?;
-        assert_eq!(rt; ended.status, 4);
-        assert!(rt; FIRST_TEXT.starts_with(&ended.text));
-    }
-    Ok(())
-}
-
-const LONGEST: &[u8] = &[b'6'; 2048];
-
-#[test]
-fn a_path_has_a_limit(rt: HostRuntime) -> Result<(), Fail> {
-    for (more, text) in [
-        (b"".as_slice(), b"open 4 3\nstored 1\ndone 1\n".as_slice()),
-        (b"61", b"open 4 3\nscript 2 6 36\n"),
-    ] {
-        let mut script = Vec::new(rt.alloc());
-        for part in [
-            b"cdstore 1 4 3\nput 7 ".as_slice(),
-            LONGEST,
-            more,
-            b" 1 41\n",
-        ] {
-            script.extend_from_slice(part)?;
+fn sessions_have_their_transcripts(rt: HostRuntime) -> Result<(), Fail> {
+    for row in &ROWS {
+        let mut clouds = shelf(rt.alloc(), &[])?;
+        let (status, text) = session(rt.alloc(), row.script, &mut clouds)?;
+        assert_eq!(rt; text.as_slice(), row.text.as_bytes());
+        assert_eq!(rt; status, row.status);
+        if let Some(areas) = row.areas {
+            for cloud in 0..4 {
+                assert_eq!(rt; lengths(&mut clouds, cloud), areas);
+            }
         }
-        let ended = session(rt.alloc(), &script)?;
-        assert_eq!(rt; ended.text.as_slice(), text);
     }
     Ok(())
 }
 
-// Puts a file of 40,000 bytes, of several secrets, whose bytes differ by a seed.
-fn long_script(alloc: Global, seed: u8, gets: &[u8]) -> Result<Vec<u8>, Fail> {
-    let mut script = Vec::new(alloc);
-    script.extend_from_slice(b"cdstore 1 4 3\nput 7 61 1 ")?;
-    push_long(&mut script, seed)?;
-    script.push(b'\n')?;
-    script.extend_from_slice(gets)?;
-    Ok(script)
+// What is written of a session in which a step of cloud 0 is cut behind these lines: at this call of its device, which keeps so much.
+fn stopped(alloc: Global, front: &str, call: &str) -> Result<(u8, Vec<u8>), Fail> {
+    let script = format!(in alloc;
+        "cdstore 1 4 3 9000 9000 9000 90 90 90\nupload 7 61 1 41\nstep 1 0\n{front}arm 0 {call}\nstep 1 0\nrestart 0\nstep 1 0\n"
+    )?;
+    let mut clouds = shelf(alloc, &[])?;
+    session(alloc, script.as_str(), &mut clouds)
 }
 
-// The bytes of that file, in hexadecimal.
-fn push_long(text: &mut Vec<u8>, seed: u8) -> Result<(), Fail> {
-    let digits = b"0123456789abcdef";
-    let mut state = seed;
-    for _ in 0..80_000_u32 {
-        state = state.wrapping_mul(77).wrapping_add(1);
-        text.push(digits[(state >> 4) as usize])?;
+#[test]
+fn stops_in_a_put_leave_all_or_nothing(rt: HostRuntime) -> Result<(), Fail> {
+    for (call, commands, new) in [
+        ("1 0", 0, 1),
+        ("1 11", 0, 1),
+        ("2 0", 0, 1),
+        ("3 0", 0, 1),
+        ("3 57", 0, 1),
+        ("4 0", 0, 1),
+        ("5 0", 0, 1),
+        ("5 1", 1, 0),
+        ("6 0", 1, 0),
+    ] {
+        let (status, text) = stopped(rt.alloc(), "", call)?;
+        let want = format!(in rt.alloc();
+            "open 4 3\njob 1\nstep 1 0 known 0 1\narmed 0\nstep 1 0 fault\nrestarted 0 {commands}\nstep 1 0 stored {new} 1\ndone 6\n"
+        )?;
+        assert_eq!(rt; text.as_slice(), want.as_bytes());
+        assert_eq!(rt; status, 0);
+    }
+    let (status, text) = stopped(rt.alloc(), "", "7 0")?;
+    let want =
+        "open 4 3\njob 1\nstep 1 0 known 0 1\narmed 0\nstep 1 0 stored 1 1\nfault 0\nstep 1 0 committed\ndone 6\n";
+    assert_eq!(rt; text.as_slice(), want.as_bytes());
+    assert_eq!(rt; status, 0);
+    Ok(())
+}
+
+#[test]
+fn stops_in_a_commit_leave_all_or_nothing(rt: HostRuntime) -> Result<(), Fail> {
+    for (call, commands) in [
+        ("1 0", 1),
+        ("2 0", 1),
+        ("3 0", 1),
+        ("3 94", 1),
+        ("4 0", 1),
+        ("5 0", 1),
+        ("5 1", 2),
+        ("6 0", 2),
+    ] {
+        let (status, text) = stopped(rt.alloc(), "step 1 0\n", call)?;
+        let want = format!(in rt.alloc();
+            "open 4 3\njob 1\nstep 1 0 known 0 1\nstep 1 0 stored 1 1\narmed 0\nstep 1 0 fault\nrestarted 0 {commands}\nstep 1 0 committed\ndone 7\n"
+        )?;
+        assert_eq!(rt; text.as_slice(), want.as_bytes());
+        assert_eq!(rt; status, 0);
     }
     Ok(())
 }
 
 #[test]
-fn a_long_file_comes_back_from_any_clouds(rt: HostRuntime) -> Result<(), Fail> {
-    let gets = b"get 7 61 1 0,1,2\nget 7 61 1 0,1,3\nget 7 61 1 0,2,3\nget 7 61 1 1,2,3\n";
-    let script = long_script(rt.alloc(), 5, gets)?;
-    let ended = ran_into(rt.alloc(), 400_000, &script)?;
-    let mut wanted = Vec::new(rt.alloc());
-    wanted.extend_from_slice(b"open 4 3\nstored 1\n")?;
-    for _ in 0..4_u8 {
-        wanted.extend_from_slice(b"got ")?;
-        push_long(&mut wanted, 5)?;
-        wanted.push(b'\n')?;
-    }
-    wanted.extend_from_slice(b"done 5\n")?;
-    assert_eq!(rt; ended.status, 0);
-    assert!(rt; ended.text.as_slice() == wanted.as_slice());
-    Ok(())
-}
-
-// A session whose sink takes nothing once it has these bytes.
-fn ran_into(alloc: Global, room: usize, script: &[u8]) -> Result<Ended, Fail> {
-    let mut words = Vec::new(alloc);
-    for word in ["replay", "d"] {
-        words.push(String::from_str(alloc, word)?)?;
-    }
-    let mut source = MemSource::of(alloc, script, 4096, &[])?;
-    let mut sink = MemSink::of(alloc, room, 4096, &[])?;
-    let status = run(alloc, &words, &mut source, &mut sink);
-    let mut text = Vec::new(alloc);
-    text.extend_from_slice(sink.written())?;
-    Ok(Ended { status, text })
-}
-
-#[test]
-fn a_full_sink_is_a_fault(rt: HostRuntime) -> Result<(), Fail> {
-    for room in [0, 1, 9, 12, FIRST_TEXT.len() - 1] {
-        let ended = ran_into(rt.alloc(), room, FIRST)?;
-        assert_eq!(rt; ended.status, 4);
-        assert_eq!(rt; ended.text.as_slice(), &FIRST_TEXT[..room]);
-    }
+fn a_failing_source_is_3(rt: HostRuntime) -> Result<(), Fail> {
+    let mut clouds = shelf(rt.alloc(), &[])?;
+    let script = b"cdstore 1 4 3 9000 9000 9000 90 90 90\nupload 7 61 1 41\n";
+    let (status, text) = ended(rt.alloc(), &["replay", "d"], script, 38, &[2], &mut clouds)?;
+    assert_eq!(rt; text.as_slice(), b"open 4 3\n".as_slice());
+    assert_eq!(rt; status, 3);
     Ok(())
 }
 
 #[test]
-fn other_words_do_nothing(rt: HostRuntime) -> Result<(), Fail> {
-    let tables: [&[&str]; 4] = [&[], &["replay"], &["replay", "d", "e"], &["play", "d"]];
-    for words in tables {
-        let ended = ran(rt.alloc(), words, FIRST, 64, &[], &[])?;
-        assert_eq!(rt; ended.status, 1);
-        assert!(rt; ended.text.is_empty());
+fn other_words_are_1_and_a_store_that_is_not_empty_is_7(rt: HostRuntime) -> Result<(), Fail> {
+    let mut clouds = shelf(rt.alloc(), &[])?;
+    for words in [
+        ["replay", "d", "d"].as_slice(),
+        &["replay"],
+        &["read", "d"],
+        &[],
+    ] {
+        let (status, text) = ended(rt.alloc(), words, b"", 1, &[], &mut clouds)?;
+        assert_eq!(rt; text.len(), 0);
+        assert_eq!(rt; status, 1);
     }
+    session(rt.alloc(), ROWS[0].script, &mut clouds)?;
+    let (status, text) = session(rt.alloc(), "cdstore 1 4 3\n", &mut clouds)?;
+    assert_eq!(rt; text.as_slice(), b"store 0 journal 108\n".as_slice());
+    assert_eq!(rt; status, 7);
+    Ok(())
+}
+
+// Where one device call of a cloud fails in a get, all before it as ever, the answer says so: the get asks the disks.
+#[test]
+fn a_get_asks_the_disks(rt: HostRuntime) -> Result<(), Fail> {
+    let want = b"refused fault 1\ndone 3\n".as_slice();
+    let mut seen = false;
+    for call in 1..120 {
+        let mut clouds = shelf(rt.alloc(), &[(CloudNo(1), call)])?;
+        let (status, text) = session(rt.alloc(), ROWS[1].script, &mut clouds)?;
+        seen = seen || status == 0 && text.ends_with(want);
+    }
+    assert!(rt; seen);
     Ok(())
 }

@@ -1,14 +1,13 @@
 //! The top call.
 
-ghost use Rattle.std.specs.Prelude.{◌≡◌, ◌≢◌, ◌⊎◌, ◌++◌, ℕ, List, Some, map, string_bytes, OnOk, IfOk, IsTrue, ◌↔◌, ◌<◌, decimal};
-ghost use Rattle.std.specs.Io.KnownBytes.{Appends};
-ghost use Rattle.cd_edges.specs.Causes.{Rose};
-ghost use Rattle.cd_top.specs.Due.{due, wrong_text, hex_digit, found_text};
-ghost use Rattle.cd_top.specs.Endings.{IsReplay, NamesWrong, IsWhole, IsNamed, IsPart, IsStatus, IsStill};
+ghost use Rattle.std.specs.Prelude.{◌≡◌, ◌≢◌, ◌≤◌, ◌↔◌, ◌⊎◌, ℕ, List, IsTrue, map, string_bytes};
+ghost use Rattle.replay_core.specs.Endings.{Call};
+ghost use Rattle.cd_top.specs.Complete.{GoesWell};
+ghost use Rattle.cd_top.specs.Replay.{IsReplay, IsReplayed};
 
-use crate::replay::{Stop, replay};
-use cd_base::{Bytes, NoMemory};
-use cd_edges::{Sink, Source, write_all};
+use crate::ending::finish;
+use cd_edges::{Failed, Shelf, Sink, Source};
+use replay_core::replay;
 use std::alloc::Global;
 
 // Whether the words are those of a replay: `replay DIR`.
@@ -21,102 +20,97 @@ fn is_replay(words: &[String]) -> bool
     }
 }
 
-// A hexadecimal digit in lower case.
-fn digit_of(value: u8) -> u8
-    requires { value < 16 }
-    ensures { result ≡ hex_digit value }
+// Runs the script in the source over the clouds in the directory.
+fn replay_in<S: Source, K: Sink, V: Shelf>(
+    alloc: Global,
+    directory: &str,
+    source: &mut S,
+    sink: &mut K,
+    shelf: &mut V,
+) -> u8
+    ensures { IsReplayed result (record {
+      script = S.left source.old;
+      left = S.left source.new;
+      source_before = S.faults source.old;
+      source_after = S.faults source.new;
+      sink_before = K.faults sink.old;
+      sink_after = K.faults sink.new;
+      total_before = V.faults shelf.old;
+      total_after = V.faults shelf.new;
+      old = V.cloud_at shelf.old;
+      new = V.cloud_at shelf.new;
+    }) (K.written sink.old) (K.written sink.new) }
 {
-    if value < 10 {
-        b'0' + value
-    } else {
-        b'a' - 10 + value
+    match shelf.root(directory) {
+        Ok(()) => {}
+        Err(Failed) => return 5,
     }
+    let end = replay(alloc, source, sink, shelf);
+    finish(alloc, &end, sink)
 }
 
-// Appends a number in decimal digits.
-fn push_number(alloc: Global, number: u64, out: &mut Bytes) -> Result<(), NoMemory>
-    ensures { OnOk result (out.new ≡ out.old ++ decimal number) }
-{
-    let text = number.to_string(alloc)?;
-    out.extend(text.as_bytes())
-}
-
-// Appends the byte at a wrong place in two hexadecimal digits, or `end`.
-fn push_found(found: Option<u8>, out: &mut Bytes) -> Result<(), NoMemory>
-    ensures { OnOk result (out.new ≡ out.old ++ found_text found) }
-{
-    match found {
-        None => out.extend(b"end"),
-        Some(byte) => out.extend(&[digit_of(byte / 16), digit_of(byte % 16)]),
-    }
-}
-
-// The last line of a transcript whose script is wrong: `script LINE PLACE BYTE`.
-fn wrong_line(alloc: Global, line: u64, at: u64, found: Option<u8>) -> Result<Bytes, NoMemory>
-    ensures { IfOk result (λ text. text ≡ wrong_text line (record { at = at; found = found })) }
-{
-    let mut out = Bytes::new(alloc);
-    out.extend(b"script ")?;
-    push_number(alloc, line, &mut out)?;
-    out.push(b' ')?;
-    push_number(alloc, at, &mut out)?;
-    out.push(b' ')?;
-    push_found(found, &mut out)?;
-    out.push(b'\n')?;
-    Ok(out)
-}
-
-// Writes the last line of a transcript whose script is wrong.
-fn name_wrong<K: Sink>(alloc: Global, line: u64, at: u64, found: Option<u8>, sink: &mut K) -> u8
-    ensures { NamesWrong result (wrong_text line (record { at = at; found = found })) (K.written sink.old) (K.written sink.new) (K.faults sink.old) (K.faults sink.new) }
-{
-    let text = match wrong_line(alloc, line, at, found) {
-        Ok(text) => text,
-        Err(NoMemory) => return 6,
-    };
-    match write_all(sink, text.as_slice()) {
-        Ok(()) => 2,
-        Err(_) => 4,
-    }
-}
-
-/// Runs the program's words over a source and a sink, and answers the status. The words are those after the program's
-/// name; the table of them has `replay DIR`, which runs the script in the source and writes its transcript.
+/// Runs the program's words over a source, a sink and a shelf, and answers the status. The words are those after the
+/// program's name; the table of them has `replay DIR`, which runs the script in the source over empty clouds in DIR, and
+/// writes its transcript.
 ///
-/// | Status | Comes |
-/// |---|---|
-/// | 0 | the script was read to its end and each line answered |
-/// | 1 | exactly where the words are none of the table; nothing is read or written then |
-/// | 2 | exactly where a line that was reached is outside the grammar or a limit is passed; the last line names it |
-/// | 3 | only where the source's count of faults rose |
-/// | 4 | only where the sink's count of faults rose |
-/// | 6 | memory ran out |
-pub fn run<S: Source, K: Sink>(alloc: Global, words: &[String], source: &mut S, sink: &mut K) -> u8
-    ensures numbers { IsStatus result }
-    // 1 comes exactly where the words are none of the table.
+/// | Status | Comes | Last line |
+/// |---|---|---|
+/// | 0 | the script was read to its end and each line answered | `done E` |
+/// | 1 | exactly where the words are none of the table; nothing is done then | none |
+/// | 2 | a line that was reached is wrong, or a limit is passed; all before it are answered | `script LINE PLACE BYTE` |
+/// | 3 | only where the source's count of faults rose | none |
+/// | 4 | only where the sink's count of faults rose | none |
+/// | 5 | only where the shelf's count rose outside a request and a `restart` | `shelf CLOUD`; none where DIR failed |
+/// | 6 | memory ran out | none |
+/// | 7 | an area of a cloud wasn't empty | `store CLOUD AREA LEN` |
+/// | 7 | the first opening found damage, of a cloud that isn't told | `damaged CLOUD AT BYTE` |
+///
+/// LINE counts from 1, PLACE from 0; BYTE is the byte there in two hexadecimal digits, or `end`. AREA is `journal`, `shares`
+/// or `recipes`, and LEN and AT are in bytes.
+///
+/// With 3, 4 and 6 a front of the text was written, and else all of it.
+pub fn run<S: Source, K: Sink, V: Shelf>(
+    alloc: Global,
+    words: &[String],
+    source: &mut S,
+    sink: &mut K,
+    shelf: &mut V,
+) -> u8
+    ensures numbers { result ≤ 7 }
+    // 1 comes exactly where the words are none of the table. Nothing is done then.
     ensures usage { IsReplay (map string_bytes words.now) → result ≢ 1 }
-    ensures unused { ¬ IsReplay (map string_bytes words.now) → (result ≡ 1) × (source.new ≡ source.old) × (sink.new ≡ sink.old) }
-    // What is written is what the script is owed, or a front of it.
-    ensures whole { (script : List ℕ) → S.left source.old ≡ Some script → result ≡ 0 → IsWhole (due script) (K.written sink.old) (K.written sink.new) (S.left source.new) }
-    ensures wrong { (script : List ℕ) → S.left source.old ≡ Some script → result ≡ 2 → IsNamed (due script) (K.written sink.old) (K.written sink.new) }
-    ensures part { (script : List ℕ) → S.left source.old ≡ Some script → IsReplay (map string_bytes words.now) → IsPart (due script) (K.written sink.old) (K.written sink.new) }
-    // 3 and 4 come by their counts, which rise by nothing else.
-    ensures source_fault { result ≡ 3 → Rose (S.faults source.old) (S.faults source.new) }
-    ensures source_still { result ≢ 3 → S.faults source.new ≡ S.faults source.old }
-    ensures sink_fault { result ≡ 4 → Rose (K.faults sink.old) (K.faults sink.new) }
-    ensures sink_still { result ≢ 4 → K.faults sink.new ≡ K.faults sink.old }
-    // Where no count rises, and memory is enough, the status is the one that is due.
-    ensures complete { (script : List ℕ) → S.left source.old ≡ Some script → IsReplay (map string_bytes words.now) →
-        IsStill (S.faults source.old) (S.faults source.new) → IsStill (K.faults sink.old) (K.faults sink.new) → (result ≡ (due script).status) ⊎ (result ≡ 6) }
+    ensures unused { ¬ IsReplay (map string_bytes words.now)
+        → (result ≡ 1) × (source.new ≡ source.old) × (sink.new ≡ sink.old) × (shelf.new ≡ shelf.old) }
+    // What is written is a session's text, the disks and the replies are that session's, and the status has its cause.
+    ensures headline { IsReplay (map string_bytes words.now) → IsReplayed result (record {
+      script = S.left source.old;
+      left = S.left source.new;
+      source_before = S.faults source.old;
+      source_after = S.faults source.new;
+      sink_before = K.faults sink.old;
+      sink_after = K.faults sink.new;
+      total_before = V.faults shelf.old;
+      total_after = V.faults shelf.new;
+      old = V.cloud_at shelf.old;
+      new = V.cloud_at shelf.new;
+    }) (K.written sink.old) (K.written sink.new) }
+    // Where the source has a script, its clouds are empty and told, and no count rises, it is done or memory ran out.
+    ensures complete { IsReplay (map string_bytes words.now) → GoesWell (record {
+      script = S.left source.old;
+      left = S.left source.new;
+      source_before = S.faults source.old;
+      source_after = S.faults source.new;
+      sink_before = K.faults sink.old;
+      sink_after = K.faults sink.new;
+      total_before = V.faults shelf.old;
+      total_after = V.faults shelf.new;
+      old = V.cloud_at shelf.old;
+      new = V.cloud_at shelf.new;
+    }) → (result ≡ 0) ⊎ (result ≡ 6) }
 {
     if !is_replay(words) {
         return 1;
     }
-    match replay(alloc, source, sink) {
-        Ok(()) => 0,
-        Err(Stop::Wrong { line, at, found }) => name_wrong(alloc, line, at, found, sink),
-        Err(Stop::SourceFault) => 3,
-        Err(Stop::SinkFault) => 4,
-        Err(Stop::NoMemory) => 6,
-    }
+    let directory = words[1].as_str();
+    replay_in(alloc, directory, source, sink, shelf)
 }

@@ -1,11 +1,11 @@
 //! cdstore keeps each file on n clouds so that any k of them give it back.
 //!
-//! The program is thin: it answers `--help` and `--version` by itself, and else hands its words, its standard input and
-//! its standard output to `cd_top::run`, and ends with the status that this answers.
+//! The program is thin: it answers `--help` and `--version` by itself, and else hands its words, its standard input, its
+//! standard output and the folders of the disk to `cd_top::run`, and ends with the status that this answers.
 #![tactic(auto)]
 
 use cd_top::run;
-use real_edges::{StdSink, StdSource};
+use real_edges::{DirShelf, StdSink, StdSource};
 use std::env;
 use std::io::ErrorKind;
 use std::process::ExitCode;
@@ -13,13 +13,21 @@ use std::process::ExitCode;
 const HELP: &str = "\
 usage: cdstore replay DIR
 
-  replay DIR   run the session script on standard input, and write its transcript
+  replay DIR   run the session script on standard input over empty clouds in DIR, and write its transcript
 
-A script's first line is `cdstore 1 N K`: N clouds, of which any K give a file back. The others are
-  put USER PATH VERSION BYTES     store a version of a file; PATH and BYTES in hexadecimal
-  get USER PATH VERSION CLOUDS    read it back from K clouds, such as 1,2,3
+A script's first line is `cdstore 1 N K`, N clouds of which any K give a file back, or, with the most that each cloud
+may hold, `cdstore 1 N K SHARES RECIPES JOURNAL FPS OWNERS FILES`. The others are
+  upload USER PATH VERSION BYTES   begin a job, numbered from 1; PATH and BYTES in hexadecimal, - for no bytes
+  step JOB CLOUD                   make one request of the job to the cloud
+  lose JOB CLOUD                   the same, but the request is lost
+  drop JOB CLOUD                   the same, but the reply is lost
+  finish JOB                       make all requests that are left, cloud by cloud
+  get USER PATH VERSION CLOUDS     read the file back from K clouds, such as 1,2,3
+  arm CLOUD CALL KEEP              cut a write or sync of the cloud, the next one being 1; a cut write keeps KEEP bytes
+  restart CLOUD                    open the cloud again
 
-status: 0 done, 1 wrong words, 2 a wrong line, 3 input failed, 4 output failed, 6 out of memory
+status: 0 done, 1 wrong words, 2 a wrong line, 3 input failed, 4 output failed, 5 a disk failed, 6 out of memory,
+        7 a cloud isn't empty or is damaged
 ";
 
 const VERSION: &str = "cdstore 0.1.0\n";
@@ -52,7 +60,8 @@ fn main(rt: HostRuntime) -> ExitCode {
     }
     let mut source = StdSource::new(rt.stdin());
     let mut sink = StdSink::new(rt.stdout());
-    ExitCode::from(run(rt.alloc(), &words, &mut source, &mut sink))
+    let mut shelf = DirShelf::new(rt);
+    ExitCode::from(run(rt.alloc(), &words, &mut source, &mut sink, &mut shelf))
 }
 
 // Prints a text, and answers 0, or 4 where that failed.

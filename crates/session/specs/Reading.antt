@@ -5,13 +5,13 @@ use Rattle.std.specs.Str.{bytes_eq}
 use Rattle.cd_base.specs.Limits.{greatest_rooms}
 use Rattle.cd_base.specs.declared.shape.Shape.{Shape}
 use Rattle.cd_base.specs.declared.rooms.Rooms.{Rooms}
-use Rattle.grammar.specs.Readers.{◌>>=◌, ◌▷◌, whole}
+use Rattle.grammar.specs.Readers.{◌>>=◌, ◌▷◌, ◌▷▷◌, whole}
 use Rattle.grammar.specs.Words.{word_at, field_at, keep, onto}
 use Rattle.grammar.specs.Numerals.{number, capped}
 use Rattle.grammar.specs.Hexadecimal.{unhex}
 use Rattle.session.specs.Fault.{Fault}
-use Rattle.session.specs.Spelling.{file_limit, put_limit, least_journal}
-use Rattle.session.specs.ShapeOf.{shape_of}
+use Rattle.session.specs.Spelling.{file_limit, upload_limit, least_journal}
+use Rattle.transcript.specs.ShapeOf.{shape_of}
 use Rattle.session.specs.declared.event.Event.{Event}
 use Rattle.session.specs.declared.event.Event.TheVariants as events
 use Rattle.session.specs.declared.kinds.Command.{Command}
@@ -49,6 +49,19 @@ is_contents bytes = nat_lt 0 (length bytes) && nat_le (length bytes) file_limit
 unfoldable pub contents : List ℕ → Option (List ℕ)
 contents text = if bytes_eq text (45 ∷ []) then Some [] else keep is_contents (unhex text)
 
+abbrev pub user : List ℕ → Option ℕ
+user = number 0 4294967295
+
+abbrev pub version : List ℕ → Option ℕ
+version = number 0 18446744073709551615
+
+-- one of the jobs so far
+abbrev pub job : ℕ → List ℕ → Option ℕ
+job jobs = number 1 jobs
+
+abbrev pub cloud : Shape → List ℕ → Option ℕ
+cloud shape = number 0 (shape.n - 1)
+
 abbrev pub is_comma : ℕ → Bool
 is_comma b = b == 44
 
@@ -66,53 +79,137 @@ is_choice k clouds = length clouds == k && rises clouds
 
 -- the numbers between commas
 abbrev pub listed : Shape → List ℕ → Option (List ℕ)
-listed shape text = each (number 0 (shape.n - 1)) (slice_split is_comma text)
+listed shape text = each (cloud shape) (slice_split is_comma text)
 
 unfoldable pub clouds : Shape → List ℕ → Option (List ℕ)
 clouds shape text = keep (is_choice shape.k) (listed shape text)
+
+-- none of the clouds is this one
+abbrev pub lacks : ℕ → List ℕ → Bool
+lacks target [] = true
+lacks target (cloud ∷ clouds) = not (cloud == target) && lacks target clouds
+
+unfoldable pub others : Shape → ℕ → List ℕ → Option (List ℕ)
+others shape target text = keep (lacks target) (clouds shape text)
 
 -- ---- the lines after the first
 
 -- the first words of lines
 abbrev pub name : Command → List ℕ
-name commands.Put = codes "put"
+name commands.Upload = codes "upload"
+name commands.Step = codes "step"
+name commands.Lose = codes "lose"
+name commands.Drop = codes "drop"
+name commands.Finish = codes "finish"
 name commands.Get = codes "get"
+name commands.List = codes "list"
+name commands.Arm = codes "arm"
+name commands.Restart = codes "restart"
+name commands.Replace = codes "replace"
+name commands.Rebuild = codes "rebuild"
 
 abbrev pub all_commands : List Command
-all_commands = commands.Put ∷ commands.Get ∷ []
+all_commands =
+    commands.Upload ∷ commands.Step ∷ commands.Lose ∷ commands.Drop ∷ commands.Finish ∷ commands.Get ∷ commands.List ∷ commands.Arm
+    ∷ commands.Restart ∷ commands.Replace ∷ commands.Rebuild ∷ []
 
--- no put comes behind the last one that is allowed
+abbrev pub named_command : List ℕ → Option Command
+named_command text = find (λ c. bytes_eq text (name c)) all_commands
+
+-- no upload comes behind the last one that is allowed
 abbrev pub is_allowed : ℕ → Command → Bool
-is_allowed puts commands.Put = nat_lt puts put_limit
-is_allowed puts commands.Get = true
+is_allowed jobs commands.Upload = nat_lt jobs upload_limit
+is_allowed jobs c = true
 
 unfoldable pub command : ℕ → List ℕ → Option Command
-command puts text = keep (is_allowed puts) (find (λ c. bytes_eq text (name c)) all_commands)
+command jobs text = keep (is_allowed jobs) (named_command text)
 
-abbrev pub make_put : ℕ × (List ℕ × (ℕ × List ℕ)) → Event
-make_put x = events.Put (record { 0 = x.0 }) x.1.0 (record { 0 = x.1.1.0 }) x.1.1.1
+abbrev pub make_upload : ℕ × (List ℕ × (ℕ × List ℕ)) → Event
+make_upload x = events.Upload (record { 0 = x.0 }) x.1.0 (record { 0 = x.1.1.0 }) x.1.1.1
 
-unfoldable pub put_at : List ℕ → Result Event ℕ
-put_at = whole make_put (field_at (number 0 4294967295) ▷ field_at path ▷ field_at (number 0 18446744073709551615) ▷ field_at contents)
+unfoldable pub upload_at : List ℕ → Result Event ℕ
+upload_at = whole make_upload (field_at user ▷ field_at path ▷ field_at version ▷ field_at contents)
+
+-- a job and a cloud
+unfoldable pub lane_at : Shape → ℕ → List ℕ → Result (ℕ × ℕ) ℕ
+lane_at shape jobs = whole (λ x. x) (field_at (job jobs) ▷ field_at (cloud shape))
+
+unfoldable pub job_at : ℕ → List ℕ → Result ℕ ℕ
+job_at jobs = whole (λ x. x) (field_at (job jobs))
+
+unfoldable pub cloud_at : Shape → List ℕ → Result ℕ ℕ
+cloud_at shape = whole (λ x. x) (field_at (cloud shape))
 
 abbrev pub make_get : ℕ × (List ℕ × (ℕ × List ℕ)) → Event
 make_get x = events.Get (record { 0 = x.0 }) x.1.0 (record { 0 = x.1.1.0 }) x.1.1.1
 
 unfoldable pub get_at : Shape → List ℕ → Result Event ℕ
-get_at shape = whole make_get (field_at (number 0 4294967295) ▷ field_at path ▷ field_at (number 0 18446744073709551615) ▷ field_at (clouds shape))
+get_at shape = whole make_get (field_at user ▷ field_at path ▷ field_at version ▷ field_at (clouds shape))
 
-abbrev pub fields_at : Shape → Command → List ℕ → Result Event ℕ
-fields_at shape commands.Put bytes = put_at bytes
-fields_at shape commands.Get bytes = get_at shape bytes
+abbrev pub make_list : ℕ × ℕ → Event
+make_list x = events.List (record { 0 = x.0 }) (record { 0 = x.1 })
+
+unfoldable pub list_at : Shape → List ℕ → Result Event ℕ
+list_at shape = whole make_list (field_at user ▷ field_at (cloud shape))
+
+abbrev pub make_arm : ℕ × (ℕ × ℕ) → Event
+make_arm x = events.Arm (record { 0 = x.0 }) x.1.0 x.1.1
+
+unfoldable pub arm_at : Shape → List ℕ → Result Event ℕ
+arm_at shape = whole make_arm (field_at (cloud shape) ▷ field_at (number 0 4294967295) ▷ field_at (number 0 4294967295))
+
+abbrev pub make_rebuild : ℕ × (ℕ × List ℕ) → Event
+make_rebuild x = events.Rebuild (record { 0 = x.0 }) (record { 0 = x.1.0 }) x.1.1
+
+-- none of the clouds that are read is the target
+unfoldable pub rebuild_at : Shape → List ℕ → Result Event ℕ
+rebuild_at shape = whole make_rebuild (field_at user ▷ (field_at (cloud shape) ▷▷ λ target. field_at (others shape target)))
+
+abbrev pub make_step : ℕ × ℕ → Event
+make_step x = events.Step x.0 (record { 0 = x.1 })
+
+abbrev pub make_lose : ℕ × ℕ → Event
+make_lose x = events.Lose x.0 (record { 0 = x.1 })
+
+abbrev pub make_drop : ℕ × ℕ → Event
+make_drop x = events.Drop x.0 (record { 0 = x.1 })
+
+abbrev pub make_finish : ℕ → Event
+make_finish x = events.Finish x
+
+abbrev pub make_restart : ℕ → Event
+make_restart x = events.Restart (record { 0 = x })
+
+abbrev pub make_replace : ℕ → Event
+make_replace x = events.Replace (record { 0 = x })
+
+-- what was read, as something else
+abbrev pub read_as : {A B : Type 0} → (A → B) → Result A ℕ → Result B ℕ
+read_as make (Ok x) = Ok (make x)
+read_as make (Err left) = Err left
+
+-- what follows the first word
+abbrev pub fields_at : Shape → ℕ → Command → List ℕ → Result Event ℕ
+fields_at shape jobs commands.Upload bytes = upload_at bytes
+fields_at shape jobs commands.Step bytes = read_as make_step (lane_at shape jobs bytes)
+fields_at shape jobs commands.Lose bytes = read_as make_lose (lane_at shape jobs bytes)
+fields_at shape jobs commands.Drop bytes = read_as make_drop (lane_at shape jobs bytes)
+fields_at shape jobs commands.Finish bytes = read_as make_finish (job_at jobs bytes)
+fields_at shape jobs commands.Get bytes = get_at shape bytes
+fields_at shape jobs commands.List bytes = list_at shape bytes
+fields_at shape jobs commands.Arm bytes = arm_at shape bytes
+fields_at shape jobs commands.Restart bytes = read_as make_restart (cloud_at shape bytes)
+fields_at shape jobs commands.Replace bytes = read_as make_replace (cloud_at shape bytes)
+fields_at shape jobs commands.Rebuild bytes = rebuild_at shape bytes
 
 unfoldable pub event_left : Shape → ℕ → List ℕ → Result Event ℕ
-event_left shape puts line = do
-  c ← word_at (command puts) line
-  fields_at shape c.0 c.1
+event_left shape jobs line = do
+  c ← word_at (command jobs) line
+  fields_at shape jobs c.0 c.1
 
--- what a further line says, where so many puts came before it
+-- what a further line says, where so many uploads came before it
 unfoldable pub event_at : Shape → ℕ → List ℕ → Result Event Fault
-event_at shape puts line = placed line (event_left shape puts line)
+event_at shape jobs line = placed line (event_left shape jobs line)
 
 -- ---- the first line
 

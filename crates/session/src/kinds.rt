@@ -1,13 +1,14 @@
 //! The kinds of words that only scripts have.
 
-ghost use Rattle.std.specs.Prelude.{◌≡◌, IfOk, length, if◌then◌else◌, ◌==◌};
+ghost use Rattle.std.specs.Prelude.{◌≡◌, ◌≢◌, IfOk, IfErr, length, if◌then◌else◌, ◌==◌};
 ghost use Rattle.grammar.specs.Readers.{Gives};
 ghost use Rattle.grammar.specs.Words.{word_at, field_at};
-ghost use Rattle.session.specs.Reading.{literal, path, contents, clouds, command};
+ghost use Rattle.session.specs.Reading.{literal, path, contents, cloud, clouds, lacks, others, named_command, is_allowed, command};
+ghost use Rattle.cd_base.specs.Numbers.{numbers_of};
 
-use crate::limits::{FILE_LIMIT, PUT_LIMIT};
+use crate::limits::{FILE_LIMIT, UPLOAD_LIMIT};
 use cd_base::{Bytes, CloudNo, Clouds, NoMemory, Shape, is_path};
-use grammar::{Stop, after, before, cut_word, decode, len_to, number_of};
+use grammar::{Stop, after, before, cut_word, decode, len_to, number_of, u64_field};
 use std::alloc::Global;
 
 #[tactic(auto, unfolding(crate::specs::Reading::literal))]
@@ -20,7 +21,8 @@ fn literal_of(word: &[u8], name: &[u8]) -> Option<()>
 /// What follows one word, with which the line begins.
 #[tactic(auto, unfolding(grammar::specs::Words::word_at))]
 pub fn literal_word<'a>(line: &'a [u8], name: &[u8]) -> Result<&'a [u8], Stop>
-    ensures { Gives (λ x. (tt, x.now)) result (word_at (literal name.now) line.now) }
+    ensures value { Gives (λ x. (tt, x.now)) result (word_at (literal name.now) line.now) }
+    ensures memory { IfErr result (λ e. e ≢ Stop.Memory) }
 {
     let (word, rest) = cut_word(line);
     match literal_of(word, name) {
@@ -32,7 +34,8 @@ pub fn literal_word<'a>(line: &'a [u8], name: &[u8]) -> Result<&'a [u8], Stop>
 /// What follows one word behind a blank.
 #[tactic(auto, unfolding(grammar::specs::Words::field_at))]
 pub fn literal_field<'a>(bytes: &'a [u8], name: &[u8]) -> Result<&'a [u8], Stop>
-    ensures { Gives (λ x. (tt, x.now)) result (field_at (literal name.now) bytes.now) }
+    ensures value { Gives (λ x. (tt, x.now)) result (field_at (literal name.now) bytes.now) }
+    ensures memory { IfErr result (λ e. e ≢ Stop.Memory) }
 {
     match bytes {
         [b' ', bytes @ ..] => literal_word(bytes, name),
@@ -115,6 +118,14 @@ pub fn contents_field(alloc: Global, bytes: &[u8]) -> Result<(Bytes, &[u8]), Sto
     }
 }
 
+/// A cloud behind a blank, and what follows it.
+pub fn cloud_field(bytes: &[u8], shape: Shape) -> Result<(CloudNo, &[u8]), Stop>
+    ensures { Gives (λ x. (x.0.0, x.1.now)) result (field_at (cloud shape) bytes.now) }
+{
+    let (number, rest) = u64_field(bytes, 0, shape.n as u64 - 1)?;
+    Ok((CloudNo(number as u8), rest))
+}
+
 // The clouds, where there are k of them.
 fn full_of(clouds: Clouds, shape: Shape) -> Option<Clouds>
     ensures { result ≡ (if length clouds == shape.k then Some clouds else None) }
@@ -166,37 +177,148 @@ pub fn clouds_field(alloc: Global, bytes: &[u8], shape: Shape) -> Result<(Clouds
     }
 }
 
+// Whether none of the clouds is this one.
+fn has_none(clouds: &[CloudNo], cloud: CloudNo) -> bool
+    ensures { result ≡ lacks cloud.0 (numbers_of clouds.now) }
+{
+    match clouds {
+        [] => true,
+        [first, clouds @ ..] => first.0 != cloud.0 && has_none(clouds, cloud),
+    }
+}
+
+#[tactic(auto, unfolding(crate::specs::Reading::others))]
+fn others_of(
+    alloc: Global,
+    word: &[u8],
+    shape: Shape,
+    target: CloudNo,
+) -> Result<Option<Clouds>, NoMemory>
+    ensures { IfOk result (λ o. o ≡ others shape target.0 word.now) }
+{
+    match clouds_of(alloc, word, shape)? {
+        Some(clouds) => {
+            if has_none(clouds.as_slice(), target) {
+                Ok(Some(clouds))
+            } else {
+                Ok(None)
+            }
+        }
+        None => Ok(None),
+    }
+}
+
+/// k clouds behind a blank, of which none is the target, and what follows them.
+#[tactic(auto, unfolding(grammar::specs::Words::field_at, grammar::specs::Words::word_at))]
+pub fn others_field(
+    alloc: Global,
+    bytes: &[u8],
+    shape: Shape,
+    target: CloudNo,
+) -> Result<(Clouds, &[u8]), Stop>
+    ensures { Gives (λ x. (x.0, x.1.now)) result (field_at (others shape target.0) bytes.now) }
+{
+    match bytes {
+        [b' ', bytes @ ..] => {
+            let (word, rest) = cut_word(bytes);
+            match others_of(alloc, word, shape, target)? {
+                Some(clouds) => Ok((clouds, rest)),
+                None => Err(Stop::Left(bytes.len())),
+            }
+        }
+        _ => Err(Stop::Left(bytes.len())),
+    }
+}
+
 /// The first word of a line.
 #[derive(Clone, Copy, Debug, PartialEq, Eq)]
 pub enum Command {
-    Put,
+    Upload,
+    Step,
+    Lose,
+    Drop,
+    Finish,
     Get,
+    List,
+    Arm,
+    Restart,
+    Replace,
+    Rebuild,
 }
 
-#[tactic(auto, unfolding(crate::specs::Reading::command))]
-fn command_of(word: &[u8], puts: u32) -> Option<Command>
-    ensures { result ≡ command puts word.now }
+// The command of a name.
+fn named_by(word: &[u8]) -> Option<Command>
+    ensures { result ≡ named_command word.now }
 {
-    if word == b"put".as_slice() {
-        if puts < PUT_LIMIT {
-            Some(Command::Put)
-        } else {
-            None
-        }
+    if word == b"upload".as_slice() {
+        Some(Command::Upload)
+    } else if word == b"step".as_slice() {
+        Some(Command::Step)
+    } else if word == b"lose".as_slice() {
+        Some(Command::Lose)
+    } else if word == b"drop".as_slice() {
+        Some(Command::Drop)
+    } else if word == b"finish".as_slice() {
+        Some(Command::Finish)
     } else if word == b"get".as_slice() {
         Some(Command::Get)
+    } else if word == b"list".as_slice() {
+        Some(Command::List)
+    } else if word == b"arm".as_slice() {
+        Some(Command::Arm)
+    } else if word == b"restart".as_slice() {
+        Some(Command::Restart)
+    } else if word == b"replace".as_slice() {
+        Some(Command::Replace)
+    } else if word == b"rebuild".as_slice() {
+        Some(Command::Rebuild)
     } else {
         None
     }
 }
 
-/// The first word of a line, where so many puts came before it, and what follows it.
+// Whether a command may come where so many uploads came before.
+fn may_come(command: Command, jobs: u32) -> bool
+    ensures { result ≡ is_allowed jobs command }
+{
+    match command {
+        Command::Upload => jobs < UPLOAD_LIMIT,
+        Command::Step => true,
+        Command::Lose => true,
+        Command::Drop => true,
+        Command::Finish => true,
+        Command::Get => true,
+        Command::List => true,
+        Command::Arm => true,
+        Command::Restart => true,
+        Command::Replace => true,
+        Command::Rebuild => true,
+    }
+}
+
+#[tactic(auto, unfolding(crate::specs::Reading::command))]
+fn command_of(word: &[u8], jobs: u32) -> Option<Command>
+    ensures { result ≡ command jobs word.now }
+{
+    match named_by(word) {
+        Some(command) => {
+            if may_come(command, jobs) {
+                Some(command)
+            } else {
+                None
+            }
+        }
+        None => None,
+    }
+}
+
+/// The first word of a line, where so many uploads came before it, and what follows it.
 #[tactic(auto, unfolding(grammar::specs::Words::word_at))]
-pub fn first_word(line: &[u8], puts: u32) -> Result<(Command, &[u8]), Stop>
-    ensures { Gives (λ x. (x.0, x.1.now)) result (word_at (command puts) line.now) }
+pub fn first_word(line: &[u8], jobs: u32) -> Result<(Command, &[u8]), Stop>
+    ensures { Gives (λ x. (x.0, x.1.now)) result (word_at (command jobs) line.now) }
 {
     let (word, rest) = cut_word(line);
-    match command_of(word, puts) {
+    match command_of(word, jobs) {
         Some(command) => Ok((command, rest)),
         None => Err(Stop::Left(line.len())),
     }

@@ -1,19 +1,20 @@
-//! The lines of a session: its script, which is read, and its transcript, which is written.
+//! A session's script and its transcript: the lines of a script, what each of them says, and the lines that answer it.
 #![tactic(auto)]
 
 mod event;
 mod header;
 mod kinds;
+mod laws;
 mod limits;
-mod line;
 mod lines;
 mod reading;
 mod window;
 
 pub use event::Event;
-pub use line::{Line, Refusal, write_line};
+pub use laws::law_of_scripts;
 pub use lines::{LineErr, LineReader};
 pub use reading::{ScriptErr, read_header, read_line};
+pub use transcript::{Line, News, Refusal, SkipWord, TargetWhy, write_line};
 
 #[cfg(test)]
 mod tests;

@@ -1,17 +1,19 @@
 //! Reading a line of a script.
 
-ghost use Rattle.std.specs.Prelude.{◌≡◌, ◌↔◌, ◌-◌, length, Ok, IfOk, slice_get};
+ghost use Rattle.std.specs.Prelude.{◌≡◌, ◌≢◌, ◌↔◌, ◌-◌, length, Ok, IfOk, IfErr, slice_get};
 ghost use Rattle.cd_base.specs.declared.shape.Shape.{Shape};
 ghost use Rattle.cd_base.specs.declared.rooms.Rooms.{Rooms};
 ghost use Rattle.grammar.specs.Readers.{Gives};
-ghost use Rattle.session.specs.Reading.{Reads, header_at, event_at, event_left, put_at, get_at};
+ghost use Rattle.session.specs.Reading.{Reads, header_at, event_at, event_left, fields_at, upload_at, lane_at, job_at, cloud_at, get_at, list_at, arm_at, rebuild_at};
 ghost use Rattle.session.specs.Spelling.{Fits, IsLine, IsHeader};
 ghost use Rattle.session.specs.declared.event.Event.{Event};
 
 use crate::Event;
 use crate::header::header_of;
-use crate::kinds::{Command, clouds_field, contents_field, first_word, path_field};
-use cd_base::{Rooms, Shape, UserId, Version};
+use crate::kinds::{
+    Command, cloud_field, clouds_field, contents_field, first_word, others_field, path_field,
+};
+use cd_base::{CloudNo, Rooms, Shape, UserId, Version};
 use grammar::{Stop, u32_field, u64_field};
 use std::alloc::Global;
 
@@ -46,9 +48,9 @@ fn wrong_at(line: &[u8], left: usize) -> ScriptErr
     }
 }
 
-#[tactic(auto, unfolding(crate::specs::Reading::put_at))]
-fn put_of(alloc: Global, bytes: &[u8]) -> Result<Event, Stop>
-    ensures { Gives (λ x. x) result (put_at bytes.now) }
+#[tactic(auto, unfolding(crate::specs::Reading::upload_at))]
+fn upload_of(alloc: Global, bytes: &[u8]) -> Result<Event, Stop>
+    ensures { Gives (λ x. x) result (upload_at bytes.now) }
 {
     let (user, bytes) = u32_field(bytes, 0, u32::MAX)?;
     let (path, bytes) = path_field(alloc, bytes)?;
@@ -57,12 +59,49 @@ fn put_of(alloc: Global, bytes: &[u8]) -> Result<Event, Stop>
     if !bytes.is_empty() {
         return Err(Stop::Left(bytes.len()));
     }
-    Ok(Event::Put {
+    Ok(Event::Upload {
         user: UserId(user),
         path,
         version: Version(version),
         bytes: contents,
     })
+}
+
+// A job and a cloud.
+#[tactic(auto, unfolding(crate::specs::Reading::lane_at))]
+fn lane_of(shape: Shape, jobs: u32, bytes: &[u8]) -> Result<(u32, CloudNo), Stop>
+    ensures { Gives (λ x. (x.0, x.1.0)) result (lane_at shape jobs bytes.now) }
+{
+    let (job, bytes) = u32_field(bytes, 1, jobs)?;
+    let (lane, bytes) = cloud_field(bytes, shape)?;
+    if !bytes.is_empty() {
+        return Err(Stop::Left(bytes.len()));
+    }
+    Ok((job, lane))
+}
+
+// A job.
+#[tactic(auto, unfolding(crate::specs::Reading::job_at))]
+fn job_of(jobs: u32, bytes: &[u8]) -> Result<u32, Stop>
+    ensures { Gives (λ x. x) result (job_at jobs bytes.now) }
+{
+    let (job, rest) = u32_field(bytes, 1, jobs)?;
+    if !rest.is_empty() {
+        return Err(Stop::Left(rest.len()));
+    }
+    Ok(job)
+}
+
+// A cloud.
+#[tactic(auto, unfolding(crate::specs::Reading::cloud_at))]
+fn cloud_of(shape: Shape, bytes: &[u8]) -> Result<CloudNo, Stop>
+    ensures { Gives (λ x. x.0) result (cloud_at shape bytes.now) }
+{
+    let (cloud, rest) = cloud_field(bytes, shape)?;
+    if !rest.is_empty() {
+        return Err(Stop::Left(rest.len()));
+    }
+    Ok(cloud)
 }
 
 #[tactic(auto, unfolding(crate::specs::Reading::get_at))]
@@ -84,25 +123,112 @@ fn get_of(alloc: Global, shape: Shape, bytes: &[u8]) -> Result<Event, Stop>
     })
 }
 
-#[tactic(auto, unfolding(crate::specs::Reading::event_left))]
-fn event_of(alloc: Global, shape: Shape, puts: u32, line: &[u8]) -> Result<Event, Stop>
-    ensures { Gives (λ x. x) result (event_left shape puts line.now) }
+#[tactic(auto, unfolding(crate::specs::Reading::list_at))]
+fn list_of(shape: Shape, bytes: &[u8]) -> Result<Event, Stop>
+    ensures { Gives (λ x. x) result (list_at shape bytes.now) }
 {
-    let (command, bytes) = first_word(line, puts)?;
-    match command {
-        Command::Put => put_of(alloc, bytes),
-        Command::Get => get_of(alloc, shape, bytes),
+    let (user, bytes) = u32_field(bytes, 0, u32::MAX)?;
+    let (cloud, bytes) = cloud_field(bytes, shape)?;
+    if !bytes.is_empty() {
+        return Err(Stop::Left(bytes.len()));
     }
+    Ok(Event::List {
+        user: UserId(user),
+        cloud,
+    })
+}
+
+#[tactic(auto, unfolding(crate::specs::Reading::arm_at))]
+fn arm_of(shape: Shape, bytes: &[u8]) -> Result<Event, Stop>
+    ensures { Gives (λ x. x) result (arm_at shape bytes.now) }
+{
+    let (cloud, bytes) = cloud_field(bytes, shape)?;
+    let (calls, bytes) = u32_field(bytes, 0, u32::MAX)?;
+    let (keep, bytes) = u32_field(bytes, 0, u32::MAX)?;
+    if !bytes.is_empty() {
+        return Err(Stop::Left(bytes.len()));
+    }
+    Ok(Event::Arm { cloud, calls, keep })
+}
+
+#[tactic(auto, unfolding(crate::specs::Reading::rebuild_at))]
+fn rebuild_of(alloc: Global, shape: Shape, bytes: &[u8]) -> Result<Event, Stop>
+    ensures { Gives (λ x. x) result (rebuild_at shape bytes.now) }
+{
+    let (user, bytes) = u32_field(bytes, 0, u32::MAX)?;
+    let (target, bytes) = cloud_field(bytes, shape)?;
+    let (from, bytes) = others_field(alloc, bytes, shape, target)?;
+    if !bytes.is_empty() {
+        return Err(Stop::Left(bytes.len()));
+    }
+    Ok(Event::Rebuild {
+        user: UserId(user),
+        target,
+        from,
+    })
+}
+
+// What a line asks for, by its first word.
+fn fields_of(
+    alloc: Global,
+    shape: Shape,
+    jobs: u32,
+    command: Command,
+    bytes: &[u8],
+) -> Result<Event, Stop>
+    ensures { Gives (λ x. x) result (fields_at shape jobs command bytes.now) }
+{
+    match command {
+        Command::Upload => upload_of(alloc, bytes),
+        Command::Step => {
+            let (job, lane) = lane_of(shape, jobs, bytes)?;
+            Ok(Event::Step { job, lane })
+        }
+        Command::Lose => {
+            let (job, lane) = lane_of(shape, jobs, bytes)?;
+            Ok(Event::Lose { job, lane })
+        }
+        Command::Drop => {
+            let (job, lane) = lane_of(shape, jobs, bytes)?;
+            Ok(Event::Drop { job, lane })
+        }
+        Command::Finish => {
+            let job = job_of(jobs, bytes)?;
+            Ok(Event::Finish { job })
+        }
+        Command::Get => get_of(alloc, shape, bytes),
+        Command::List => list_of(shape, bytes),
+        Command::Arm => arm_of(shape, bytes),
+        Command::Restart => {
+            let cloud = cloud_of(shape, bytes)?;
+            Ok(Event::Restart { cloud })
+        }
+        Command::Replace => {
+            let cloud = cloud_of(shape, bytes)?;
+            Ok(Event::Replace { cloud })
+        }
+        Command::Rebuild => rebuild_of(alloc, shape, bytes),
+    }
+}
+
+#[tactic(auto, unfolding(crate::specs::Reading::event_left))]
+fn event_of(alloc: Global, shape: Shape, jobs: u32, line: &[u8]) -> Result<Event, Stop>
+    ensures { Gives (λ x. x) result (event_left shape jobs line.now) }
+{
+    let (command, bytes) = first_word(line, jobs)?;
+    fields_of(alloc, shape, jobs, command, bytes)
 }
 
 /// What the first line of a script says, without its newline: `cdstore 1 N K`, and then nothing or six rooms, SHARES
 /// RECIPES JOURNAL FPS OWNERS FILES. The shape is that of N clouds of which any K give a file back; the rooms are the
-/// greatest where the line names none. `At` is the first field that fails; memory never runs out.
+/// greatest where the line names none. `At` is the first field that fails. It takes no memory, and `NoMemory` is no answer.
 #[tactic(auto, unfolding(crate::specs::Reading::header_at))]
 pub fn read_header(line: &[u8]) -> Result<(Shape, Rooms), ScriptErr>
     ensures reads { Reads result (header_at line.now) }
+    ensures memory { IfErr result (λ e. e ≢ ScriptErr.NoMemory) }
     // A line is read as what it is a spelling of, and no other line is read.
-    ensures grammar { (shape : Shape) (rooms : Rooms) → (header_at line.now ≡ Ok (shape, rooms)) ↔ IsHeader line.now (shape, rooms) }
+    ensures grammar { (shape : Shape) (rooms : Rooms)
+        → (header_at line.now ≡ Ok (shape, rooms)) ↔ IsHeader line.now (shape, rooms) }
 {
     match header_of(line) {
         Ok(header) => Ok(header),
@@ -111,17 +237,17 @@ pub fn read_header(line: &[u8]) -> Result<(Shape, Rooms), ScriptErr>
     }
 }
 
-/// What a further line of a script says, without its newline, where so many puts came before it. `At` is the first field
+/// What a further line of a script says, without its newline, where so many uploads came before it. `At` is the first field
 /// that fails: its first place, or the line's end where the field is missing, or the place of what stands behind the
 /// last field.
 #[tactic(auto, unfolding(crate::specs::Reading::event_at))]
-pub fn read_line(alloc: Global, shape: Shape, puts: u32, line: &[u8]) -> Result<Event, ScriptErr>
-    ensures reads { Reads result (event_at shape puts line.now) }
-    ensures fits { IfOk result (Fits shape puts) }
+pub fn read_line(alloc: Global, shape: Shape, jobs: u32, line: &[u8]) -> Result<Event, ScriptErr>
+    ensures reads { Reads result (event_at shape jobs line.now) }
+    ensures fits { IfOk result (Fits shape jobs) }
     // A line is read as the event that it is the spelling of, and no other line is read.
-    ensures grammar { (event : Event) → (event_at shape puts line.now ≡ Ok event) ↔ IsLine shape puts line.now event }
+    ensures grammar { (event : Event) → (event_at shape jobs line.now ≡ Ok event) ↔ IsLine shape jobs line.now event }
 {
-    match event_of(alloc, shape, puts, line) {
+    match event_of(alloc, shape, jobs, line) {
         Ok(event) => Ok(event),
         Err(Stop::Memory) => Err(ScriptErr::NoMemory),
         Err(Stop::Left(left)) => Err(wrong_at(line, left)),

@@ -1,91 +1,181 @@
 ghost use Rattle.std.specs.Prelude.{None};
 
 use super::*;
-use cd_base::{Bytes, CloudNo, Rooms, Shape, UserId, Version};
+use cd_base::{Clouds, Rooms, Shape};
 use cd_edges::{Failed, Source};
 use std::alloc::Global;
 use std::test::Fail;
 
-fn line_fails(alloc: Global, puts: u32, line: &[u8], place: u64, byte: Option<u8>) -> bool {
-    match Shape::of(4, 3) {
-        Some(shape) => {
-            read_line(alloc, shape, puts, line).err()
-                == Some(ScriptErr::At {
-                    at: place,
-                    found: byte,
-                })
+type Row = (&'static [u8], u64, Option<u8>);
+
+// Whether the lines of these rows, behind so many uploads, are wrong at these places, with these bytes there.
+fn are_wrong(alloc: Global, jobs: u32, rows: &[Row]) -> bool {
+    let Some(shape) = Shape::of(4, 3) else {
+        return false;
+    };
+    for (line, at, found) in rows {
+        let wrong = ScriptErr::At {
+            at: *at,
+            found: *found,
+        };
+        if read_line(alloc, shape, jobs, line).err() != Some(wrong) {
+            return false;
         }
-        None => false,
     }
+    true
 }
 
 #[test]
-fn wrong_puts(rt: HostRuntime) {
-    let a = rt.alloc();
-    assert!(rt; line_fails(a, 0, b"", 0, None));
-    assert!(rt; line_fails(a, 0, b"putt 1 61 1 41", 0, Some(b'p')));
-    assert!(rt; line_fails(a, 0, b" put 1 61 1 41", 0, Some(b' ')));
-    assert!(rt; line_fails(a, 1000, b"put x", 0, Some(b'p')));
-    assert!(rt; line_fails(a, 0, b"put", 3, None));
-    assert!(rt; line_fails(a, 0, b"put ", 4, None));
-    assert!(rt; line_fails(a, 0, b"put  1 61 1 41", 4, Some(b' ')));
-    assert!(rt; line_fails(a, 0, b"put 01 61 1 41", 4, Some(b'0')));
-    assert!(rt; line_fails(a, 0, b"put 4294967296 61 1 41", 4, Some(b'4')));
-    assert!(rt; line_fails(a, 0, b"put 1", 5, None));
-    assert!(rt; line_fails(a, 0, b"put 1 6 1 41", 6, Some(b'6')));
-    assert!(rt; line_fails(a, 0, b"put 1 6A 1 41", 6, Some(b'6')));
-    assert!(rt; line_fails(a, 0, b"put 1 6100 1 41", 6, Some(b'6')));
-    assert!(rt; line_fails(a, 0, b"put 1 - 1 41", 6, Some(b'-')));
-    assert!(rt; line_fails(a, 0, b"put 1 61", 8, None));
-    assert!(rt; line_fails(a, 0, b"put 1 61 18446744073709551616 41", 9, Some(b'1')));
-    assert!(rt; line_fails(a, 0, b"put 1 61 1", 10, None));
-    assert!(rt; line_fails(a, 0, b"put 1 61 1 4", 11, Some(b'4')));
-    assert!(rt; line_fails(a, 0, b"put 1 61 1 --", 11, Some(b'-')));
-    assert!(rt; line_fails(a, 0, b"put 1 61 1 ", 11, None));
-    assert!(rt; line_fails(a, 0, b"put 1 61 1 41 ", 13, Some(b' ')));
-    assert!(rt; line_fails(a, 0, b"put 1 61 1 41\r", 11, Some(b'4')));
+fn wrong_words(rt: HostRuntime) {
+    let rows: [Row; 8] = [
+        (b"", 0, None),
+        (b" step 1 0", 0, Some(b' ')),
+        (b"Step 1 0", 0, Some(b'S')),
+        (b"steps 1 0", 0, Some(b's')),
+        (b"put 1 61 1 41", 0, Some(b'p')),
+        (b"step", 4, None),
+        (b"step ", 5, None),
+        (b"step  1 0", 5, Some(b' ')),
+    ];
+    assert!(rt; are_wrong(rt.alloc(), 2, &rows));
+    let last: [Row; 1] = [(b"upload x", 0, Some(b'u'))];
+    assert!(rt; are_wrong(rt.alloc(), 1000, &last));
 }
 
 #[test]
-fn wrong_gets(rt: HostRuntime) {
-    let a = rt.alloc();
-    assert!(rt; line_fails(a, 0, b"get 1 61 1", 10, None));
-    assert!(rt; line_fails(a, 0, b"get 1 61 1 0,1", 11, Some(b'0')));
-    assert!(rt; line_fails(a, 0, b"get 1 61 1 0,1,2,3", 11, Some(b'0')));
-    assert!(rt; line_fails(a, 0, b"get 1 61 1 0,2,1", 11, Some(b'0')));
-    assert!(rt; line_fails(a, 0, b"get 1 61 1 0,1,1", 11, Some(b'0')));
-    assert!(rt; line_fails(a, 0, b"get 1 61 1 1,2,4", 11, Some(b'1')));
-    assert!(rt; line_fails(a, 0, b"get 1 61 1 0,1,,2", 11, Some(b'0')));
-    assert!(rt; line_fails(a, 0, b"get 1 61 1 0,1,2 x", 16, Some(b' ')));
+fn wrong_uploads(rt: HostRuntime) {
+    let rows: [Row; 14] = [
+        (b"upload 01 61 1 41", 7, Some(b'0')),
+        (b"upload 4294967296 61 1 41", 7, Some(b'4')),
+        (b"upload 1", 8, None),
+        (b"upload 1 6 1 41", 9, Some(b'6')),
+        (b"upload 1 6A 1 41", 9, Some(b'6')),
+        (b"upload 1 6100 1 41", 9, Some(b'6')),
+        (b"upload 1 - 1 41", 9, Some(b'-')),
+        (b"upload 1 61 18446744073709551616 41", 12, Some(b'1')),
+        (b"upload 1 61 1", 13, None),
+        (b"upload 1 61 1 4", 14, Some(b'4')),
+        (b"upload 1 61 1 --", 14, Some(b'-')),
+        (b"upload 1 61 1 ", 14, None),
+        (b"upload 1 61 1 41 ", 16, Some(b' ')),
+        (b"upload 1 61 1 41\r", 14, Some(b'4')),
+    ];
+    assert!(rt; are_wrong(rt.alloc(), 0, &rows));
 }
 
-fn is_put(event: &Event, name: &[u8], version: u64, text: &[u8]) -> bool {
+#[test]
+fn wrong_jobs_and_clouds(rt: HostRuntime) {
+    let none: [Row; 2] = [(b"finish 1", 7, Some(b'1')), (b"step 1 9", 5, Some(b'1'))];
+    assert!(rt; are_wrong(rt.alloc(), 0, &none));
+    let rows: [Row; 14] = [
+        (b"step 0 0", 5, Some(b'0')),
+        (b"step 1 4", 7, Some(b'4')),
+        (b"step 1 0 0", 8, Some(b' ')),
+        (b"lose 3 0", 5, Some(b'3')),
+        (b"lose 1 -", 7, Some(b'-')),
+        (b"lose 1 0 ", 8, Some(b' ')),
+        (b"drop 01 0", 5, Some(b'0')),
+        (b"drop 1", 6, None),
+        (b"drop 1 4", 7, Some(b'4')),
+        (b"drop 1 3 ", 8, Some(b' ')),
+        (b"finish", 6, None),
+        (b"finish 0", 7, Some(b'0')),
+        (b"finish 3", 7, Some(b'3')),
+        (b"finish 2 0", 8, Some(b' ')),
+    ];
+    assert!(rt; are_wrong(rt.alloc(), 2, &rows));
+}
+
+#[test]
+fn wrong_calls(rt: HostRuntime) {
+    let rows: [Row; 14] = [
+        (b"list x 4", 5, Some(b'x')),
+        (b"list 7 4", 7, Some(b'4')),
+        (b"list 7 3 0", 8, Some(b' ')),
+        (b"arm 4 1 0", 4, Some(b'4')),
+        (b"arm 3 4294967296 0", 6, Some(b'4')),
+        (b"arm 3 1", 7, None),
+        (b"arm 3 1 4294967296", 8, Some(b'4')),
+        (b"arm 3 1 0 0", 9, Some(b' ')),
+        (b"restart", 7, None),
+        (b"restart 03", 8, Some(b'0')),
+        (b"restart 3 0", 9, Some(b' ')),
+        (b"replace", 7, None),
+        (b"replace 4", 8, Some(b'4')),
+        (b"replace 0 0", 9, Some(b' ')),
+    ];
+    assert!(rt; are_wrong(rt.alloc(), 0, &rows));
+}
+
+#[test]
+fn wrong_choices(rt: HostRuntime) {
+    let rows: [Row; 15] = [
+        (b"get -1 61 1 0,1,2", 4, Some(b'-')),
+        (b"get 1 00 1 0,1,2", 6, Some(b'0')),
+        (b"get 1 61 x 0,1,2", 9, Some(b'x')),
+        (b"get 1 61 1", 10, None),
+        (b"get 1 61 1 0,1", 11, Some(b'0')),
+        (b"get 1 61 1 0,1,2,3", 11, Some(b'0')),
+        (b"get 1 61 1 0,2,1", 11, Some(b'0')),
+        (b"get 1 61 1 1,2,4", 11, Some(b'1')),
+        (b"get 1 61 1 0,1,,2", 11, Some(b'0')),
+        (b"get 1 61 1 0,1,2 x", 16, Some(b' ')),
+        (b"rebuild 4294967296 2 0,1,3", 8, Some(b'4')),
+        (b"rebuild 7 4 0,1,2", 10, Some(b'4')),
+        (b"rebuild 7 2 0,1,2", 12, Some(b'0')),
+        (b"rebuild 7 2 0,3,1", 12, Some(b'0')),
+        (b"rebuild 7 2 0,1,3 ", 17, Some(b' ')),
+    ];
+    assert!(rt; are_wrong(rt.alloc(), 0, &rows));
+}
+
+// An event's fields as numbers: a text's length, and the last of some clouds.
+fn numbers(event: &Event) -> [u64; 4] {
     match event {
-        Event::Put {
+        Event::Upload {
             user,
             path,
-            version: found,
+            version,
             bytes,
-        } => {
-            *user == UserId(7)
-                && path.as_slice() == name
-                && *found == Version(version)
-                && bytes.as_slice() == text
+        } => [
+            user.0 as u64,
+            path.len() as u64,
+            version.0,
+            bytes.len() as u64,
+        ],
+        Event::Step { job, lane } => [1, *job as u64, lane.0 as u64, 0],
+        Event::Lose { job, lane } => [2, *job as u64, lane.0 as u64, 0],
+        Event::Drop { job, lane } => [3, *job as u64, lane.0 as u64, 0],
+        Event::Finish { job } => [4, *job as u64, 0, 0],
+        Event::Get {
+            user,
+            path,
+            version,
+            clouds,
+        } => [
+            user.0 as u64,
+            path.len() as u64,
+            version.0,
+            last(clouds) as u64,
+        ],
+        Event::List { user, cloud } => [5, user.0 as u64, cloud.0 as u64, 0],
+        Event::Arm { cloud, calls, keep } => [6, cloud.0 as u64, *calls as u64, *keep as u64],
+        Event::Restart { cloud } => [7, cloud.0 as u64, 0, 0],
+        Event::Replace { cloud } => [8, cloud.0 as u64, 0, 0],
+        Event::Rebuild { user, target, from } => {
+            [9, user.0 as u64, target.0 as u64, last(from) as u64]
         }
-        Event::Get { .. } => false,
     }
 }
 
-fn is_get(event: &Event, number: u32, cloud: u8) -> bool {
-    match event {
-        Event::Put { .. } => false,
-        Event::Get { user, clouds, .. } => {
-            *user == UserId(number)
-                && clouds.len() == 3
-                && clouds.get(2).copied() == Some(CloudNo(cloud))
-        }
+fn last(clouds: &Clouds) -> u8 {
+    match clouds.as_slice() {
+        [.., cloud] => cloud.0,
+        _ => 255,
     }
 }
+
+type Read = (&'static [u8], [u64; 4]);
 
 #[test]
 fn events(rt: HostRuntime) {
@@ -93,22 +183,29 @@ fn events(rt: HostRuntime) {
         assert!(rt; false);
         return;
     };
-    match read_line(
-        rt.alloc(),
-        shape,
-        999,
-        b"put 7 6162 18446744073709551615 410a",
-    ) {
-        Ok(event) => assert!(rt; is_put(&event, b"ab", u64::MAX, b"A\n")),
-        Err(_) => assert!(rt; false),
-    }
-    match read_line(rt.alloc(), shape, 0, b"put 7 61 0 -") {
-        Ok(event) => assert!(rt; is_put(&event, b"a", 0, b"")),
-        Err(_) => assert!(rt; false),
-    }
-    match read_line(rt.alloc(), shape, 1000, b"get 4294967295 61 0 0,1,3") {
-        Ok(event) => assert!(rt; is_get(&event, u32::MAX, 3)),
-        Err(_) => assert!(rt; false),
+    let rows: [Read; 13] = [
+        (
+            b"upload 7 6162 18446744073709551615 410a",
+            [7, 2, u64::MAX, 2],
+        ),
+        (b"upload 7 61 0 -", [7, 1, 0, 0]),
+        (b"step 1 0", [1, 1, 0, 0]),
+        (b"lose 999 3", [2, 999, 3, 0]),
+        (b"drop 1 0", [3, 1, 0, 0]),
+        (b"finish 2", [4, 2, 0, 0]),
+        (b"get 4294967295 61 1 0,1,3", [4_294_967_295, 1, 1, 3]),
+        (b"list 8 2", [5, 8, 2, 0]),
+        (b"arm 0 3 57", [6, 0, 3, 57]),
+        (b"arm 3 0 4294967295", [6, 3, 0, 4_294_967_295]),
+        (b"restart 0", [7, 0, 0, 0]),
+        (b"replace 2", [8, 2, 0, 0]),
+        (b"rebuild 7 2 0,1,3", [9, 7, 2, 3]),
+    ];
+    for (line, wanted) in &rows {
+        match read_line(rt.alloc(), shape, 999, line) {
+            Ok(event) => assert!(rt; numbers(&event) == *wanted),
+            Err(_) => assert!(rt; false),
+        }
     }
 }
 
@@ -131,15 +228,17 @@ fn first_lines(rt: HostRuntime) {
     assert!(rt; header_fails(b"cdstore 1 4 3 0 0 63 0 0 0", 18, Some(b'6')));
     assert!(rt; header_fails(b"cdstore 1 4 3 0 0 64 0 0", 24, None));
     assert!(rt; header_fails(b"cdstore 1 4 3 0 0 64 0 0 16385", 25, Some(b'1')));
+    assert!(rt; header_fails(b"cdstore 1 4 3 0 0 64 0 0 1 1", 26, Some(b' ')));
     match read_header(b"cdstore 1 16 15") {
         Ok((shape, rooms)) => {
             assert!(rt; shape.n() == 16 && shape.k() == 15 && rooms == Rooms::greatest());
         }
         Err(_) => assert!(rt; false),
     }
-    match read_header(b"cdstore 1 4 3 1 2 64 4 5 6") {
+    match read_header(b"cdstore 1 16 15 1000 1001 1002 10 11 12") {
         Ok((_, rooms)) => {
-            assert!(rt; rooms.shares == 1 && rooms.journal == 64 && rooms.files == 6);
+            assert!(rt; rooms.shares == 1000 && rooms.recipes == 1001 && rooms.journal == 1002);
+            assert!(rt; rooms.fps == 10 && rooms.owners == 11 && rooms.files == 12);
         }
         Err(_) => assert!(rt; false),
     }
@@ -203,15 +302,15 @@ impl Source for Endless {
 
 #[test]
 fn lines_in_pieces(rt: HostRuntime) -> Result<(), Fail> {
-    for piece in 1..8_usize {
-        let mut source = source_of(b"one\n\nthree\n", piece, 0);
+    for piece in &[1_usize, 7, 65_536] {
+        let mut source = source_of(b"cdstore 1 4 3\n\nget 7 61 1 0,1,2\n", *piece, 0);
         let mut reader = LineReader::make(rt.alloc())?;
         assert!(rt; reader.next(&mut source) == Ok(true));
-        assert_eq!(rt; reader.line(), b"one".as_slice());
+        assert_eq!(rt; reader.line(), b"cdstore 1 4 3".as_slice());
         assert!(rt; reader.next(&mut source) == Ok(true));
         assert_eq!(rt; reader.line(), b"".as_slice());
         assert!(rt; reader.next(&mut source) == Ok(true));
-        assert_eq!(rt; reader.line(), b"three".as_slice());
+        assert_eq!(rt; reader.line(), b"get 7 61 1 0,1,2".as_slice());
         assert!(rt; reader.next(&mut source) == Ok(false));
     }
     Ok(())
@@ -223,9 +322,12 @@ fn lines_that_fail(rt: HostRuntime) -> Result<(), Fail> {
     let end = Err(LineErr::At { at: 0, found: None });
     assert!(rt; reader.next(&mut source_of(b"", 1, 0)) == end);
     let mut reader = LineReader::make(rt.alloc())?;
-    let mut source = source_of(b"one\ntwo", 2, 0);
+    let mut source = source_of(b"cdstore 1 4 3\nget 7 61 1 0,1,2", 2, 0);
     assert!(rt; reader.next(&mut source) == Ok(true));
-    let end = Err(LineErr::At { at: 3, found: None });
+    let end = Err(LineErr::At {
+        at: 16,
+        found: None,
+    });
     assert!(rt; reader.next(&mut source) == end);
     let mut reader = LineReader::make(rt.alloc())?;
     let mut source = source_of(b"one\ntwo\n", 3, 3);
@@ -238,32 +340,5 @@ fn lines_that_fail(rt: HostRuntime) -> Result<(), Fail> {
         found: Some(b'x'),
     });
     assert!(rt; reader.next(&mut source) == past);
-    Ok(())
-}
-
-#[test]
-fn transcript(rt: HostRuntime) -> Result<(), Fail> {
-    let Some(shape) = Shape::of(4, 3) else {
-        assert!(rt; false);
-        return Ok(());
-    };
-    let mut out = Bytes::new(rt.alloc());
-    let mut bytes = Bytes::new(rt.alloc());
-    bytes.extend(&[0, 171])?;
-    let why = Refusal::Missing { cloud: CloudNo(12) };
-    write_line(&Line::Opened { shape }, &mut out)?;
-    write_line(&Line::JobStored { job: 10 }, &mut out)?;
-    write_line(&Line::Exists, &mut out)?;
-    write_line(
-        &Line::Got {
-            bytes: Bytes::new(rt.alloc()),
-        },
-        &mut out,
-    )?;
-    write_line(&Line::Got { bytes }, &mut out)?;
-    write_line(&Line::Refused { why }, &mut out)?;
-    write_line(&Line::Done { events: 0 }, &mut out)?;
-    let text = b"open 4 3\nstored 10\nexists\ngot -\ngot 00ab\nrefused missing 12\ndone 0\n";
-    assert_eq!(rt; out.as_slice(), text.as_slice());
     Ok(())
 }

@@ -1,7 +1,8 @@
-use Rattle.cd_top.proofs.Named.{part_named}
+use Rattle.cd_top.proofs.Completing.{completes}
 use Rattle.cd_top.proofs.top.run.Goals as goal
 
-pub returns-in-Err-Wrong-clause-part : goal.returns-in-Err-Wrong-clause-part
-returns-in-Err-Wrong-clause-part g c script is replays =
-    let told = rw c.in-Err-Wrong.field-0-is at (c.in-Err-Wrong.ensures.told script is) in
-    part_named _ c.in-Err-Wrong.line _ _ _ _ _ _ _ told c.name_wrong.ensures
+pub returns-clause-unused : goal.returns-clause-unused
+returns-clause-unused g c = λ other. absurd (other (c.is_replay.ensures.0 c.if-not-is_replay.false))
+
+pub returns-clause-complete : goal.returns-clause-complete
+returns-clause-complete g c = λ replays well. completes _ _ _ _ c.replay_in.ensures well

@@ -1,0 +1,37 @@
+-- When a replay answers 0, or runs out of memory: a script within the limits, clouds that are empty and told, and
+-- nothing that fails.
+use Rattle.std.specs.Prelude.{◌≡◌, ℕ, ◌-◌, ◌^◌, ◌<◌, List, Some, IsTrue}
+use Rattle.cd_base.specs.declared.shape.Shape.{Shape}
+use Rattle.cd_base.specs.declared.rooms.Rooms.{Rooms}
+use Rattle.cd_edges.specs.declared.area.Area.{Area}
+use Rattle.cd_edges.specs.Disk.{Cloud}
+use Rattle.session.specs.declared.event.Event.{Event}
+use Rattle.vault.specs.Scripts.{Place, Reaches, IsEnd}
+use Rattle.replay_core.specs.Endings.{Call, IsEmptyAt}
+
+-- the bytes are a script for clouds of this shape, to its last line
+pub record IsScript (script : List ℕ) (shape : Shape) : Type 0 where
+  pub rooms : Rooms
+  pub events : List Event
+  pub place : Place
+  pub reaches : Reaches script shape rooms events place
+  pub ends : IsEnd place
+
+-- the count didn't rise, and isn't at its last value
+abbrev pub IsStill : ℕ → ℕ → Type 0
+IsStill before now = (now ≡ before) × (before < 2 ^ 64 - 1)
+
+abbrev pub IsNew : Cloud → Type 0
+IsNew cloud = IsTrue cloud.told × ((area : Area) → IsEmptyAt cloud area)
+
+-- Nothing fails in the call: the source has a script, its clouds are new, and no count rises.
+pub record GoesWell (call : Call) : Type 0 where
+  pub script : List ℕ
+  pub shape : Shape
+  pub has : call.script ≡ Some script
+  pub is_script : IsScript script shape
+  pub clouds : (cloud : ℕ) → cloud < shape.n → IsNew (call.old cloud)
+  pub counts : (cloud : ℕ) → cloud < shape.n → IsStill (call.old cloud).faults (call.new cloud).faults
+  pub total : IsStill call.total_before call.total_after
+  pub source : IsStill call.source_before call.source_after
+  pub sink : IsStill call.sink_before call.sink_after

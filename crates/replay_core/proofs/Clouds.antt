@@ -1,0 +1,174 @@
+-- Clouds before and at their first openings.
+use Rattle.std.proofs.Common.{◌≡◌, ℕ, ◌+◌, ◌<◌, ◌≤◌, Bool, true, false, [], refl, sym, ap, ◌∙◌, subst, inl, inr, arith}
+use Rattle.std.specs.Prelude.{◌≢◌, IsTrue, Result, Err, OnErr, IfErr}
+use Rattle.std.proofs.lemmas.Bool.{cases_eq}
+use Rattle.cd_base.specs.declared.ids.CloudNo.{CloudNo}
+use Rattle.cd_base.specs.declared.rooms.Rooms.{Rooms}
+use Rattle.cd_base.specs.declared.shape.Shape.{Shape}
+use Rattle.cd_edges.specs.declared.area.Area.TheVariants.{Journal}
+use Rattle.cd_edges.specs.Causes.{Rose}
+use Rattle.cd_edges.specs.Disk.{Cloud, Image, IsImage}
+use Rattle.cd_edges.specs.Shelf.{IsCall, Stays, HasFailed, KeepsCounts}
+use Rattle.cd_edges.proofs.Moments.{stayed, left_alone}
+use Rattle.commit_journal.specs.declared.errors.OpenErr.{OpenErr}
+use Rattle.commit_journal.specs.declared.errors.OpenErr.TheVariants as errors
+use Rattle.commit_journal.specs.declared.header.Header.{Header}
+use Rattle.commit_journal.specs.Openings.{OnFault}
+use Rattle.commit_journal.specs.Records.{is_begun}
+use Rattle.cloud_opening.specs.Replied.{IsOkOrFault}
+use Rattle.cloud_store.specs.Space.{IsWithin}
+use Rattle.cloud_store.specs.Standing.{StandsForSome}
+use Rattle.cloud_store.specs.Store.{StandsFor}
+use Rattle.user_dedup.specs.Dedup.{Begun}
+use Rattle.local_link.specs.Calls.{header_of}
+use Rattle.script_lines.specs.Stepping.{IsDamage}
+use Rattle.replay_core.specs.declared.end.ReplayEnd.{ReplayEnd}
+use Rattle.replay_core.specs.declared.end.ReplayEnd.TheVariants as ends
+use Rattle.replay_core.specs.Endings.{IsFirstFilled}
+use Rattle.replay_core.specs.Opening.{IsBlank, Prepares, PreparesAll, AreSame, IsEmpty, EndsEmpty, EndsOpening, EndsUnopened, IsEndOf}
+
+-- an image whose journal is empty stands for no commands
+pub stands_nothing : (image : Image) (header : Header) → image Journal ≡ [] → StandsFor image header []
+unfolding StandsFor
+stands_nothing image header e = (Begun, inr (ap is_begun e, refl))
+
+pub blank_stands : (header : Header) (cloud : Cloud) → IsBlank cloud → (image : Image) → IsImage cloud.now image
+    → StandsForSome header (λ list. list ≡ []) image
+blank_stands header cloud blank image is = ([], refl, stands_nothing image header (blank image Journal is))
+
+-- ---- an answer of Err
+
+pub on_err : (result : Result (Unit {0}) ReplayEnd) (end : ReplayEnd) (A : Type 0) → result ≡ Err end → A → OnErr result A
+on_err result end A same a = subst (λ (r : Result (Unit {0}) ReplayEnd). OnErr r A) (sym same) a
+
+pub if_err : (result : Result (Unit {0}) ReplayEnd) (end : ReplayEnd) (P : ReplayEnd → Type 0) → result ≡ Err end → P end → IfErr result P
+if_err result end P same p = subst (λ (r : Result (Unit {0}) ReplayEnd). IfErr r P) (sym same) p
+
+-- ---- one cloud
+
+-- of a call that leaves all but the counts
+pub prepares_still : (header : Header) (old new : ℕ → Cloud) (number before now : ℕ) → IsCall old new number before now
+    → Stays (old number) (new number) → Prepares header (old number) (new number)
+prepares_still header old new number before now call stays = record {
+  told = call.told;
+  later = call.later;
+  armings = call.armings;
+  images = λ told blank. stayed (old number) (new number) (StandsForSome header (λ list. list ≡ [])) stays (blank_stands header (old number) blank);
+}
+
+pub prepares_same : (header : Header) (old new : Cloud) → new ≡ old → Prepares header old new
+prepares_same header old new same = record {
+  told = ap (λ (c : Cloud). c.told) same;
+  later = (let e : new.faults ≡ old.faults = ap (λ (c : Cloud). c.faults) same in omega arith);
+  armings = ap (λ (c : Cloud). c.armings) same;
+  images = λ told blank. left_alone old new (StandsForSome header (λ list. list ≡ [])) same (blank_stands header old blank);
+}
+
+pub prepares_from : (header : Header) (old mid new : Cloud) → mid ≡ old → Prepares header mid new → Prepares header old new
+prepares_from header old mid new same is = subst (λ (c : Cloud). Prepares header c new) same is
+
+-- ---- clouds that are to be empty
+
+-- a call on one cloud behind calls that changed nothing
+pub prepares_one : (shape : Shape) (old mid new : ℕ → Cloud) (number : ℕ) → AreSame old mid
+    → ((header : Header) → Prepares header (mid number) (new number)) → number < shape.n
+    → ((other : ℕ) → other ≢ number → new other ≡ mid other) → PreparesAll shape old new
+prepares_one shape old mid new number same here below others = record {
+  each = λ cloud lt. elim (cases_eq cloud number) [
+    | inl e ↦ subst (λ (n : ℕ). Prepares (header_of shape n) (old n) (new n)) (sym e)
+        (prepares_from (header_of shape number) (old number) (mid number) (new number) (same number) (here (header_of shape number)))
+    | inr ne ↦ prepares_same (header_of shape cloud) (old cloud) (new cloud) (others cloud ne ∙ same cloud)
+  ];
+  others = λ cloud le. others cloud (λ e. absurd (past cloud e le)) ∙ same cloud;
+}
+  where
+    past : (cloud : ℕ) → cloud ≡ number → shape.n ≤ cloud → ⊥
+    past cloud e le = omega arith
+
+pub all_same : (shape : Shape) (old new : ℕ → Cloud) → AreSame old new → PreparesAll shape old new
+all_same shape old new same = record {
+  each = λ cloud lt. prepares_same (header_of shape cloud) (old cloud) (new cloud) (same cloud);
+  others = λ cloud le. same cloud;
+}
+
+pub more_empty : (old mid : ℕ → Cloud) (number : ℕ) → AreSame old mid → ((cloud : ℕ) → cloud < number → IsEmpty (old cloud))
+    → IsEmpty (mid number) → (cloud : ℕ) → cloud < number + 1 → IsEmpty (old cloud)
+more_empty old mid number same before here cloud lt = elim (cases_eq cloud number) [
+  | inl e ↦ subst (λ (n : ℕ). IsEmpty (old n)) (sym e) (subst IsEmpty (same number) here)
+  | inr ne ↦ before cloud (omega arith)
+]
+
+pub ends_empty : (shape : Shape) (old mid new : ℕ → Cloud) (number : ℕ) → number < shape.n → AreSame old mid
+    → ((cloud : ℕ) → cloud < number → IsEmpty (old cloud)) → (end : ReplayEnd) → EndsEmpty number (mid number) (new number) end
+    → EndsUnopened shape old new end
+ends_empty shape old mid new number below same before end is =
+    by_end end (subst (λ (c : Cloud). EndsEmpty number c (new number) end) (same number) is)
+  where
+    by_end : (end : ReplayEnd) → EndsEmpty number (old number) (new number) end → EndsUnopened shape old new end
+    by_end (ends.NotEmpty cloud area len) e = subst (λ (n : ℕ). (n < shape.n) × IsFirstFilled old n area len) (sym e.0) (
+      below,
+      record {
+        some = e.1;
+        clouds_before = λ other each lt told. before other lt told each;
+        areas_before = λ told. (e.2 told).0;
+        len_is = λ told. (e.2 told).1;
+      },
+    )
+    by_end (ends.ShelfFault cloud) e = subst (λ (n : ℕ). (n < shape.n) × Rose (old n).faults (new n).faults) (sym e.0) (below, e.1)
+    by_end (ends.Done events) e = absurd e
+    by_end (ends.Script line at found) e = absurd e
+    by_end ends.SourceFault e = absurd e
+    by_end ends.SinkFault e = absurd e
+    by_end ends.NoMemory e = absurd e
+    by_end (ends.Damaged cloud at byte) e = absurd e
+
+-- ---- a first opening
+
+pub not_told : (told : Bool) → (IsTrue told → ⊥) → told ≡ false
+not_told true never = absurd (never refl)
+not_told false _ = refl
+
+pub damaged_end : (cloud : CloudNo) (error : OpenErr) (at byte : ℕ) → error ≢ errors.Fault → IsDamage error at byte
+    → IsEndOf cloud error (ends.Damaged cloud at byte)
+damaged_end cloud errors.Fault at byte ne is = absurd (ne refl)
+damaged_end cloud (errors.NotBegun len) at byte ne is = (at, byte, is, refl)
+damaged_end cloud (errors.Damaged place found) at byte ne is = (at, byte, is, refl)
+damaged_end cloud (errors.OtherStore found asked) at byte ne is = (at, byte, is, refl)
+damaged_end cloud (errors.RoomsTooSmall room limit gate) at byte ne is = (at, byte, is, refl)
+damaged_end cloud errors.NoMemory at byte ne is = (at, byte, is, refl)
+
+-- an opening that ended with this error
+abbrev pub failed_by : OpenErr → Result ℕ OpenErr
+failed_by error = Err error
+
+pub ends_opening : (cloud : CloudNo) (old new : Cloud) (before now : ℕ) (error : OpenErr) (end : ReplayEnd) → IsEndOf cloud error end
+    → OnFault (failed_by error) (HasFailed old new before now) (KeepsCounts old new before now)
+    → (IsTrue old.told → IsOkOrFault (failed_by error)) → EndsOpening cloud.0 old new end
+ends_opening cloud old new before now errors.Fault end e counts may = subst (EndsOpening cloud.0 old new) (sym e) (refl, counts.cloud)
+ends_opening cloud old new before now (errors.NotBegun len) end e counts may = subst (EndsOpening cloud.0 old new) (sym e.3) (refl, not_told old.told may)
+ends_opening cloud old new before now (errors.Damaged place found) end e counts may = subst (EndsOpening cloud.0 old new) (sym e.3) (refl, not_told old.told may)
+ends_opening cloud old new before now (errors.OtherStore found asked) end e counts may = subst (EndsOpening cloud.0 old new) (sym e.3) (refl, not_told old.told may)
+ends_opening cloud old new before now (errors.RoomsTooSmall room limit gate) end e counts may = subst (EndsOpening cloud.0 old new) (sym e.3) (refl, not_told old.told may)
+ends_opening cloud old new before now errors.NoMemory end e counts may = subst (EndsOpening cloud.0 old new) (sym e.3) (refl, not_told old.told may)
+
+-- at one of the clouds
+pub ends_unopened : (shape : Shape) (old mid new : ℕ → Cloud) (number : ℕ) → number < shape.n → mid number ≡ old number
+    → (end : ReplayEnd) → EndsOpening number (mid number) (new number) end → EndsUnopened shape old new end
+ends_unopened shape old mid new number below same end is =
+    by_end end (subst (λ (c : Cloud). EndsOpening number c (new number) end) same is)
+  where
+    by_end : (end : ReplayEnd) → EndsOpening number (old number) (new number) end → EndsUnopened shape old new end
+    by_end (ends.ShelfFault cloud) e = subst (λ (n : ℕ). (n < shape.n) × Rose (old n).faults (new n).faults) (sym e.0) (below, e.1)
+    by_end (ends.Damaged cloud at byte) e = subst (λ (n : ℕ). (n < shape.n) × ((old n).told ≡ false)) (sym e.0) (below, e.1)
+    by_end (ends.NotEmpty cloud area len) e = absurd e
+    by_end (ends.Done events) e = absurd e
+    by_end (ends.Script line at found) e = absurd e
+    by_end ends.SourceFault e = absurd e
+    by_end ends.SinkFault e = absurd e
+    by_end ends.NoMemory e = absurd e
+
+-- ---- rooms
+
+-- the header fits
+pub none_within : (rooms : Rooms) → 64 ≤ rooms.journal → IsWithin rooms []
+none_within rooms least = record { fps = omega arith; owners = omega arith; files = omega arith; shares = omega arith; recipes = omega arith; journal = omega arith }

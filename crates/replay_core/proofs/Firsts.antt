@@ -1,0 +1,116 @@
+-- The first line.
+use Rattle.std.proofs.Common.{◌≡◌, ℕ, ◌+◌, ◌≤◌, Bool, true, false, List, [], length, refl, sym, ap, ◌∙◌, subst, inl, inr, arith}
+use Rattle.std.specs.Prelude.{Option, Some, None, Result, Ok, Err, IfSome, IfOk, IfErr, nat_lt, ◌==◌, if◌then◌else◌, take}
+use Rattle.cd_base.specs.declared.rooms.Rooms.{Rooms}
+use Rattle.cd_base.specs.declared.shape.Shape.{Shape}
+use Rattle.cd_base.specs.Limits.{greatest_rooms}
+use Rattle.cd_edges.specs.Causes.{Rose}
+use Rattle.cloud_state.specs.State.{AreRooms}
+use Rattle.cloud_store.specs.Space.{IsWithin}
+use Rattle.session.specs.Fault.{Fault}
+use Rattle.session.specs.Lines.{Lines, NextLine, TakesLine, next_line, after_line, line_length, room_after, script_limit, fault_at}
+use Rattle.session.specs.Reading.{header_at}
+use Rattle.session.specs.Spelling.{IsHeader}
+use Rattle.session.specs.declared.lines.LineErr.{LineErr}
+use Rattle.session.specs.declared.lines.LineErr.TheVariants as line_errors
+use Rattle.vault.specs.Scripts.{Place, Begins, FailsFirst, IsWrongFirst}
+use Rattle.replay_core.specs.declared.end.ReplayEnd.{ReplayEnd}
+use Rattle.replay_core.specs.declared.end.ReplayEnd.TheVariants as ends
+use Rattle.replay_core.specs.Opening.{before_first, IsThere, IsHead, EndsFirst, SaysHeader, end_without}
+use Rattle.replay_core.proofs.Clouds.{none_within}
+
+pub if_told : (o : Option (List ℕ)) (P : List ℕ → Type 0) → ((bytes : List ℕ) → o ≡ Some bytes → P bytes) → IfSome o P
+if_told None P f = tt
+if_told (Some bytes) P f = f bytes refl
+
+pub map_told : (o : Option (List ℕ)) (P Q : List ℕ → Type 0) → ((bytes : List ℕ) → P bytes → Q bytes) → IfSome o P → IfSome o Q
+map_told None P Q f p = tt
+map_told (Some bytes) P Q f p = f bytes p
+
+-- the rooms of a first line hold a store's header
+pub header_rooms : (line : List ℕ) (shape : Shape) (rooms : Rooms) → IsHeader line (shape, rooms) → AreRooms rooms × IsWithin rooms []
+header_rooms line shape rooms (inl x) =
+    subst (λ (r : Rooms). AreRooms r × IsWithin r []) (sym x.1)
+    (record { shares = same_le greatest_rooms.shares; recipes = same_le greatest_rooms.recipes; journal = same_le greatest_rooms.journal }, none_within greatest_rooms (omega arith))
+  where
+    same_le : (n : ℕ) → n ≤ n
+    same_le n = omega arith
+header_rooms line shape rooms (inr x) =
+    (record { shares = x.1.shares; recipes = x.1.recipes; journal = x.1.journal }, none_within rooms x.1.least)
+
+-- what was read of the first line
+pub head_here : (script : Option (List ℕ)) (old new : Lines) (left : Option (List ℕ)) (more : Bool) (line : List ℕ) (result : Result (Shape × Rooms) ReplayEnd)
+    → more ≡ true → old ≡ before_first → ((bytes : List ℕ) → script ≡ Some bytes → NextLine old bytes (Ok more) new left) → line ≡ new.line
+    → SaysHeader (header_at line) result → IfOk result (λ (h : Shape × Rooms). IsHead script h.0 h.1 new left)
+head_here script old new left more line (Err end) so first told is says = tt
+head_here script old new left more line (Ok header) so first told is says = if_told script
+    (λ (bytes : List ℕ). (place : Place) × Begins bytes header.0 header.1 place × IsThere new left 0 place)
+    (λ bytes e.
+    let n : TakesLine before_first bytes new left = subst (λ (b : Bool). NextLine before_first bytes (Ok b) new left) so (subst (λ (o : Lines). NextLine o bytes (Ok more) new left) first (told bytes e)) in
+    let at : Place = record { jobs = 0; taken = length new.line + 1; rest = after_line bytes } in (
+      at,
+      record { line = new.line; here = n.line; says = ap header_at (sym is) ∙ says; next_is = refl },
+      record { jobs_are = refl; taken = (let e = n.taken in omega arith); unread = n.unread; left_is = n.left_is; rest = n.follows },
+    ))
+
+pub end_here : (script : Option (List ℕ)) (old new : Lines) (left : Option (List ℕ)) (more : Bool) (line : List ℕ) (result : Result (Shape × Rooms) ReplayEnd) (before now : ℕ)
+    → more ≡ true → old ≡ before_first → ((bytes : List ℕ) → script ≡ Some bytes → NextLine old bytes (Ok more) new left) → line ≡ new.line
+    → SaysHeader (header_at line) result → IfErr result (EndsFirst script before now)
+end_here script old new left more line (Ok header) before now so first told is says = tt
+end_here script old new left more line (Err (ends.Script number at found)) before now so first told is says = (
+  says.0,
+  if_told script
+      (λ (bytes : List ℕ). IsWrongFirst bytes (record { at = at; found = found }))
+      (λ bytes e.
+      let n : TakesLine before_first bytes new left = subst (λ (b : Bool). NextLine before_first bytes (Ok b) new left) so (subst (λ (o : Lines). NextLine o bytes (Ok more) new left) first (told bytes e)) in
+      subst (λ (r : Result (Option (List ℕ)) Fault). FailsFirst r (record { at = at; found = found })) (sym n.line)
+      (ap header_at (sym is) ∙ says.1)),
+)
+end_here script old new left more line (Err ends.NoMemory) before now so first told is says = tt
+end_here script old new left more line (Err (ends.Done events)) before now so first told is says = absurd says
+end_here script old new left more line (Err ends.SourceFault) before now so first told is says = absurd says
+end_here script old new left more line (Err ends.SinkFault) before now so first told is says = absurd says
+end_here script old new left more line (Err (ends.ShelfFault cloud)) before now so first told is says = absurd says
+end_here script old new left more line (Err (ends.NotEmpty cloud area len)) before now so first told is says = absurd says
+end_here script old new left more line (Err (ends.Damaged cloud at byte)) before now so first told is says = absurd says
+
+-- an input has a first line, or is wrong there
+never_over : (rest : List ℕ) → next_line 0 rest ≡ Ok None → ⊥
+never_over rest e =
+    by_tests (nat_lt (room_after 0) (line_length rest)) (line_length rest == length rest) (0 + line_length rest == script_limit)
+    (fault_at rest (room_after 0)) (fault_at rest (line_length rest)) (fault_at rest (line_length rest)) (take (line_length rest) rest) e
+  where
+    by_tests : (a b c : Bool) (f g h : Fault) (line : List ℕ)
+        → (if a then Err f else if b then Err g else if c then Err h else Ok (Some line)) ≡ Ok None → ⊥
+    by_tests true b c f g h line e = cc
+    by_tests false true c f g h line e = cc
+    by_tests false false true f g h line e = cc
+    by_tests false false false f g h line e = cc
+
+pub no_end_first : (script : Option (List ℕ)) (old new : Lines) (left : Option (List ℕ)) (more : Bool) (before now : ℕ) → more ≡ false → old ≡ before_first
+    → ((bytes : List ℕ) → script ≡ Some bytes → NextLine old bytes (Ok more) new left) → EndsFirst script before now (ends.Script 1 0 None)
+no_end_first script old new left true before now over first told = absurd (let f : true ≡ false = over in cc)
+no_end_first script old new left false before now over first told = (
+  refl,
+  if_told script
+      (λ (bytes : List ℕ). IsWrongFirst bytes (record { at = 0; found = None }))
+      (λ bytes e. absurd (never_over bytes (subst (λ (o : Lines). NextLine o bytes (Ok false) new left) first (told bytes e)).none)),
+)
+
+-- the reader's error
+abbrev pub failed_line : LineErr → Result Bool LineErr
+failed_line error = Err error
+
+pub end_told : (script : Option (List ℕ)) (old new : Lines) (left : Option (List ℕ)) (error : LineErr) (end : ReplayEnd) (before now : ℕ) → old ≡ before_first
+    → ((bytes : List ℕ) → script ≡ Some bytes → NextLine old bytes (failed_line error) new left)
+    → (failed_line error ≡ Err line_errors.Fault → Rose before now) → end ≡ end_without 1 error → EndsFirst script before now end
+end_told script old new left line_errors.Fault end before now first told cause e = subst (EndsFirst script before now) (sym e) (cause refl)
+end_told script old new left line_errors.NoMemory end before now first told cause e = subst (EndsFirst script before now) (sym e) tt
+end_told script old new left (line_errors.At at found) end before now first told cause e = subst (EndsFirst script before now) (sym e) (
+  refl,
+  if_told script
+      (λ (bytes : List ℕ). IsWrongFirst bytes (record { at = at; found = found }))
+      (λ bytes s.
+      subst (λ (r : Result (Option (List ℕ)) Fault). FailsFirst r (record { at = at; found = found }))
+      (sym (subst (λ (o : Lines). NextLine o bytes (failed_line (line_errors.At at found)) new left) first (told bytes s))) refl),
+)

@@ -1,0 +1,127 @@
+-- Why a replay ends, by the status that is answered, and which last line is due then.
+use Rattle.std.specs.Prelude.{◌≡◌, ◌≢◌, ℕ, ◌+◌, ◌<◌, ◌≤◌, ◌⊎◌, false, IsTrue, List, [], length, Option, Some, None, IfSome, if◌then◌else◌}
+use Rattle.cd_edges.specs.declared.area.Area.{Area}
+use Rattle.cd_edges.specs.declared.area.Area.TheVariants as areas
+use Rattle.cd_edges.specs.Causes.{Rose}
+use Rattle.cd_edges.specs.Disk.{Cloud, reads}
+use Rattle.session.specs.Fault.{Fault}
+use Rattle.cd_base.specs.declared.shape.Shape.{Shape}
+use Rattle.cd_base.specs.declared.rooms.Rooms.{Rooms}
+use Rattle.vault.specs.Scripts.{Place, Begins, Reaches, IsEnd, IsWrong, IsWrongFirst}
+use Rattle.vault.specs.Headline.{Session, Begun, script_in}
+
+-- what the outside tells of a call: the source's bytes before and after; the counts of the source, the sink and the
+-- whole shelf before and after; and the clouds before and after
+pub record Call : Type 0 where
+  pub script : Option (List ℕ)
+  pub left : Option (List ℕ)
+  pub source_before : ℕ
+  pub source_after : ℕ
+  pub sink_before : ℕ
+  pub sink_after : ℕ
+  pub total_before : ℕ
+  pub total_after : ℕ
+  pub old : ℕ → Cloud
+  pub new : ℕ → Cloud
+
+pub data EndingLine : Type 0 where
+  NoEnding : EndingLine
+  DoneEnding : (events : ℕ) → EndingLine
+  ScriptEnding : (line : ℕ) (fault : Fault) → EndingLine
+  ShelfEnding : (cloud : ℕ) → EndingLine
+  StoreEnding : (cloud : ℕ) (area : Area) (len : ℕ) → EndingLine
+  DamagedEnding : (cloud at byte : ℕ) → EndingLine
+
+-- the lines that were carried out are those that the script begins with, and it goes on at this place
+abbrev pub HasRead : Call → Session → Place → Type 0
+HasRead call run place =
+    IfSome call.script (λ script. Reaches script run.setting.shape run.setting.rooms (script_in run) place)
+
+abbrev pub HasReadSome : Call → Session → Type 0
+HasReadSome call run = (place : Place) × HasRead call run place
+
+-- the line behind those that were carried out is wrong at this place; before the clouds are opened that is the first
+-- line
+abbrev pub IsWrongAt : Call → Session → Fault → Type 0
+IsWrongAt call run fault = IfSome call.script (λ script.
+    ((run.opened ≡ false) × IsWrongFirst script fault)
+    ⊎ (IsTrue run.opened × ((place : Place) × HasRead call run place × IsWrong run.setting.shape place fault)))
+
+-- where the script begins with a first line, that line says the session's shape and rooms
+abbrev pub HasHeader : Call → Session → Type 0
+HasHeader call run = IfSome call.script (λ script. (shape : Shape) (rooms : Rooms) (place : Place)
+    → Begins script shape rooms place → (run.setting.shape ≡ shape) × (run.setting.rooms ≡ rooms))
+
+-- a line was begun in which the shelf may fail outside an execution and outside an opening: none before replacements
+-- come
+abbrev pub MayFailIn : Option Begun → ℕ → Type 0
+MayFailIn begun cloud = ⊥
+
+-- the cloud's area reads as nothing
+abbrev pub IsEmptyAt : Cloud → Area → Type 0
+IsEmptyAt cloud area = reads cloud.now area ≡ []
+
+-- the areas in front of this one are empty: journal, shares, recipes
+abbrev pub AreEmptyBefore : Area → Cloud → Type 0
+AreEmptyBefore areas.Journal cloud = Unit {0}
+AreEmptyBefore areas.Shares cloud = IsEmptyAt cloud areas.Journal
+AreEmptyBefore areas.Recipes cloud = IsEmptyAt cloud areas.Journal × IsEmptyAt cloud areas.Shares
+
+-- the first area that isn't empty, and its length
+pub record IsFirstFilled (clouds : ℕ → Cloud) (cloud : ℕ) (area : Area) (len : ℕ) : Type 0 where
+  pub some : len ≢ 0
+  pub clouds_before : (other : ℕ) (each : Area) → other < cloud → IsTrue (clouds other).told
+      → IsEmptyAt (clouds other) each
+  pub areas_before : IsTrue (clouds cloud).told → AreEmptyBefore area (clouds cloud)
+  pub len_is : IsTrue (clouds cloud).told → len ≡ length (reads (clouds cloud).now area)
+
+-- what has happened where the ending line is due
+abbrev pub IsDue : Call → Session → EndingLine → Type 0
+IsDue call run NoEnding = Unit {0}
+IsDue call run (DoneEnding events) =
+    IsTrue run.opened × (run.begun ≡ None) × (events ≡ length run.history)
+    × ((place : Place) × HasRead call run place × IfSome call.script (λ script. IsEnd place × (call.left ≡ Some [])))
+IsDue call run (ScriptEnding line fault) =
+    (run.begun ≡ None) × (line ≡ (if run.opened then length run.history + 2 else 1)) × IsWrongAt call run fault
+IsDue call run (ShelfEnding cloud) =
+    (cloud < run.setting.shape.n) × HasReadSome call run × Rose (run.last cloud).faults (call.new cloud).faults
+    × ((run.opened ≡ false) ⊎ MayFailIn run.begun cloud)
+IsDue call run (StoreEnding cloud area len) =
+    (run.opened ≡ false) × (cloud < run.setting.shape.n) × HasReadSome call run × IsFirstFilled call.old cloud area len
+IsDue call run (DamagedEnding cloud at byte) =
+    (run.opened ≡ false) × (cloud < run.setting.shape.n) × HasReadSome call run × ((call.old cloud).told ≡ false)
+
+abbrev pub IsDone : EndingLine → Type 0
+IsDone (DoneEnding events) = Unit {0}
+IsDone line = ⊥
+
+abbrev pub IsOfScript : EndingLine → Type 0
+IsOfScript (ScriptEnding line fault) = Unit {0}
+IsOfScript line = ⊥
+
+abbrev pub IsOfShelf : EndingLine → Type 0
+IsOfShelf (ShelfEnding cloud) = Unit {0}
+IsOfShelf line = ⊥
+
+abbrev pub IsOfStore : EndingLine → Type 0
+IsOfStore (StoreEnding cloud area len) = Unit {0}
+IsOfStore (DamagedEnding cloud at byte) = Unit {0}
+IsOfStore line = ⊥
+
+-- the place that the shelf was to name couldn't be made or found
+abbrev pub IsRootless : Call → Session → EndingLine → Type 0
+IsRootless call run line = (line ≡ NoEnding) × (run.opened ≡ false) × Rose call.total_before call.total_after
+
+-- The status has its cause. Want of memory, 6, has none.
+pub record HasCause (status : ℕ) (call : Call) (run : Session) (line : EndingLine) : Type 0 where
+  pub known : (status ≤ 7) × (status ≢ 1)
+  pub header : HasHeader call run
+  pub read : IsTrue run.opened → HasReadSome call run
+  pub due : IsDue call run line
+  pub done : status ≡ 0 → IsDone line
+  pub wrong : status ≡ 2 → IsOfScript line
+  pub source : status ≡ 3 → (line ≡ NoEnding) × (run.begun ≡ None) × Rose call.source_before call.source_after
+  pub sink : status ≡ 4 → Rose call.sink_before call.sink_after
+  pub sink_still : status ≢ 4 → status ≢ 6 → call.sink_after ≡ call.sink_before
+  pub shelf : status ≡ 5 → IsOfShelf line ⊎ IsRootless call run line
+  pub store : status ≡ 7 → IsOfStore line

@@ -1,0 +1,159 @@
+-- How far a replay has come behind its openings, and how each part of a line ends.
+use Rattle.std.specs.Prelude.{◌≡◌, ℕ, ◌+◌, ◌<◌, ◌≤◌, ◌++◌, IsTrue, List, [], ◌∷◌, length, Option, Some, None, Result, Ok, Err, IfSome}
+use Rattle.std.specs.Io.KnownBytes.{Appends}
+use Rattle.cd_base.specs.declared.shape.Shape.{Shape}
+use Rattle.cd_edges.specs.Causes.{Rose}
+use Rattle.cd_edges.specs.Disk.{Cloud}
+use Rattle.cloud_store.specs.Space.{full_for}
+use Rattle.cloud_store.specs.Standing.{ImagesSince}
+use Rattle.upload_job.specs.Lanes.{LaneView}
+use Rattle.local_link.specs.declared.fate.Fate.TheVariants.{Deliver}
+use Rattle.local_link.specs.declared.link.LocalLink.{LocalLink}
+use Rattle.local_link.specs.Calls.{header_of}
+use Rattle.local_link.specs.Tells.{server_at, full_by}
+use Rattle.session.specs.Fault.{Fault}
+use Rattle.session.specs.Lines.{Lines}
+use Rattle.session.specs.declared.reading.ScriptErr.{ScriptErr}
+use Rattle.session.specs.declared.reading.ScriptErr.TheVariants as script_errors
+use Rattle.session.specs.Spelling.{Fits, IsTyped}
+use Rattle.session.specs.declared.event.Event.{Event}
+use Rattle.transcript.specs.declared.line.Line.{Line}
+use Rattle.transcript.specs.declared.line.Line.TheVariants as lines
+use Rattle.vault.specs.Scripts.{is_carried, jobs_after, jobs_of, AreLines, Place, Says, Reaches, IsEnd, IsWrong}
+use Rattle.vault.specs.Texts.{text_of}
+use Rattle.vault.specs.Vault.{Setting, Vault, opening}
+use Rattle.vault.specs.Run.{Answered, Turns, script_of, moments_of, answers_of, IsListIn}
+use Rattle.script_lines.specs.At.{IsAt}
+use Rattle.script_lines.specs.Does.{Goes, IsCutOff}
+use Rattle.replay_core.specs.declared.end.ReplayEnd.{ReplayEnd}
+use Rattle.replay_core.specs.declared.end.ReplayEnd.TheVariants as ends
+use Rattle.replay_core.specs.Endings.{Call}
+use Rattle.replay_core.specs.Opening.{IsHead, IsThere}
+use Rattle.replay_core.specs.Replayed.{BeginsEmpty}
+
+-- ---- where a replay begins, and how far it has come
+
+-- what is known as a replay begins
+pub record Start : Type 0 where
+  pub script : Option (List ℕ)
+  pub old : ℕ → Cloud
+  pub source : ℕ
+  pub sink : ℕ
+  pub total : ℕ
+  pub written : Option (List ℕ)
+
+-- from there to here
+abbrev pub call_of : Start → Option (List ℕ) → ℕ → ℕ → ℕ → (ℕ → Cloud) → Call
+call_of start left source sink total new = record {
+  script = start.script;
+  left = left;
+  source_before = start.source;
+  source_after = source;
+  sink_before = start.sink;
+  sink_after = sink;
+  total_before = start.total;
+  total_after = total;
+  old = start.old;
+  new = new;
+}
+
+-- The first line is read, the clouds read as nothing, and none is opened yet.
+pub record IsReady {V : Type 0} (clouds : V → ℕ → Cloud) (start : Start) (s : Setting) (link : LocalLink V)
+    (reader : Lines) (left : Option (List ℕ)) (source : ℕ) (written : Option (List ℕ)) (sink : ℕ) : Type 0 where
+  pub told : (cloud : ℕ) → s.told cloud ≡ (start.old cloud).told
+  pub shape : link.servers.shape ≡ s.shape
+  pub rooms : (cloud : ℕ) → cloud < s.shape.n → full_by (server_at link.servers cloud) ≡ full_for s.rooms
+  pub fate : link.fate ≡ Deliver
+  pub same : (cloud : ℕ) → clouds link.shelf.now cloud ≡ start.old cloud
+  pub read : IsHead start.script s.shape s.rooms reader left
+  pub source_is : source ≡ start.source
+  pub sink_is : sink ≡ start.sink
+  pub written_is : written ≡ start.written
+
+-- The clouds are opened, and these lines are answered.
+pub record HasCome {V : Type 0} (clouds : V → ℕ → Cloud) (start : Start) (s : Setting) (link : LocalLink V)
+    (jobs : List (List LaneView)) (reader : Lines) (left : Option (List ℕ)) (source : ℕ)
+    (written : Option (List ℕ)) (sink : ℕ) (events : ℕ) : Type 0 where
+  pub history : List Answered
+  pub at : Vault
+  pub told : (cloud : ℕ) → s.told cloud ≡ (start.old cloud).told
+  pub count : length history ≡ events
+  pub is_at : IsAt clouds s link jobs at
+  pub turns : Turns s (opening start.old) history at
+  pub are_lines : AreLines s.shape 0 (script_of history)
+  pub uploads : jobs_of 0 (script_of history) ≡ length jobs
+  pub images : BeginsEmpty start.old → (cloud : ℕ) → cloud < s.shape.n → IsTrue (s.told cloud)
+      → ImagesSince (start.old cloud) (clouds link.shelf.now cloud) (header_of s.shape cloud)
+      (IsListIn s cloud (moments_of history) at.peers)
+  pub others : (cloud : ℕ) → s.shape.n ≤ cloud → clouds link.shelf.now cloud ≡ start.old cloud
+  pub read : IfSome start.script (λ script. (place : Place)
+      × Reaches script s.shape s.rooms (script_of history) place × IsThere reader left (length jobs) place)
+  pub printed : Appends start.written written (text_of (lines.Opened s.shape ∷ answers_of history))
+  pub source_is : source ≡ start.source
+  pub sink_is : sink ≡ start.sink
+
+-- ---- reading a line
+
+-- from each place of a script the next line says this, or the script ends there
+abbrev pub SaysNext : Shape → ℕ → Lines → Option (List ℕ) → Option Event → Lines → Option (List ℕ) → Type 0
+SaysNext shape jobs reader left (Some event) reader_now left_now =
+    (place : Place) → IsThere reader left jobs place
+    → (next : Place) × Says shape place event next × IsThere reader_now left_now (jobs_after jobs event) next
+SaysNext shape jobs reader left None reader_now left_now =
+    (place : Place) → IsThere reader left jobs place → IsEnd place × (left_now ≡ Some [])
+
+-- what a line says, or where it is wrong
+abbrev pub SaysEvent : Result Event Fault → Result Event ScriptErr → Type 0
+SaysEvent said (Ok event) = said ≡ Ok event
+SaysEvent said (Err script_errors.NoMemory) = Unit {0}
+SaysEvent said (Err (script_errors.At at found)) = said ≡ Err (record { at = at; found = found })
+
+-- the event is carried out, and in its ranges
+pub record CanBe (shape : Shape) (jobs : ℕ) (event : Event) : Type 0 where
+  pub carried : IsTrue (is_carried event)
+  pub fits : Fits shape jobs event
+  pub typed : IsTyped event
+
+-- how a replay ends as it reads a line behind so many
+abbrev pub EndsReading : Shape → ℕ → ℕ → Lines → Option (List ℕ) → ℕ → ℕ → ReplayEnd → Type 0
+EndsReading shape jobs events reader left before now (ends.Script line at found) =
+    (line ≡ events + 2)
+    × ((place : Place) → IsThere reader left jobs place → IsWrong shape place (record { at = at; found = found }))
+EndsReading shape jobs events reader left before now ends.SourceFault = Rose before now
+EndsReading shape jobs events reader left before now ends.NoMemory = Unit {0}
+EndsReading shape jobs events reader left before now end = ⊥
+
+-- ---- answering it
+
+-- a front of these bytes was written
+abbrev pub WritesFront : List ℕ → Option (List ℕ) → Option (List ℕ) → Type 0
+WritesFront bytes before now = (front : List ℕ) × (more : List ℕ) × (front ++ more ≡ bytes) × Appends before now front
+
+-- how a replay ends where the sink fails
+abbrev pub EndsSink : List ℕ → Option (List ℕ) → Option (List ℕ) → ℕ → ℕ → ReplayEnd → Type 0
+EndsSink bytes before now faults_before faults_now ends.SinkFault =
+    WritesFront bytes before now × Rose faults_before faults_now
+EndsSink bytes before now faults_before faults_now end = ⊥
+
+-- how a replay ends as it writes the line of these bytes
+abbrev pub EndsWriting : List ℕ → Option (List ℕ) → Option (List ℕ) → ℕ → ℕ → ReplayEnd → Type 0
+EndsWriting bytes before now faults_before faults_now ends.SinkFault =
+    WritesFront bytes before now × Rose faults_before faults_now
+EndsWriting bytes before now faults_before faults_now ends.NoMemory = now ≡ before
+EndsWriting bytes before now faults_before faults_now end = ⊥
+
+-- the line was carried out, and of the text of its answers this is so
+abbrev pub Answers : {V : Type 0} → (V → ℕ → Cloud) → Event → LocalLink V → List (List LaneView) → LocalLink V
+    → List (List LaneView) → (List ℕ → Type 0) → Type 0
+Answers clouds event old jobs new jobs_now OfText =
+    (s : Setting) (v : Vault) → IsAt clouds s old jobs v
+    → (answers : List Line) × Goes clouds s event old new jobs_now v answers × OfText (text_of answers)
+
+-- how a replay ends as it answers a line
+abbrev pub EndsAnswering : {V : Type 0} → (V → ℕ → Cloud) → Event → LocalLink V → List (List LaneView) → LocalLink V
+    → List (List LaneView) → Option (List ℕ) → Option (List ℕ) → ℕ → ℕ → ReplayEnd → Type 0
+EndsAnswering clouds event old jobs new jobs_now before now faults_before faults_now ends.SinkFault =
+    Answers clouds event old jobs new jobs_now (λ text. WritesFront text before now) × Rose faults_before faults_now
+EndsAnswering clouds event old jobs new jobs_now before now faults_before faults_now ends.NoMemory =
+    IsCutOff clouds event old jobs new × (now ≡ before)
+EndsAnswering clouds event old jobs new jobs_now before now faults_before faults_now end = ⊥

@@ -1,0 +1,4 @@
+pub mod Endings
+pub mod Replayed
+pub mod Opening
+pub mod Going

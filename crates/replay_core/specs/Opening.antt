@@ -1,0 +1,138 @@
+-- What the first steps of a replay come to: its first line, the areas that are to be empty, and the first openings.
+use Rattle.std.specs.Prelude.{◌≡◌, ◌≢◌, ℕ, ◌<◌, ◌≤◌, ◌++◌, false, IsTrue, List, [], length, Option, Some, Result, Ok, Err, IfSome}
+use Rattle.cd_base.specs.declared.ids.CloudNo.{CloudNo}
+use Rattle.cd_base.specs.declared.rooms.Rooms.{Rooms}
+use Rattle.cd_base.specs.declared.shape.Shape.{Shape}
+use Rattle.cd_edges.specs.declared.area.Area.{Area}
+use Rattle.cd_edges.specs.Causes.{Rose}
+use Rattle.cd_edges.specs.Disk.{Cloud, Image, IsImage, reads}
+use Rattle.commit_journal.specs.declared.header.Header.{Header}
+use Rattle.commit_journal.specs.declared.errors.OpenErr.{OpenErr}
+use Rattle.commit_journal.specs.declared.errors.OpenErr.TheVariants as open_errors
+use Rattle.cloud_store.specs.Standing.{ImagesSince}
+use Rattle.local_link.specs.declared.link.LocalLink.{LocalLink}
+use Rattle.local_link.specs.Calls.{header_of, no_commands}
+use Rattle.local_link.specs.Tells.{server_at, full_by, StandsAt}
+use Rattle.session.specs.Fault.{Fault}
+use Rattle.session.specs.Lines.{Lines}
+use Rattle.session.specs.declared.lines.LineErr.{LineErr}
+use Rattle.session.specs.declared.lines.LineErr.TheVariants as line_errors
+use Rattle.session.specs.declared.reading.ScriptErr.{ScriptErr}
+use Rattle.session.specs.declared.reading.ScriptErr.TheVariants as script_errors
+use Rattle.vault.specs.Scripts.{Place, Begins, IsWrongFirst}
+use Rattle.script_lines.specs.Stepping.{IsDamage}
+use Rattle.replay_core.specs.declared.end.ReplayEnd.{ReplayEnd}
+use Rattle.replay_core.specs.declared.end.ReplayEnd.TheVariants as ends
+use Rattle.replay_core.specs.Endings.{IsEmptyAt, AreEmptyBefore, IsFirstFilled}
+
+-- ---- the first line
+
+-- the reader before its first line
+abbrev pub before_first : Lines
+before_first = record { line = []; ahead = []; taken = 0 }
+
+-- The reader and what is still to come of its source are at this place of a script, behind so many uploads.
+pub record IsThere (reader : Lines) (left : Option (List ℕ)) (jobs : ℕ) (place : Place) : Type 0 where
+  pub jobs_are : place.jobs ≡ jobs
+  pub taken : reader.taken ≡ place.taken
+  pub unread : List ℕ
+  pub left_is : left ≡ Some unread
+  pub rest : reader.ahead ++ unread ≡ place.rest
+
+-- the source's bytes begin with this first line, behind which the reader is now
+abbrev pub IsHead : Option (List ℕ) → Shape → Rooms → Lines → Option (List ℕ) → Type 0
+IsHead script shape rooms reader left =
+    IfSome script (λ bytes. (place : Place) × Begins bytes shape rooms place × IsThere reader left 0 place)
+
+-- the first line says this, or is wrong there
+abbrev pub SaysHeader : Result (Shape × Rooms) Fault → Result (Shape × Rooms) ReplayEnd → Type 0
+SaysHeader reading (Ok header) = reading ≡ Ok header
+SaysHeader reading (Err (ends.Script line at found)) =
+    (line ≡ 1) × (reading ≡ Err (record { at = at; found = found }))
+SaysHeader reading (Err ends.NoMemory) = Unit {0}
+SaysHeader reading (Err end) = ⊥
+
+-- the end of a replay that gets no line of this number
+abbrev pub end_without : ℕ → LineErr → ReplayEnd
+end_without line line_errors.Fault = ends.SourceFault
+end_without line (line_errors.At at found) = ends.Script line at found
+end_without line line_errors.NoMemory = ends.NoMemory
+
+-- the end of a replay whose line of this number says nothing
+abbrev pub end_of_script : ℕ → ScriptErr → ReplayEnd
+end_of_script line (script_errors.At at found) = ends.Script line at found
+end_of_script line script_errors.NoMemory = ends.NoMemory
+
+-- how a replay ends at its first line
+abbrev pub EndsFirst : Option (List ℕ) → ℕ → ℕ → ReplayEnd → Type 0
+EndsFirst script before now (ends.Script line at found) =
+    (line ≡ 1) × IfSome script (λ bytes. IsWrongFirst bytes (record { at = at; found = found }))
+EndsFirst script before now ends.SourceFault = Rose before now
+EndsFirst script before now ends.NoMemory = Unit {0}
+EndsFirst script before now end = ⊥
+
+-- ---- clouds before they are opened, and as they are opened first
+
+-- every image is empty
+abbrev pub IsBlank : Cloud → Type 0
+IsBlank cloud = (image : Image) (area : Area) → IsImage cloud.now image → image area ≡ []
+
+-- The cloud is armed no more often than it was; and where every image was empty, each image since stands for no
+-- commands.
+pub record Prepares (header : Header) (old new : Cloud) : Type 0 where
+  pub told : new.told ≡ old.told
+  pub later : old.faults ≤ new.faults
+  pub armings : new.armings ≡ old.armings
+  pub images : IsTrue old.told → IsBlank old → ImagesSince old new header (λ list. list ≡ [])
+
+-- so each cloud of the store, and the others are as they were
+pub record PreparesAll (shape : Shape) (old new : ℕ → Cloud) : Type 0 where
+  pub each : (cloud : ℕ) → cloud < shape.n → Prepares (header_of shape cloud) (old cloud) (new cloud)
+  pub others : (cloud : ℕ) → shape.n ≤ cloud → new cloud ≡ old cloud
+
+-- all is as it was
+abbrev pub AreSame : (ℕ → Cloud) → (ℕ → Cloud) → Type 0
+AreSame old new = (cloud : ℕ) → new cloud ≡ old cloud
+
+-- where the cloud is told, its areas are empty
+abbrev pub IsEmpty : Cloud → Type 0
+IsEmpty cloud = IsTrue cloud.told → (area : Area) → IsEmptyAt cloud area
+
+-- how a replay ends at one cloud that is to be empty
+abbrev pub EndsEmpty : ℕ → Cloud → Cloud → ReplayEnd → Type 0
+EndsEmpty number old new (ends.NotEmpty cloud area len) =
+    (cloud.0 ≡ number) × (len ≢ 0) × (IsTrue old.told → AreEmptyBefore area old × (len ≡ length (reads old.now area)))
+EndsEmpty number old new (ends.ShelfFault cloud) = (cloud.0 ≡ number) × Rose old.faults new.faults
+EndsEmpty number old new end = ⊥
+
+-- how a replay ends at the first opening of a cloud
+abbrev pub EndsOpening : ℕ → Cloud → Cloud → ReplayEnd → Type 0
+EndsOpening number old new (ends.ShelfFault cloud) = (cloud.0 ≡ number) × Rose old.faults new.faults
+EndsOpening number old new (ends.Damaged cloud at byte) = (cloud.0 ≡ number) × (old.told ≡ false)
+EndsOpening number old new end = ⊥
+
+-- the end of a replay whose first opening of the cloud ended with this error: damage is named as a restart names it
+abbrev pub IsEndOf : CloudNo → OpenErr → ReplayEnd → Type 0
+IsEndOf cloud open_errors.Fault end = end ≡ ends.ShelfFault cloud
+IsEndOf cloud error end = (at : ℕ) × (byte : ℕ) × IsDamage error at byte × (end ≡ ends.Damaged cloud at byte)
+
+-- how a replay ends before its clouds are opened, behind its first line
+abbrev pub EndsUnopened : Shape → (ℕ → Cloud) → (ℕ → Cloud) → ReplayEnd → Type 0
+EndsUnopened shape old new (ends.NotEmpty cloud area len) = (cloud.0 < shape.n) × IsFirstFilled old cloud.0 area len
+EndsUnopened shape old new (ends.ShelfFault cloud) =
+    (cloud.0 < shape.n) × Rose (old cloud.0).faults (new cloud.0).faults
+EndsUnopened shape old new (ends.Damaged cloud at byte) = (cloud.0 < shape.n) × ((old cloud.0).told ≡ false)
+EndsUnopened shape old new end = ⊥
+
+-- ---- the link
+
+-- So many clouds were opened, each of which stands for no commands, and the others wait.
+pub record OpensTo {V : Type 0} (clouds : V → ℕ → Cloud) (old new : LocalLink V) (count : ℕ) : Type 0 where
+  pub shape : new.servers.shape ≡ old.servers.shape
+  pub fate : new.fate ≡ old.fate
+  pub full : (cloud : ℕ) → full_by (server_at new.servers cloud) ≡ full_by (server_at old.servers cloud)
+  pub stands : (cloud : ℕ) → cloud < count → StandsAt clouds new cloud (no_commands (clouds old.shelf.now cloud))
+  pub prepares : (cloud : ℕ) → cloud < count
+      → Prepares (header_of old.servers.shape cloud) (clouds old.shelf.now cloud) (clouds new.shelf.now cloud)
+  pub clouds_wait : (cloud : ℕ) → count ≤ cloud → clouds new.shelf.now cloud ≡ clouds old.shelf.now cloud
+  pub servers_wait : (cloud : ℕ) → count ≤ cloud → server_at new.servers cloud ≡ server_at old.servers cloud

@@ -1,0 +1,100 @@
+-- What a replay promises: the session that was carried out, what was written of it, and why it ended.
+use Rattle.std.specs.Prelude.{◌≡◌, ℕ, ◌<◌, ◌≤◌, ◌⊎◌, List, [], ◌++◌, length, Option, IsTrue}
+use Rattle.std.specs.Io.KnownBytes.{Appends}
+use Rattle.cd_edges.specs.declared.area.Area.{Area}
+use Rattle.cd_edges.specs.Disk.{Cloud, Image, IsImage, reads}
+use Rattle.user_dedup.specs.declared.command.Command.{Command}
+use Rattle.user_dedup.specs.Exec.{MaySettleAs}
+use Rattle.cloud_store.specs.Store.{StandsFor}
+use Rattle.local_link.specs.Calls.{header_of}
+use Rattle.transcript.specs.declared.line.Line.TheVariants as lines
+use Rattle.vault.specs.Texts.{text_of}
+use Rattle.transcript.specs.Transcript.{line_text}
+use Rattle.replay_core.specs.declared.end.ReplayEnd.{ReplayEnd}
+use Rattle.replay_core.specs.declared.end.ReplayEnd.TheVariants as ends
+use Rattle.vault.specs.Headline.{Session, IsRun, due, GivesAcknowledged, DisksKeep, DisksStand, AnswersPrivately}
+use Rattle.replay_core.specs.Endings.{Call, EndingLine, NoEnding, DoneEnding, ScriptEnding, ShelfEnding, StoreEnding, DamagedEnding, IsDue, HasCause}
+
+-- No count of a cloud is above the shelf's, its armings are the shelf's, and with status 0 its faults too.
+pub record HasCounts (status : ℕ) (new : ℕ → Cloud) (run : Session) (cloud : ℕ) : Type 0 where
+  pub faults : (run.last cloud).faults ≤ (new cloud).faults
+  pub armings : (run.last cloud).armings ≡ (new cloud).armings
+  pub same : status ≡ 0 → (run.last cloud).faults ≡ (new cloud).faults
+
+-- every image of every told cloud is empty
+abbrev pub BeginsEmpty : (ℕ → Cloud) → Type 0
+BeginsEmpty clouds =
+    (cloud : ℕ) (image : Image) (area : Area) → IsTrue (clouds cloud).told → IsImage (clouds cloud).now image
+    → image area ≡ []
+
+-- The headline: between these two states of the clouds the session was carried out.
+pub record Replayed (status : ℕ) (old new : ℕ → Cloud) (run : Session) : Type 0 where
+  pub told_so : (cloud : ℕ) → run.setting.told cloud ≡ (old cloud).told
+  pub carried : IsRun old run
+  pub counts : (cloud : ℕ) → cloud < run.setting.shape.n → HasCounts status new run cloud
+  -- the clouds that the store doesn't have are as they were
+  pub others : (cloud : ℕ) → run.setting.shape.n ≤ cloud → new cloud ≡ old cloud
+  -- a get gives each version that its clouds acknowledged, and so does a read of the disks after a crash
+  pub given : GivesAcknowledged run
+  pub kept : DisksKeep run new
+  -- after each crash a cloud holds a prefix of its commands with every acknowledged one
+  pub disks : BeginsEmpty old → DisksStand run old new
+  -- what a told cloud reads in the end stands for its list
+  pub reads_so : status ≡ 0 → (cloud : ℕ) → cloud < run.setting.shape.n → IsTrue (old cloud).told →
+      (list : List Command) × MaySettleAs (run.last cloud) list
+      × StandsFor (reads (new cloud).now) (header_of run.setting.shape cloud) list
+  -- each reply to an upload follows from that user's own commands
+  pub private : AnswersPrivately run
+
+-- the status of an end
+abbrev pub status_of : ReplayEnd → ℕ
+status_of (ends.Done events) = 0
+status_of (ends.Script line at found) = 2
+status_of ends.SourceFault = 3
+status_of ends.SinkFault = 4
+status_of (ends.ShelfFault cloud) = 5
+status_of ends.NoMemory = 6
+status_of (ends.NotEmpty cloud area len) = 7
+status_of (ends.Damaged cloud at byte) = 7
+
+-- the last line that is due with it
+abbrev pub ending_of : ReplayEnd → EndingLine
+ending_of (ends.Done events) = DoneEnding events
+ending_of (ends.Script line at found) = ScriptEnding line (record { at = at; found = found })
+ending_of ends.SourceFault = NoEnding
+ending_of ends.SinkFault = NoEnding
+ending_of (ends.ShelfFault cloud) = ShelfEnding cloud.0
+ending_of ends.NoMemory = NoEnding
+ending_of (ends.NotEmpty cloud area len) = StoreEnding cloud.0 area len
+ending_of (ends.Damaged cloud at byte) = DamagedEnding cloud.0 at byte
+
+-- nothing, or the line `done` where it is due
+abbrev pub IsLast : Call → Session → List ℕ → Type 0
+IsLast call run last =
+    (last ≡ [])
+    ⊎ ((last ≡ line_text (lines.Done (length run.history))) × IsDue call run (DoneEnding (length run.history)))
+
+-- a front of the text that was due was written
+pub record IsCut (call : Call) (run : Session) (before after : Option (List ℕ)) : Type 0 where
+  pub last : List ℕ
+  pub last_is : IsLast call run last
+  pub text : List ℕ
+  pub more : List ℕ
+  pub front : text ++ more ≡ text_of (due run) ++ last
+  pub written : Appends before after text
+
+-- What was written: with Done the lines that were answered and `done`; where the sink failed or memory ran out a front
+-- of what was due; and else all lines that were answered. The other ending lines aren't written here.
+abbrev pub IsPrinted : ReplayEnd → Call → Session → Option (List ℕ) → Option (List ℕ) → Type 0
+IsPrinted (ends.Done events) call run before after =
+    Appends before after (text_of (due run) ++ line_text (lines.Done events))
+IsPrinted ends.SinkFault call run before after = IsTrue run.opened × IsCut call run before after
+IsPrinted ends.NoMemory call run before after = IsCut call run before after
+IsPrinted end call run before after = Appends before after (text_of (due run))
+
+-- The whole promise of a replay.
+pub record Replays (end : ReplayEnd) (call : Call) (before after : Option (List ℕ)) : Type 0 where
+  pub run : Session
+  pub replayed : Replayed (status_of end) call.old call.new run
+  pub cause : HasCause (status_of end) call run (ending_of end)
+  pub printed : IsPrinted end call run before after

@@ -1,0 +1,158 @@
+//! The first steps of a replay: its first line, the clouds' areas, which are to be empty, and the first openings.
+
+ghost use Rattle.std.specs.Prelude.{◌≡◌, ◌≢◌, ◌<◌, ◌≤◌, ℕ, Ok, IsTrue, IsSomeAnd, IfOk, IfErr, OnOk, OnErr, Some, []};
+ghost use Rattle.cd_edges.specs.declared.area.Area.{Area};
+ghost use Rattle.commit_journal.specs.declared.header.Header.{Header};
+ghost use Rattle.cloud_state.specs.State.{AreRooms};
+ghost use Rattle.cloud_store.specs.Space.{IsWithin, full_for};
+ghost use Rattle.share_server.specs.declared.server.Server.{Server};
+ghost use Rattle.session.specs.Reading.{header_at};
+ghost use Rattle.session.specs.Lines.{script_limit};
+ghost use Rattle.local_link.specs.Calls.{header_of, no_commands};
+ghost use Rattle.local_link.specs.Tells.{server_at, full_by, StandsAt, LeavesRest};
+ghost use Rattle.replay_core.specs.Endings.{IsEmptyAt, AreEmptyBefore};
+ghost use Rattle.replay_core.specs.Opening.{before_first, IsHead, EndsFirst, Prepares, PreparesAll, AreSame, IsEmpty, EndsEmpty, EndsOpening, EndsUnopened, OpensTo, SaysHeader, IsEndOf};
+
+use crate::ReplayEnd;
+use crate::lines::{end_of_line, end_of_reader};
+use cd_base::{CloudNo, Rooms, Shape};
+use cd_edges::{Area, Failed, Shelf, Source};
+use commit_journal::OpenErr;
+use local_link::LocalLink;
+use script_lines::damage_of;
+use session::{LineReader, read_header};
+
+// What the first line says, or how the replay ends there.
+fn header_of_line(line: &[u8]) -> Result<(Shape, Rooms), ReplayEnd>
+    ensures says { SaysHeader (header_at line.now) result }
+    ensures rooms { IfOk result (λ header. AreRooms header.1 × IsWithin header.1 []) }
+{
+    match read_header(line) {
+        Ok(header) => Ok(header),
+        Err(error) => Err(end_of_line(1, error)),
+    }
+}
+
+/// Reads the first line: the shape and the rooms of the session. The reader is one before its first line.
+pub fn first_line<S: Source>(
+    reader: &mut LineReader,
+    source: &mut S,
+) -> Result<(Shape, Rooms), ReplayEnd>
+    requires { reader.old ≡ before_first }
+    ensures header { IfOk result (λ header. IsHead (S.left source.old) header.0 header.1
+        reader.new (S.left source.new)) }
+    ensures rooms { IfOk result (λ header. AreRooms header.1 × IsWithin header.1 []) }
+    ensures limited { reader.new.taken ≤ script_limit }
+    ensures still { OnOk result (S.faults source.new ≡ S.faults source.old) }
+    ensures end { IfErr result (EndsFirst (S.left source.old) (S.faults source.old) (S.faults source.new)) }
+{
+    match reader.next(source) {
+        Ok(true) => header_of_line(reader.line()),
+        Ok(false) => Err(ReplayEnd::Script {
+            line: 1,
+            at: 0,
+            found: None,
+        }),
+        Err(error) => Err(end_of_reader(1, error)),
+    }
+}
+
+// Whether the cloud's area is empty, those in front of which are.
+fn empty_area<V: Shelf>(shelf: &mut V, cloud: CloudNo, area: Area) -> Result<(), ReplayEnd>
+    requires { IsTrue (V.cloud_at shelf.old cloud.0).told → AreEmptyBefore area (V.cloud_at shelf.old cloud.0) }
+    ensures same { OnOk result (AreSame (V.cloud_at shelf.old) (V.cloud_at shelf.new)) }
+    ensures empty { IsTrue (V.cloud_at shelf.old cloud.0).told
+        → OnOk result (IsEmptyAt (V.cloud_at shelf.old cloud.0) area) }
+    ensures prepares { (header : Header)
+        → Prepares header (V.cloud_at shelf.old cloud.0) (V.cloud_at shelf.new cloud.0) }
+    ensures others { (other : ℕ) → other ≢ cloud.0 → V.cloud_at shelf.new other ≡ V.cloud_at shelf.old other }
+    ensures end { IfErr result (EndsEmpty cloud.0 (V.cloud_at shelf.old cloud.0) (V.cloud_at shelf.new cloud.0)) }
+{
+    match shelf.len(cloud, area) {
+        Ok(0) => Ok(()),
+        Ok(len) => Err(ReplayEnd::NotEmpty { cloud, area, len }),
+        Err(Failed) => Err(ReplayEnd::ShelfFault { cloud }),
+    }
+}
+
+// Whether all areas of the cloud are empty.
+fn empty_cloud<V: Shelf>(shelf: &mut V, cloud: CloudNo) -> Result<(), ReplayEnd>
+    ensures same { OnOk result (AreSame (V.cloud_at shelf.old) (V.cloud_at shelf.new)) }
+    ensures empty { OnOk result (IsEmpty (V.cloud_at shelf.old cloud.0)) }
+    ensures prepares { (header : Header)
+        → Prepares header (V.cloud_at shelf.old cloud.0) (V.cloud_at shelf.new cloud.0) }
+    ensures others { (other : ℕ) → other ≢ cloud.0 → V.cloud_at shelf.new other ≡ V.cloud_at shelf.old other }
+    ensures end { IfErr result (EndsEmpty cloud.0 (V.cloud_at shelf.old cloud.0) (V.cloud_at shelf.new cloud.0)) }
+{
+    empty_area(shelf, cloud, Area::Journal)?;
+    empty_area(shelf, cloud, Area::Shares)?;
+    empty_area(shelf, cloud, Area::Recipes)
+}
+
+/// Checks in order that the areas of the store's clouds are empty.
+pub fn empty_clouds<V: Shelf>(shelf: &mut V, shape: Shape) -> Result<(), ReplayEnd>
+    ensures same { OnOk result (AreSame (V.cloud_at shelf.old) (V.cloud_at shelf.new)) }
+    ensures empty { OnOk result ((cloud : ℕ) → cloud < shape.n → IsEmpty (V.cloud_at shelf.old cloud)) }
+    ensures prepares { OnErr result (PreparesAll shape (V.cloud_at shelf.old) (V.cloud_at shelf.new)) }
+    ensures end { IfErr result (EndsUnopened shape (V.cloud_at shelf.old) (V.cloud_at shelf.new)) }
+{
+    for number in 0..shape.n {
+        empty_cloud(shelf, CloudNo(number))?;
+    }
+    Ok(())
+}
+
+// The end of a replay whose first opening of the cloud ended so.
+fn end_of(cloud: CloudNo, error: OpenErr) -> ReplayEnd
+    ensures { IsEndOf cloud error result }
+{
+    match error {
+        OpenErr::Fault => ReplayEnd::ShelfFault { cloud },
+        _ => {
+            let (at, byte) = damage_of(error);
+            ReplayEnd::Damaged { cloud, at, byte }
+        }
+    }
+}
+
+// Opens a cloud that reads as nothing.
+fn open_cloud<V: Shelf>(link: &mut LocalLink<'_, V>, cloud: CloudNo) -> Result<(), ReplayEnd>
+    requires below { cloud.0 < link.old.servers.shape.n }
+    requires empty { IsEmpty (V.cloud_at link.old.shelf.now cloud.0) }
+    requires room { IsSomeAnd (server_at link.old.servers cloud.0) (λ server. IsWithin server.state.rooms []) }
+    ensures opens { OnOk result (StandsAt V.cloud_at link.new cloud.0
+        (no_commands (V.cloud_at link.old.shelf.now cloud.0))) }
+    ensures prepares { Prepares (header_of link.old.servers.shape cloud.0)
+        (V.cloud_at link.old.shelf.now cloud.0) (V.cloud_at link.new.shelf.now cloud.0) }
+    ensures rest { LeavesRest V.cloud_at cloud.0 link.old link.new }
+    ensures full { (number : ℕ)
+        → full_by (server_at link.new.servers number) ≡ full_by (server_at link.old.servers number) }
+    ensures fate { link.new.fate ≡ link.old.fate }
+    ensures same_reference { link.new.shelf.ghost_name ≡ link.old.shelf.ghost_name }
+    ensures end { IfErr result (EndsOpening cloud.0
+        (V.cloud_at link.old.shelf.now cloud.0) (V.cloud_at link.new.shelf.now cloud.0)) }
+{
+    match link.reopen(cloud, true) {
+        Ok(_) => Ok(()),
+        Err(error) => Err(end_of(cloud, error)),
+    }
+}
+
+/// Opens all clouds in order, each of which reads as nothing.
+pub fn open_clouds<V: Shelf>(link: &mut LocalLink<'_, V>) -> Result<(), ReplayEnd>
+    requires empty { (cloud : ℕ) → cloud < link.old.servers.shape.n → IsEmpty (V.cloud_at link.old.shelf.now cloud) }
+    requires room { (cloud : ℕ) (server : Server) → server_at link.old.servers cloud ≡ Some server
+        → IsWithin server.state.rooms [] }
+    ensures opens { OnOk result (OpensTo V.cloud_at link.old link.new link.old.servers.shape.n) }
+    ensures prepares { OnErr result (PreparesAll link.old.servers.shape
+        (V.cloud_at link.old.shelf.now) (V.cloud_at link.new.shelf.now)) }
+    ensures end { IfErr result (EndsUnopened link.old.servers.shape
+        (V.cloud_at link.old.shelf.now) (V.cloud_at link.new.shelf.now)) }
+    ensures same_reference { link.new.shelf.ghost_name ≡ link.old.shelf.ghost_name }
+{
+    let shape = link.shape();
+    for number in 0..shape.n {
+        open_cloud(link, CloudNo(number))?;
+    }
+    Ok(())
+}

@@ -1,0 +1,162 @@
+//! A session from its script's first byte to its end.
+
+ghost use Rattle.std.specs.Prelude.{◌≡◌, ◌<◌, ◌≤◌, ℕ, [], IsTrue, Some, length};
+ghost use Rattle.cd_base.specs.declared.shape.Shape.{Shape};
+ghost use Rattle.cloud_store.specs.Space.{IsWithin};
+ghost use Rattle.share_server.specs.declared.server.Server.{Server};
+ghost use Rattle.local_link.specs.Tells.{server_at};
+ghost use Rattle.session.specs.Lines.{script_limit};
+ghost use Rattle.vault.specs.Vault.{Setting};
+ghost use Rattle.script_lines.specs.Jobs.{AreReached};
+ghost use Rattle.replay_core.specs.Endings.{Call};
+ghost use Rattle.replay_core.specs.Replayed.{Replays};
+ghost use Rattle.replay_core.specs.Opening.{IsEmpty};
+ghost use Rattle.replay_core.specs.Going.{Start, call_of, IsReady, HasCome};
+
+use crate::ReplayEnd;
+use crate::lines::{answer_line, next_event};
+use crate::opening::{empty_clouds, first_line, open_clouds};
+use crate::writing::write_one;
+use cd_base::Bytes;
+use cd_edges::{Shelf, Sink, Source};
+use local_link::{LocalLink, Servers};
+use script_lines::{Buffers, Jobs};
+use session::LineReader;
+use std::alloc::Global;
+use transcript::Line;
+use vault::{law_of_acknowledged, law_of_moments, law_of_own_replies};
+
+// Carries the lines out, one after another, to the end of the script, and writes what is answered to each and at last
+// `done`. The clouds are opened, and `open` is written.
+fn carry_lines<S: Source, K: Sink, V: Shelf>(
+    alloc: Global,
+    reader: &mut LineReader,
+    source: &mut S,
+    sink: &mut K,
+    link: &mut LocalLink<'_, V>,
+    buffers: &mut Buffers,
+) -> ReplayEnd
+    requires limited { reader.old.taken ≤ script_limit }
+    ensures replays { (start : Start) (s : Setting)
+        → HasCome V.cloud_at start s link.old [] reader.old (S.left source.old) (S.faults source.old)
+        (K.written sink.old) (K.faults sink.old) 0
+        → Replays result (call_of start (S.left source.new) (S.faults source.new) (K.faults sink.new)
+        (V.faults link.new.shelf.now) (V.cloud_at link.new.shelf.now))
+        start.written (K.written sink.new) }
+    ensures same_reference { link.new.shelf.ghost_name ≡ link.old.shelf.ghost_name }
+{
+    law_of_acknowledged();
+    law_of_own_replies();
+    law_of_moments();
+    let shape = link.shape();
+    let mut jobs = Jobs::new(alloc);
+    let mut text = Bytes::new(alloc);
+    let mut events: u64 = 0;
+    'lines: loop {
+        let next = next_event(alloc, shape, jobs.len() as u32, events, reader, source);
+        match next {
+            Ok(Some(event)) => {
+                let answered = answer_line(
+                    alloc, link, &mut jobs, &event, buffers, &mut text, sink,
+                );
+                match answered {
+                    Ok(()) => events += 1,
+                    Err(end) => return end,
+                }
+            }
+            Ok(None) => break 'lines,
+            Err(end) => return end,
+        }
+    }
+    match write_one(sink, &Line::Done { events }, &mut text) {
+        Ok(()) => ReplayEnd::Done { events },
+        Err(end) => end,
+    }
+}
+
+// Opens the clouds, which read as nothing, and carries the script's lines out.
+fn carry_script<S: Source, K: Sink, V: Shelf>(
+    alloc: Global,
+    reader: &mut LineReader,
+    source: &mut S,
+    sink: &mut K,
+    link: &mut LocalLink<'_, V>,
+) -> ReplayEnd
+    requires limited { reader.old.taken ≤ script_limit }
+    requires empty { (cloud : ℕ) → cloud < link.old.servers.shape.n → IsEmpty (V.cloud_at link.old.shelf.now cloud) }
+    requires room { (cloud : ℕ) (server : Server) → server_at link.old.servers cloud ≡ Some server
+        → IsWithin server.state.rooms [] }
+    ensures replays { (start : Start) (s : Setting)
+        → IsReady V.cloud_at start s link.old reader.old (S.left source.old) (S.faults source.old)
+        (K.written sink.old) (K.faults sink.old)
+        → Replays result (call_of start (S.left source.new) (S.faults source.new) (K.faults sink.new)
+        (V.faults link.new.shelf.now) (V.cloud_at link.new.shelf.now))
+        start.written (K.written sink.new) }
+    ensures same_reference { link.new.shelf.ghost_name ≡ link.old.shelf.ghost_name }
+{
+    law_of_acknowledged();
+    law_of_own_replies();
+    let mut text = Bytes::new(alloc);
+    let Ok(mut buffers) = Buffers::make(alloc) else {
+        return ReplayEnd::NoMemory;
+    };
+    match open_clouds(link) {
+        Ok(()) => {}
+        Err(end) => return end,
+    }
+    let shape = link.shape();
+    match write_one(sink, &Line::Opened { shape }, &mut text) {
+        Ok(()) => carry_lines(alloc, reader, source, sink, link, &mut buffers),
+        Err(end) => end,
+    }
+}
+
+/// Runs the script in the source over the clouds of the shelf, which are to be empty, and writes its transcript.
+///
+/// Line 1 is read first. Then each area of the n clouds is asked, in order, whether it is empty; the clouds are opened in
+/// order; `open N K` is written; and each further line is carried out and answered before the next one is read. At the
+/// script's end `done E` is written. The last lines of all other ends are left to the caller.
+///
+/// Whatever the end, there is a session of just the lines that were carried out. Each get of it gives each version that
+/// its clouds acknowledged; each disk that a crash may leave stands for a list that its cloud had in some state of the
+/// session, and keeps what it acknowledged; and each reply to an upload follows from that user's own commands.
+pub fn replay<S: Source, K: Sink, V: Shelf>(
+    alloc: Global,
+    source: &mut S,
+    sink: &mut K,
+    shelf: &mut V,
+) -> ReplayEnd
+    ensures { Replays result (record {
+      script = S.left source.old;
+      left = S.left source.new;
+      source_before = S.faults source.old;
+      source_after = S.faults source.new;
+      sink_before = K.faults sink.old;
+      sink_after = K.faults sink.new;
+      total_before = V.faults shelf.old;
+      total_after = V.faults shelf.new;
+      old = V.cloud_at shelf.old;
+      new = V.cloud_at shelf.new;
+    }) (K.written sink.old) (K.written sink.new) }
+{
+    law_of_acknowledged();
+    law_of_own_replies();
+    let Ok(mut reader) = LineReader::make(alloc) else {
+        return ReplayEnd::NoMemory;
+    };
+    let (shape, rooms) = match first_line(&mut reader, source) {
+        Ok(header) => header,
+        Err(end) => return end,
+    };
+    match empty_clouds(shelf, shape) {
+        Ok(()) => {}
+        Err(end) => return end,
+    }
+    let Ok(servers) = Servers::make(alloc, shape, rooms) else {
+        return ReplayEnd::NoMemory;
+    };
+    let mut link = LocalLink::of(alloc, shelf, servers);
+    let end = carry_script(alloc, &mut reader, source, sink, &mut link);
+    let _shelf = link.release();
+    end
+}

@@ -1,0 +1,79 @@
+-- The jobs to which replies came.
+use Rattle.std.proofs.Common.{◌≡◌, ℕ, zero, suc, ◌-◌, ◌<◌, Bool, true, false, List, [], ◌∷◌, length, refl, sym, ap, ◌∙◌, subst, inl, inr, arith}
+use Rattle.std.specs.Prelude.{◌↔◌, IsTrue, All, Result, slice_index_or, slice_set}
+use Rattle.std.proofs.lemmas.List.{length-set, get_or-set_same, get_or-set_other, get_or_default}
+use Rattle.std.proofs.lemmas.List.Sums.{AllPass-from_list_all, list_all-from_AllPass}
+use Rattle.std.proofs.lemmas.Bool.{cases_eq}
+use Rattle.std.proofs.lemmas.List.FromFn.{length-map-range_with_len}
+use Rattle.cd_base.specs.declared.shape.Shape.{Shape}
+use Rattle.upload_job.specs.declared.news.LaneNews.{LaneNews}
+use Rattle.upload_job.specs.declared.news.LaneErr.{LaneErr}
+use Rattle.upload_job.specs.Upload.{work_of}
+use Rattle.upload_job.specs.Lane.{LaneState, Asking, Sending, Committing, Done, Refused}
+use Rattle.upload_job.specs.Lanes.{LaneView, AnswersAt, begun}
+use Rattle.lane_requests.specs.Reached.{IsReached, Begun, Answered}
+use Rattle.session.specs.Spelling.{IsJob}
+use Rattle.vault.specs.Steps.{is_done, all_done}
+use Rattle.script_lines.specs.Jobs.{job_lanes, with_job, AreReached}
+
+answered_len : (old : List LaneView) (i : ℕ) (content : List ℕ) (result : Result LaneNews LaneErr) (new : List LaneView) → AnswersAt old i content result new → length new ≡ length old
+answered_len [] i content result new a = absurd a
+answered_len (lane ∷ lanes) zero content result new a = ap length a.2
+answered_len (lane ∷ lanes) (suc i) content result new a = ap length a.2 ∙ ap suc (answered_len lanes i content result a.0 a.1)
+
+pub reached_len : (shape : Shape) (lanes : List LaneView) → IsReached shape lanes → length lanes ≡ shape.n
+reached_len shape _ (Begun v named few user number) = length-map-range_with_len (λ cloud. begun (work_of shape v cloud)) 0 shape.n
+reached_len shape _ (Answered old new i content result reached answers) = answered_len old i content result new answers ∙ reached_len shape old reached
+
+place_in : (jobs : List (List LaneView)) (job : ℕ) → IsJob (length jobs) job → job - 1 < length jobs
+place_in jobs job is = let one = is.0 in let last = is.1 in omega arith
+
+module _ (shape : Shape) (jobs : List (List LaneView)) (job : ℕ) (is : IsJob (length jobs) job) where
+  place : job - 1 < length jobs
+  place = place_in jobs job is
+
+  pub job_reached : AreReached shape jobs → IsReached shape (job_lanes jobs job)
+  job_reached are = are (job - 1) [] place
+
+  pub lane_below : (lane : ℕ) → AreReached shape jobs → lane < shape.n → lane < length (job_lanes jobs job)
+  lane_below lane are lt = subst (λ (n : ℕ). lane < n) (sym (reached_len shape (job_lanes jobs job) (job_reached are))) lt
+
+  -- the job has these lanes now
+  pub lanes_with : (lanes : List LaneView) → job_lanes (with_job jobs job lanes) job ≡ lanes
+  lanes_with lanes = get_or-set_same jobs (job - 1) lanes [] place
+
+  pub reached_with : (lanes : List LaneView) → AreReached shape jobs → IsReached shape lanes → AreReached shape (with_job jobs job lanes)
+  reached_with lanes are now k d lt = elim (cases_eq k (job - 1)) [
+    | inl same ↦ subst (λ (n : ℕ). IsReached shape (slice_index_or (slice_set jobs (job - 1) lanes) n d)) (sym same) (subst (IsReached shape) (sym (get_or-set_same jobs (job - 1) lanes d place)) now)
+    | inr ne ↦ subst (IsReached shape) (sym (get_or-set_other jobs (job - 1) k lanes d ne)) (are k d (subst (λ (n : ℕ). k < n) (length-set jobs (job - 1) lanes) lt))
+  ]
+
+pub count_with : (jobs : List (List LaneView)) (job : ℕ) (lanes : List LaneView) → length (with_job jobs job lanes) ≡ length jobs
+count_with jobs job lanes = length-set jobs (job - 1) lanes
+
+-- ---- all lanes at their ends
+
+by_both : (a b : Bool) → (IsTrue a → IsTrue b) → (IsTrue b → IsTrue a) → a ≡ b
+by_both true true f g = refl
+by_both false false f g = refl
+by_both true false f g = sym (f refl)
+by_both false true f g = g refl
+
+done_is : (state : LaneState) → IsTrue (is_done state) → state ≡ Done
+done_is (Asking batch rest) e = absurd (let f : false ≡ true = e in cc)
+done_is (Sending batch flags rest) e = absurd (let f : false ≡ true = e in cc)
+done_is Committing e = absurd (let f : false ≡ true = e in cc)
+done_is Done e = refl
+done_is Refused e = absurd (let f : false ≡ true = e in cc)
+
+pub all_done_is : (views : List LaneView) (b : Bool) → IsTrue b ↔ All (λ (lane : LaneView). lane.state ≡ Done) views → b ≡ all_done views
+all_done_is views b both =
+    by_both b (all_done views)
+    (λ is. list_all-from_AllPass (λ (lane : LaneView). is_done lane.state) views (λ k d lt. ap is_done (both.0 is k d lt)))
+    (λ all. both.1 (λ k d lt. done_is (slice_index_or views k d).state (AllPass-from_list_all (λ (lane : LaneView). is_done lane.state) views all k d lt)))
+
+pub stored_at : (jobs inside : List (List LaneView)) (job : ℕ) (lanes : List LaneView) (b : Bool) → inside ≡ jobs → lanes ≡ slice_index_or inside (job - 1) lanes → IsJob (length jobs) job
+    → IsTrue b ↔ All (λ (lane : LaneView). lane.state ≡ Done) lanes → b ≡ all_done (job_lanes jobs job)
+stored_at jobs inside job lanes b view is number both =
+    let lt = subst (λ (l : List (List LaneView)). job - 1 < length l) (sym view) (place_in jobs job number) in
+    all_done_is lanes b both ∙ ap all_done (is ∙ get_or_default inside (job - 1) lanes [] lt ∙ ap (λ (l : List (List LaneView)). slice_index_or l (job - 1) []) view)

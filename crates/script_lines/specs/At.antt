@@ -1,0 +1,32 @@
+-- The servers of this process and the jobs at a vault.
+use Rattle.std.specs.Prelude.{◌≡◌, ℕ, ◌<◌, ◌≤◌, List, map}
+use Rattle.cd_edges.specs.Disk.{Cloud}
+use Rattle.user_dedup.specs.Exec.{Peer}
+use Rattle.cloud_store.specs.Space.{full_for}
+use Rattle.upload_job.specs.Lanes.{LaneView}
+use Rattle.local_link.specs.declared.fate.Fate.TheVariants.{Deliver}
+use Rattle.local_link.specs.declared.link.LocalLink.{LocalLink}
+use Rattle.local_link.specs.Tells.{server_at, full_by, StandsAt}
+use Rattle.vault.specs.Vault.{Setting, JobState, Vault}
+
+-- The link has the setting's shape, tells of the clouds that the setting tells of, serves each cloud in the setting's
+-- rooms, and loses nothing of the next ask; and each cloud stands for its peer.
+pub record LinkAt {V : Type 0} (clouds : V → ℕ → Cloud) (s : Setting) (link : LocalLink V) (peers : ℕ → Peer)
+    : Type 0 where
+  pub shape : link.servers.shape ≡ s.shape
+  pub told : (cloud : ℕ) → (clouds link.shelf.now cloud).told ≡ s.told cloud
+  pub rooms : (cloud : ℕ) → cloud < s.shape.n → full_by (server_at link.servers cloud) ≡ full_for s.rooms
+  pub fate : link.fate ≡ Deliver
+  pub stands : (cloud : ℕ) → cloud < s.shape.n → StandsAt clouds link cloud (peers cloud)
+
+-- So at the vault's clouds, and the jobs are the vault's.
+pub record IsAt {V : Type 0} (clouds : V → ℕ → Cloud) (s : Setting) (link : LocalLink V) (jobs : List (List LaneView))
+    (v : Vault) : Type 0 where
+  pub link_at : LinkAt clouds s link v.peers
+  pub jobs_are : map (λ (j : JobState). j.lanes) v.jobs ≡ jobs
+
+-- The shape stays, and of which clouds the shelf tells; a cloud that the store doesn't have is as it was.
+pub record Leaves {V : Type 0} (clouds : V → ℕ → Cloud) (old new : LocalLink V) : Type 0 where
+  pub shape : new.servers.shape ≡ old.servers.shape
+  pub told : (cloud : ℕ) → (clouds new.shelf.now cloud).told ≡ (clouds old.shelf.now cloud).told
+  pub others : (cloud : ℕ) → old.servers.shape.n ≤ cloud → clouds new.shelf.now cloud ≡ clouds old.shelf.now cloud

@@ -1,0 +1,48 @@
+-- What one line says of what came of it.
+use Rattle.std.specs.Prelude.{◌≡◌, ◌≢◌, ℕ, ◌+◌, Bool, List, [], ◌∷◌, Option, Some, None, Result, Ok, Err, if◌then◌else◌}
+use Rattle.commit_journal.specs.declared.errors.OpenErr.{OpenErr}
+use Rattle.commit_journal.specs.declared.errors.OpenErr.TheVariants as errors
+use Rattle.commit_journal.specs.Headers.{header_bytes}
+use Rattle.share_server.specs.Refusals.{DiffersAt, header_place, open_gate}
+use Rattle.upload_job.specs.declared.news.LaneNews.{LaneNews}
+use Rattle.lane_steps.specs.declared.error.StepErr.{StepErr}
+use Rattle.lane_steps.specs.declared.error.StepErr.TheVariants as step_errors
+use Rattle.transcript.specs.declared.line.Line.{Line}
+use Rattle.transcript.specs.declared.line.Line.TheVariants as lines
+use Rattle.transcript.specs.declared.news.News.TheVariants as news
+use Rattle.vault.specs.Steps.{cloud_no, step_line, no_step}
+
+-- the line of a job that is stored
+abbrev pub stored_if : ℕ → Bool → List Line
+stored_if job stored = if stored then lines.JobStored job ∷ [] else []
+
+-- the lines of a step that came to this, and where it made the job a stored one the line of that
+abbrev pub step_lines : ℕ → ℕ → Result (Option LaneNews) StepErr → Bool → List Line
+step_lines job cloud (Ok None) stored = no_step job cloud
+step_lines job cloud (Ok (Some told)) stored = step_line job cloud told ∷ stored_if job stored
+step_lines job cloud (Err step_errors.Lost) stored = lines.Lost job (cloud_no cloud) ∷ []
+step_lines job cloud (Err (step_errors.Strange kind)) stored =
+    lines.Step job (cloud_no cloud) (news.Strange kind) ∷ []
+step_lines job cloud (Err step_errors.NoMemory) stored = []
+
+-- the step didn't end for want of memory
+abbrev pub IsTold : Result (Option LaneNews) StepErr → Type 0
+IsTold (Err step_errors.NoMemory) = ⊥
+IsTold came = Unit {0}
+
+-- The place and the byte by which an opening's error is named: those of the damage; of another store's header the first
+-- byte that differs; and of a record for which a room is too small its gate.
+abbrev pub IsDamage : OpenErr → ℕ → ℕ → Type 0
+IsDamage (errors.Damaged place found) at byte = (at ≡ place) × (byte ≡ found)
+IsDamage (errors.OtherStore found asked) at byte =
+    (place : ℕ) × (at ≡ header_place + place)
+    × (found ≢ asked → DiffersAt (header_bytes found) (header_bytes asked) place byte)
+IsDamage (errors.RoomsTooSmall room limit gate) at byte = (at ≡ gate) × (byte ≡ open_gate)
+IsDamage error at byte = Unit {0}
+
+-- the line of an opening that ended so
+abbrev pub IsOpening : ℕ → Result ℕ OpenErr → Line → Type 0
+IsOpening cloud (Ok commands) line = line ≡ lines.Restarted (cloud_no cloud) commands
+IsOpening cloud (Err errors.Fault) line = line ≡ lines.Fault (cloud_no cloud)
+IsOpening cloud (Err error) line =
+    (at : ℕ) × (byte : ℕ) × (line ≡ lines.Damaged (cloud_no cloud) at byte) × IsDamage error at byte

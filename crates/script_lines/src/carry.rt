@@ -1,0 +1,164 @@
+//! A line of a script, carried out.
+
+ghost use Rattle.std.specs.Prelude.{◌≡◌, length, IsTrue, OnOk, OnErr};
+ghost use Rattle.session.specs.Spelling.{Fits};
+ghost use Rattle.vault.specs.Scripts.{is_carried, jobs_after};
+ghost use Rattle.script_lines.specs.At.{Leaves};
+ghost use Rattle.script_lines.specs.Does.{CarriesOut, IsCutOff};
+ghost use Rattle.script_lines.specs.Jobs.{AreReached};
+
+use crate::Jobs;
+use crate::finish::finish_line;
+use crate::get::get_line;
+use crate::lanes::{drop_line, lose_line, step_line};
+use crate::one::{arm_line, restart_line};
+use crate::upload::upload_line;
+use cd_base::{Bytes, NoMemory};
+use cd_edges::Shelf;
+use frames::ReplyBuf;
+use local_link::LocalLink;
+use session::Event;
+use std::alloc::Global;
+use upload_job::LaneNews;
+
+/// What is written and read on the way, and kept from line to line for its memory alone.
+#[derive(Debug, Drop)]
+pub struct Buffers {
+    content: Bytes,
+    reply: ReplyBuf,
+    told: Vec<LaneNews>,
+}
+
+impl Buffers {
+    /// Empty buffers. The one for replies takes its 4,194,304 bytes here.
+    pub fn make(alloc: Global) -> Result<Buffers, NoMemory> {
+        let reply = ReplyBuf::make(alloc)?;
+        Ok(Buffers {
+            content: Bytes::new(alloc),
+            reply,
+            told: Vec::new(alloc),
+        })
+    }
+}
+
+/// Whether `carry_out` takes the line: not `list`, `replace` and `rebuild`.
+pub fn can_carry_out(event: &Event) -> bool
+    ensures { result ≡ is_carried event.now }
+{
+    match event {
+        Event::Upload { .. } => true,
+        Event::Step { .. } => true,
+        Event::Lose { .. } => true,
+        Event::Drop { .. } => true,
+        Event::Finish { .. } => true,
+        Event::Get { .. } => true,
+        Event::List { .. } => false,
+        Event::Arm { .. } => true,
+        Event::Restart { .. } => true,
+        Event::Replace { .. } => false,
+        Event::Rebuild { .. } => false,
+    }
+}
+
+/// Carries a line of a script out: over the link where it asks clouds, and else on the jobs. The text of its answers is
+/// appended to `text`.
+///
+/// Of every vault at which the link and the jobs are: with Ok the vault went on by the line, with just these answers, and
+/// link and jobs are at the vault that it came to. Whenever a crash comes on the way, each told cloud leaves a list that it
+/// had at some moment of the line. The only error is want of memory: then a part of the line was carried out, up to some
+/// moment of it, and nothing is said of `text`, nor of the jobs but that they took replies in a store of this shape.
+///
+/// The lines `list`, `replace` and `rebuild` aren't carried out yet, and may not be passed: `can_carry_out` is the test.
+pub fn carry_out<V: Shelf>(
+    alloc: Global,
+    link: &mut LocalLink<'_, V>,
+    jobs: &mut Jobs,
+    event: &Event,
+    buffers: &mut Buffers,
+    text: &mut Bytes,
+) -> Result<(), NoMemory>
+    requires carried { IsTrue (is_carried event.now) }
+    requires fits { Fits link.old.servers.shape (length jobs.old) event.now }
+    requires reached { AreReached link.old.servers.shape jobs.old }
+
+    ensures does { OnOk result (CarriesOut V.cloud_at event.now link.old jobs.old
+        link.new jobs.new text.old text.new) }
+    ensures cut { OnErr result (IsCutOff V.cloud_at event.now link.old jobs.old link.new) }
+
+    // Always: the shape stays, of which clouds the shelf tells, the clouds that the store doesn't have, and the shelf's
+    // reference.
+    ensures leaves { Leaves V.cloud_at link.old link.new }
+    ensures same_reference { link.new.shelf.ghost_name ≡ link.old.shelf.ghost_name }
+
+    // The jobs are ones of the shape still, and an upload is one more.
+    ensures reached { AreReached link.old.servers.shape jobs.new }
+    ensures count { OnOk result (length jobs.new ≡ jobs_after (length jobs.old) event.now) }
+{
+    match event {
+        Event::Upload {
+            user,
+            path,
+            version,
+            bytes,
+        } => upload_line(
+            alloc,
+            link,
+            jobs,
+            *user,
+            path.as_slice(),
+            *version,
+            bytes.as_slice(),
+            text,
+        ),
+        Event::Step { job, lane } => step_line(
+            link,
+            jobs,
+            *job,
+            *lane,
+            &mut buffers.content,
+            &mut buffers.reply,
+            text,
+        ),
+        Event::Lose { job, lane } => {
+            lose_line(link, jobs, *job, *lane, &mut buffers.content, text)
+        }
+        Event::Drop { job, lane } => drop_line(
+            link,
+            jobs,
+            *job,
+            *lane,
+            &mut buffers.content,
+            &mut buffers.reply,
+            text,
+        ),
+        Event::Finish { job } => finish_line(
+            link,
+            jobs,
+            *job,
+            &mut buffers.content,
+            &mut buffers.reply,
+            &mut buffers.told,
+            text,
+        ),
+        Event::Get {
+            user,
+            path,
+            version,
+            clouds,
+        } => get_line(
+            alloc,
+            link,
+            jobs,
+            *user,
+            path.as_slice(),
+            *version,
+            clouds,
+            text,
+        ),
+        Event::Arm { cloud, calls, keep } => arm_line(link, jobs, *cloud, *calls, *keep, text),
+        Event::Restart { cloud } => restart_line(link, jobs, *cloud, text),
+        Event::List { .. } => unreachable!(),
+        Event::Replace { .. } => unreachable!(),
+        Event::Rebuild { .. } => unreachable!(),
+    }
+}

@@ -1,0 +1,20 @@
+//! The lines of a session's script, each carried out over the servers of this process and the jobs so far, with what a
+//! transcript says of it.
+#![tactic(auto)]
+
+mod carry;
+mod damage;
+mod finish;
+mod get;
+mod jobs;
+mod lanes;
+mod news;
+mod one;
+mod upload;
+
+pub use carry::{Buffers, can_carry_out, carry_out};
+pub use damage::damage_of;
+pub use jobs::Jobs;
+
+#[cfg(test)]
+mod tests;

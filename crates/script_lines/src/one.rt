@@ -1,0 +1,78 @@
+//! The lines on one cloud: its device is armed, and its server is opened again.
+
+ghost use Rattle.std.specs.Prelude.{◌≡◌, ◌<◌, OnOk, OnErr};
+ghost use Rattle.session.specs.declared.event.Event.TheVariants as events;
+ghost use Rattle.script_lines.specs.At.{Leaves};
+ghost use Rattle.script_lines.specs.Does.{CarriesOut, IsCutOff};
+ghost use Rattle.script_lines.specs.Stepping.{IsOpening};
+ghost use Rattle.share_server.specs.Serving.{an_error};
+
+use crate::Jobs;
+use crate::damage::damage_of;
+use crate::news::put_line;
+use cd_base::{Bytes, CloudNo, NoMemory};
+use cd_edges::Shelf;
+use commit_journal::OpenErr;
+use local_link::LocalLink;
+use transcript::Line;
+
+/// `arm CLOUD CALLS KEEP`: a later write or sync of the cloud is cut.
+pub fn arm_line<V: Shelf>(
+    link: &mut LocalLink<'_, V>,
+    jobs: &Jobs,
+    cloud: CloudNo,
+    calls: u32,
+    keep: u32,
+    text: &mut Bytes,
+) -> Result<(), NoMemory>
+    requires below { cloud.0 < link.old.servers.shape.n }
+    ensures does { OnOk result (CarriesOut V.cloud_at (events.Arm cloud calls keep) link.old jobs.now
+        link.new jobs.now text.old text.new) }
+    ensures cut { OnErr result (IsCutOff V.cloud_at (events.Arm cloud calls keep) link.old jobs.now link.new) }
+    ensures leaves { Leaves V.cloud_at link.old link.new }
+    ensures same_reference { link.new.shelf.ghost_name ≡ link.old.shelf.ghost_name }
+{
+    link.arm(cloud, calls, keep);
+    put_line(Line::Armed { cloud }, text)
+}
+
+// The line of an opening that ended with this error.
+fn error_line(cloud: CloudNo, error: OpenErr) -> Line
+    ensures { IsOpening cloud.0 (an_error error) result }
+{
+    match error {
+        OpenErr::Fault => Line::Fault { cloud },
+        _ => {
+            let (at, byte) = damage_of(error);
+            Line::Damaged { cloud, at, byte }
+        }
+    }
+}
+
+// The line of an opening that ended so.
+fn opening_line(cloud: CloudNo, opened: Result<u64, OpenErr>) -> Line
+    ensures { IsOpening cloud.0 opened result }
+{
+    match opened {
+        Ok(commands) => Line::Restarted { cloud, commands },
+        Err(error) => error_line(cloud, error),
+    }
+}
+
+/// `restart CLOUD`: the cloud's server is opened again, from what its areas hold.
+pub fn restart_line<V: Shelf>(
+    link: &mut LocalLink<'_, V>,
+    jobs: &Jobs,
+    cloud: CloudNo,
+    text: &mut Bytes,
+) -> Result<(), NoMemory>
+    requires below { cloud.0 < link.old.servers.shape.n }
+    ensures does { OnOk result (CarriesOut V.cloud_at (events.Restart cloud) link.old jobs.now
+        link.new jobs.now text.old text.new) }
+    ensures cut { OnErr result (IsCutOff V.cloud_at (events.Restart cloud) link.old jobs.now link.new) }
+    ensures leaves { Leaves V.cloud_at link.old link.new }
+    ensures same_reference { link.new.shelf.ghost_name ≡ link.old.shelf.ghost_name }
+{
+    let opened = link.reopen(cloud, true);
+    put_line(opening_line(cloud, opened), text)
+}

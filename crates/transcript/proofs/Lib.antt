@@ -1,0 +1,5 @@
+pub mod Joined
+pub mod Shapes
+pub mod WordsBack
+pub mod LinesBack
+pub mod LineLaws

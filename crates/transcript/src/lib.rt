@@ -1,0 +1,20 @@
+//! The lines of a session's transcript, and the lines with which a command ends.
+#![tactic(auto)]
+
+mod ending;
+mod laws;
+mod line;
+mod news;
+mod refusal;
+mod words;
+mod writing;
+
+pub use ending::{Ending, write_ending};
+pub use laws::law_of_lines;
+pub use line::{Line, SkipWord};
+pub use news::News;
+pub use refusal::{Refusal, TargetWhy};
+pub use writing::write_line;
+
+#[cfg(test)]
+mod tests;

@@ -1,0 +1,258 @@
+-- What was acknowledged is kept, and given.
+use Rattle.std.proofs.Common.{◌≡◌, ℕ, zero, suc, ◌+◌, ◌-◌, ◌<◌, Bool, true, false, List, [], ◌∷◌, ◌++◌, map, reverse, Some, None, refl, sym, ap, ◌∙◌, subst, inl, inr, ◌⊎◌, arith, append-nil, append_assoc}
+use mathlib.Core.List.{reverse-cons, reverse-reverse}
+use Rattle.std.specs.Prelude.{IsTrue, slice_get, bytes_eq, Result, Ok, Err}
+use Rattle.std.specs.List.{Contains}
+use Rattle.std.proofs.lemmas.List.Elements.{Contains-append_cases, Contains-append_left, Contains-append_right}
+use Rattle.std.proofs.lemmas.Slice.Eq.{bytes_eq-Decides}
+use Rattle.cd_base.specs.declared.shape.Shape.{Shape}
+use Rattle.cd_edges.specs.Causes.{Rose}
+use Rattle.cd_edges.specs.Disk.{Cloud}
+use Rattle.caont_rs.specs.Package.{share}
+use Rattle.file_recipe.specs.FileRecipe.{secrets}
+use Rattle.reed_solomon.specs.Dispersal.{AreChoice}
+use Rattle.user_dedup.specs.declared.command.Command.{Command}
+use Rattle.user_dedup.specs.Cloud.{fingerprint}
+use Rattle.user_dedup.specs.Exec.{Peer, MaySettleAs, Stays, Settles}
+use Rattle.user_dedup.proofs.Owned.{contains_cases, contains_nothing, contains_here, contains_later}
+use Rattle.upload_job.specs.Upload.{FileVersion}
+use Rattle.restore_job.specs.declared.error.RestoreErr.{RestoreErr}
+use Rattle.restore_job.specs.declared.error.RestoreErr.TheVariants as restore_errors
+use Rattle.restore_job.specs.Asking.{is_lost}
+use Rattle.restore_job.specs.Restored.{Unrestored, restored_file}
+use Rattle.restore_job.specs.Restored
+use Rattle.restore_job.specs.Reading.{Ends}
+use Rattle.kept_files.specs.Kept.{Keeps}
+use Rattle.kept_files.proofs.Giving.{kept_is_given}
+use Rattle.kept_files.proofs.Keeping.{keeps_more}
+use Rattle.session.specs.declared.event.Event.{Event}
+use Rattle.session.specs.declared.event.Event.TheVariants as events
+use Rattle.transcript.specs.declared.line.Line.{Line}
+use Rattle.transcript.specs.declared.line.Line.TheVariants as lines
+use Rattle.transcript.specs.declared.refusal.Refusal.{Refusal}
+use Rattle.transcript.specs.declared.refusal.Refusal.TheVariants as refusals
+use Rattle.vault.specs.Vault.{Setting, Vault, opening}
+use Rattle.vault.specs.Steps.{Moment, IsGetLine, VStep}
+use Rattle.vault.specs.Run.{Answered, Turns, script_of, moments_of}
+use Rattle.vault.specs.Kept.{upload_of, uploads, Commits, Kept, IsDispersed}
+use Rattle.vault.specs.Headline.{Session, IsRun, script_in, moments_in, moments_begun, event_of, Clashes, GivesVersion, GivesAcknowledged, DisksKeep}
+use Rattle.vault.proofs.Ranged.{IsRanged, are_ranged, get_chooses, chosen_below}
+use Rattle.vault.proofs.Growing.{grows_last, stays_in, settles_in, grows_step}
+use Rattle.vault.proofs.Jobs.{brings_turns}
+use Rattle.vault.proofs.Seen.{Seen, seen_turns}
+use Rattle.vault.proofs.Lines.{Sees, commit_step, keeps_on}
+
+-- ---- lists
+
+map_has : {A B : Type 0} (f : A → B) (xs : List A) (x : A) → Contains xs x → Contains (map f xs) (f x)
+map_has f [] x has = absurd (contains_nothing x has)
+map_has f (y ∷ xs) x has = elim (contains_cases y xs x has) [
+  | inl same ↦ subst (λ z. Contains (f y ∷ map f xs) (f z)) same (contains_here (f y) (map f xs))
+  | inr later ↦ contains_later (f y) (map f xs) (f x) (map_has f xs x later)
+]
+
+got_has : {A : Type 0} (xs : List A) (i : ℕ) (x : A) → slice_get xs i ≡ Some x → Contains xs x
+got_has [] i x e = absurd (let f : None ≡ Some x = e in cc)
+got_has (y ∷ xs) zero x e = subst (Contains (y ∷ xs)) (let f : Some y ≡ Some x = e in cc) (contains_here y xs)
+got_has (y ∷ xs) (suc i) x e = contains_later y xs x (got_has xs i x e)
+
+moments_has : (xs : List Answered) (a : Answered) (ys : List Answered) (m : Moment) → Contains a.moments m → Contains (moments_of (xs ++ a ∷ ys)) m
+moments_has [] a ys m has = Contains-append_left a.moments (moments_of ys) m has
+moments_has (x ∷ xs) a ys m has = Contains-append_right x.moments (moments_of (xs ++ a ∷ ys)) m (moments_has xs a ys m has)
+
+moments_behind : (xs : List Answered) (a : Answered) (ys : List Answered) (m : Moment) → Contains (moments_of ys) m → Contains (moments_of (xs ++ a ∷ ys)) m
+moments_behind [] a ys m has = Contains-append_right a.moments (moments_of ys) m has
+moments_behind (x ∷ xs) a ys m has = Contains-append_right x.moments (moments_of (xs ++ a ∷ ys)) m (moments_behind xs a ys m has)
+
+uploads_front : (xs ys : List Answered) (more : List Event) (v : FileVersion) → Contains (uploads (script_of xs)) v → Contains (uploads (script_of (xs ++ ys) ++ more)) v
+uploads_front [] ys more v has = absurd (contains_nothing v has)
+uploads_front (x ∷ xs) ys more v has = elim (Contains-append_cases (upload_of x.event) (uploads (script_of xs)) v has) [
+  | inl here ↦ Contains-append_left (upload_of x.event) (uploads (script_of (xs ++ ys) ++ more)) v here
+  | inr later ↦ Contains-append_right (upload_of x.event) (uploads (script_of (xs ++ ys) ++ more)) v (uploads_front xs ys more v later)
+]
+
+-- ---- a line among the lines
+
+pub record Splits (s : Setting) (old : Vault) (xs : List Answered) (a : Answered) (ys : List Answered) (new : Vault) : Type 0 where
+  pub mid : Vault
+  pub front : Turns s old xs mid
+  pub before : a.before ≡ mid
+  pub step : VStep s mid a.event a.answers a.moments a.after
+  pub behind : Turns s a.after ys new
+
+splits : (s : Setting) (old : Vault) (xs : List Answered) (a : Answered) (ys : List Answered) (new : Vault) → Turns s old (xs ++ a ∷ ys) new → Splits s old xs a ys new
+splits s old [] a ys new t = record { mid = old; front = refl; before = t.0; step = t.1; behind = t.2 }
+splits s old (x ∷ xs) a ys new t =
+    let r = splits s x.after xs a ys new t.2 in
+    record { mid = r.mid; front = (t.0, t.1, r.front); before = r.before; step = r.step; behind = r.behind }
+
+-- ---- the run
+
+module _ (clouds : ℕ → Cloud) (run : Session) (is : IsRun clouds run) (apart_all : ¬ Clashes run) (ranged : (v : FileVersion) → Contains (uploads (script_in run)) v → IsRanged v) where
+  abbrev Known : ℕ → List ℕ → Type 0
+  Known c string = IsDispersed run.setting.shape (script_in run) (moments_in run) run.last c string
+
+  apart : (c : ℕ) → c < run.setting.shape.n → (v : FileVersion) → Contains (uploads (script_in run)) v → (string secret : List ℕ) → Known c string → Contains (secrets v.file) secret → fingerprint string ≡ fingerprint (share run.setting.shape c secret)
+      → string ≡ share run.setting.shape c secret
+  apart c below v uploaded string secret known among same = by_test (bytes_eq string (share run.setting.shape c secret)) refl
+    where
+      by_test : (b : Bool) → bytes_eq string (share run.setting.shape c secret) ≡ b → string ≡ share run.setting.shape c secret
+      by_test true e = (bytes_eq-Decides string (share run.setting.shape c secret)).0 e
+      by_test false e = absurd (apart_all (record {
+        cloud = c;
+        below = below;
+        one = string;
+        other = share run.setting.shape c secret;
+        first = known;
+        second = inl (v, uploaded, map_has (share run.setting.shape c) (secrets v.file) secret among);
+        different = λ q. (let f : true ≡ false = sym ((bytes_eq-Decides string (share run.setting.shape c secret)).1 q) ∙ e in cc);
+        same = same;
+      }))
+
+  sees : (c : ℕ) (xs : List Answered) (a : Answered) (ys : List Answered) → run.history ≡ xs ++ a ∷ ys → Turns run.setting a.after ys run.between → Sees (Known c) c a.moments a.after.peers
+  sees c xs a ys e behind = record {
+    here = λ m among string has. inr (inl (m, in_run m (moments_has xs a ys m among), has));
+    behind = λ string has. known string (seen_turns run.setting c string ys a.after run.between run.begun run.last behind is.begun has);
+  }
+    where
+      in_run : (m : Moment) → Contains (moments_of (xs ++ a ∷ ys)) m → Contains (moments_in run) m
+      in_run m has = Contains-append_left (moments_of run.history) (moments_begun run.begun) m (subst (λ (l : List Answered). Contains (moments_of l) m) (sym e) has)
+
+      known : (string : List ℕ) → Seen c (moments_of ys ++ moments_begun run.begun) run.last string → Known c string
+      known string (inl x) = elim (Contains-append_cases (moments_of ys) (moments_begun run.begun) x.0 x.1) [
+        | inl here ↦ inr (inl (x.0, in_run x.0 (moments_behind xs a ys x.0 here), x.2))
+        | inr begun ↦ inr (inl (x.0, Contains-append_right (moments_of run.history) (moments_begun run.begun) x.0 begun, x.2))
+      ]
+      known string (inr x) = inr (inr x)
+
+  abbrev KeepsThere : ℕ → FileVersion → Peer → Type 0
+  KeepsThere c v p = (list : List Command) → MaySettleAs p list → Keeps run.setting.shape c list v.user v.path v.number v.file
+
+  kept_told : (rev : List Answered) (c : ℕ) (v : FileVersion) → Kept run.setting rev c v → IsTrue (run.setting.told c)
+  kept_told [] c v k = absurd k
+  kept_told (a ∷ earlier) c v k = k.0
+
+  longer : (a : Answered) (earlier later : List Answered) → run.history ≡ reverse (a ∷ earlier) ++ later → run.history ≡ reverse earlier ++ a ∷ later
+  longer a earlier later e = e ∙ ap (λ (l : List Answered). l ++ later) (reverse-cons a earlier) ∙ append_assoc (reverse earlier) (a ∷ []) later
+
+  -- by what the newest line says
+  uploaded_by : (a : Answered) (earlier later : List Answered) (c : ℕ) (v : FileVersion) → run.history ≡ reverse earlier ++ a ∷ later
+      → Commits (script_of (reverse earlier)) c v a.answers ⊎ (⊥ ⊎ (Kept run.setting earlier c v × (⊥ → ⊥))) → (Kept run.setting earlier c v → Contains (uploads (script_in run)) v) → Contains (uploads (script_in run)) v
+  uploaded_by a earlier later c v e (inl x) more = subst (λ (l : List Answered). Contains (uploads (script_of l ++ event_of run.begun)) v) (sym e)
+      (uploads_front (reverse earlier) (a ∷ later) (event_of run.begun) v (got_has (uploads (script_of (reverse earlier))) x.1.0 v x.1.2))
+  uploaded_by a earlier later c v e (inr (inl none)) more = absurd none
+  uploaded_by a earlier later c v e (inr (inr x)) more = more x.0
+
+  kept_uploaded : (rev later : List Answered) (c : ℕ) (v : FileVersion) → run.history ≡ reverse rev ++ later → Kept run.setting rev c v → Contains (uploads (script_in run)) v
+  kept_uploaded [] later c v e k = absurd k
+  kept_uploaded (a ∷ earlier) later c v e k = uploaded_by a earlier later c v (longer a earlier later e) k.1 (kept_uploaded earlier (a ∷ later) c v (longer a earlier later e))
+
+  kept_by : (a : Answered) (earlier later : List Answered) (c : ℕ) (below : c < run.setting.shape.n) (v : FileVersion) (told : IsTrue (run.setting.told c)) (uploaded : Contains (uploads (script_in run)) v) → run.history ≡ reverse earlier ++ a ∷ later
+      → (mid : Vault) → Turns run.setting (opening clouds) (reverse earlier) mid → VStep run.setting mid a.event a.answers a.moments a.after → Turns run.setting a.after later run.between
+      → Commits (script_of (reverse earlier)) c v a.answers ⊎ (⊥ ⊎ (Kept run.setting earlier c v × (⊥ → ⊥))) → (Kept run.setting earlier c v → KeepsThere c v (mid.peers c)) → KeepsThere c v (a.after.peers c)
+  kept_by a earlier later c below v told uploaded e mid front step behind (inl x) more =
+      let r = ranged v uploaded in
+      let place : x.0 - 1 ≡ x.1.0 = (let q : x.0 ≡ x.1.0 + 1 = x.1.1 in omega arith) in
+      commit_step run.setting c told v (record { path = r.path; few = r.few }) (Known c) (apart c below v uploaded) (uploads (script_of (reverse earlier))) x.0
+      (ap (slice_get (uploads (script_of (reverse earlier)))) place ∙ x.1.2) mid a.event a.answers a.moments a.after step
+      (brings_turns run.setting (reverse earlier) (opening clouds) mid [] front (record { are = tt; those = refl })) x.2 (sees c (reverse earlier) a later e behind)
+  kept_by a earlier later c below v told uploaded e mid front step behind (inr (inl none)) more = absurd none
+  kept_by a earlier later c below v told uploaded e mid front step behind (inr (inr x)) more =
+      let r = ranged v uploaded in
+      keeps_on run.setting c told v (record { path = r.path; few = r.few }) (Known c) (apart c below v uploaded) (mid.peers c) (a.after.peers c) (more x.0)
+      (grows_step run.setting c told mid a.event a.answers a.moments a.after step)
+
+  -- what a told cloud acknowledged, each list that it may settle as keeps
+  kept_keeps : (rev later : List Answered) (c : ℕ) → c < run.setting.shape.n → (v : FileVersion) → run.history ≡ reverse rev ++ later → (mid : Vault) → Turns run.setting (opening clouds) (reverse rev) mid → Turns run.setting mid later run.between
+      → Kept run.setting rev c v → KeepsThere c v (mid.peers c)
+  kept_keeps [] later c below v e mid front behind k = absurd k
+  kept_keeps (a ∷ earlier) later c below v e mid front behind k =
+      let x = splits run.setting (opening clouds) (reverse earlier) a [] mid (subst (λ (l : List Answered). Turns run.setting (opening clouds) l mid) (reverse-cons a earlier) front) in
+      let there : mid ≡ a.after = x.behind in
+      let behind_a = subst (λ (w : Vault). Turns run.setting w later run.between) there behind in
+      let uploaded = kept_uploaded (a ∷ earlier) later c v e k in
+      subst (λ (w : Vault). KeepsThere c v (w.peers c)) (sym there)
+      (kept_by a earlier later c below v k.0 uploaded (longer a earlier later e) x.mid x.front x.step behind_a k.1
+      (kept_keeps earlier (a ∷ later) c below v (longer a earlier later e) x.mid x.front (x.before, x.step, behind_a)))
+
+  -- ---- a get
+
+  given : (named : List ℕ) (v : FileVersion) (a : Answered) (before after : ℕ → Peer) (result : Result (Unit {0}) RestoreErr) (file : List ℕ) (line : Line) → IsGetLine result file line → is_lost result ≡ false
+      → Ends (Ok v.file) named result [] file before after → ((cloud : ℕ) → Rose (before cloud).faults (after cloud).faults → Rose (a.before.peers cloud).faults (a.after.peers cloud).faults) → GivesVersion named v a (line ∷ [])
+  given named v a before after (Ok u) file line is_line found ends rose =
+      subst (λ (l : Line). GivesVersion named v a (l ∷ [])) (sym is_line) (let f : Ok v.file ≡ Ok ends.0 = ends.2 in let g : v.file ≡ ends.0 = cc in ends.1 ∙ sym g)
+  given named v a before after (Err (restore_errors.CloudFault c)) file line is_line found ends rose =
+      let same : lines.Refused _ ≡ line = sym is_line.2 in
+      fault_line is_line.0 (let f : Some (refusals.Fault c) ≡ Some is_line.0 = is_line.1 in cc) same
+    where
+      fault_line : (why : Refusal) → refusals.Fault c ≡ why → lines.Refused why ≡ line → GivesVersion named v a (line ∷ [])
+      fault_line why e f = subst (λ (l : Line). GivesVersion named v a (l ∷ [])) (ap (λ (w : Refusal). lines.Refused w) e ∙ f) (ends.0, rose c.0 ends.1)
+  given named v a before after (Err (restore_errors.Missing c)) file line is_line found ends rose = absurd (let f : Ok v.file ≡ Err (Restored.Missing c.0) = ends in cc)
+  given named v a before after (Err (restore_errors.RecipesDiffer x y place)) file line is_line found ends rose = absurd (let f : Ok v.file ≡ Err (Restored.RecipesDiffer x.0 y.0 place) = ends in cc)
+  given named v a before after (Err (restore_errors.ShareLength c secret got wanted)) file line is_line found ends rose = absurd (let f : Ok v.file ≡ Err (Restored.ShareLength c.0 secret got wanted) = ends in cc)
+  given named v a before after (Err (restore_errors.BadSecret secret x y)) file line is_line found ends rose = absurd (let f : Ok v.file ≡ Err _ = ends in cc)
+  given named v a before after (Err (restore_errors.BadPad secret at byte)) file line is_line found ends rose = absurd (let f : Ok v.file ≡ Err _ = ends in cc)
+  given named v a before after (Err (restore_errors.Lost c)) file line is_line found ends rose = absurd (let f : true ≡ false = found in cc)
+  given named v a before after (Err restore_errors.NoMemory) file line is_line found ends rose = absurd (let f : None ≡ Some is_line.0 = is_line.1 in cc)
+  given named v a before after (Err (restore_errors.CloudDamaged c at byte)) file line is_line found ends rose = absurd ends
+  given named v a before after (Err (restore_errors.CloudRotten c x y)) file line is_line found ends rose = absurd ends
+  given named v a before after (Err (restore_errors.CloudNoMemory c)) file line is_line found ends rose = absurd ends
+  given named v a before after (Err (restore_errors.Strange c kind)) file line is_line found ends rose = absurd ends
+  given named v a before after (Err (restore_errors.BadShare c secret x y)) file line is_line found ends rose = absurd ends
+
+  pub acknowledged_given : (earlier later : List Answered) (a : Answered) (named : List ℕ) (v : FileVersion) → run.history ≡ earlier ++ a ∷ later → a.event ≡ events.Get v.user v.path v.number named
+      → AreChoice run.setting.shape named → Contains (uploads (script_in run)) v → ((cloud : ℕ) → Contains named cloud → Kept run.setting (reverse earlier) cloud v) → GivesVersion named v a a.answers
+  acknowledged_given earlier later a named v e get choice uploaded kept =
+      let t = splits run.setting (opening clouds) earlier a later run.between (subst (λ (l : List Answered). Turns run.setting (opening clouds) l run.between) e is.answered) in
+      let g = subst (λ (ev : Event). VStep run.setting t.mid ev a.answers a.moments a.after) get t.step in
+      let r = ranged v uploaded in
+      let back = reverse-reverse earlier in
+      let keeps : (cloud : ℕ) → Contains named cloud → KeepsThere cloud v (t.mid.peers cloud) = λ cloud has.
+      kept_keeps (reverse earlier) (a ∷ later) cloud (chosen_below run.setting.shape named choice cloud has) v (e ∙ ap (λ (l : List Answered). l ++ a ∷ later) (sym back)) t.mid
+      (subst (λ (l : List Answered). Turns run.setting (opening clouds) l t.mid) (sym back) t.front) (t.before, t.step, t.behind) (kept cloud has) in
+      let after_keeps : (cloud : ℕ) → Contains named cloud → Keeps run.setting.shape cloud (a.after.peers cloud).list v.user v.path v.number v.file = λ cloud has.
+      read_keeps cloud v (t.mid.peers cloud) (a.after.peers cloud) (g.1.read.read cloud).0 (keeps cloud has) in
+      let restored = kept_is_given run.setting.shape (λ cloud. (a.after.peers cloud).list) v.user v.path v.number v.file named r.path r.bytes r.few choice after_keeps in
+      let ends = subst (λ (o : Result (List ℕ) Unrestored). Ends o named g.1.result [] g.1.file t.mid.peers a.after.peers) restored (g.1.told (λ cloud has. kept_told (reverse earlier) cloud v (kept cloud has))).ends in
+      subst (λ (l : List Line). GivesVersion named v a l) (sym g.2)
+      (given named v a t.mid.peers a.after.peers g.1.result g.1.file g.0 g.1.line_is g.1.found ends (λ cloud rose. subst (λ (w : Vault). Rose (w.peers cloud).faults (a.after.peers cloud).faults) (sym t.before) rose))
+    where
+      read_keeps : (cloud : ℕ) (v : FileVersion) (p q : Peer) → Stays p q ⊎ Settles p q → KeepsThere cloud v p → Keeps run.setting.shape cloud q.list v.user v.path v.number v.file
+      read_keeps cloud v p q (inl stays) keeps = keeps q.list (stays_in p q stays q.list (inl refl))
+      read_keeps cloud v p q (inr settles) keeps = keeps q.list (settles_in p q settles q.list (inl refl))
+
+-- ---- the promises
+
+events_has : (xs : List Answered) (a : Answered) (ys : List Answered) → Contains (script_of (xs ++ a ∷ ys)) a.event
+events_has [] a ys = contains_here a.event (script_of ys)
+events_has (x ∷ xs) a ys = contains_later x.event (script_of (xs ++ a ∷ ys)) a.event (events_has xs a ys)
+
+named_some : (shape : Shape) (named : List ℕ) → AreChoice shape named → (cloud : ℕ) × Contains named cloud
+named_some shape [] choice = absurd (let n : 0 ≡ shape.k = choice.count in let m = shape.several in omega arith)
+named_some shape (cloud ∷ named) choice = (cloud, contains_here cloud named)
+
+pub acknowledged : (clouds : ℕ → Cloud) (run : Session) → IsRun clouds run → GivesAcknowledged run
+acknowledged clouds run is earlier later a named v e get kept apart =
+    let ranged = are_ranged run.setting.shape 0 (script_in run) is.lines in
+    let among : Contains (script_of run.history) (events.Get v.user v.path v.number named) =
+    subst (λ (l : List Answered). Contains (script_of l) (events.Get v.user v.path v.number named)) (sym e)
+    (subst (Contains (script_of (earlier ++ a ∷ later))) get (events_has earlier a later)) in
+    let choice = get_chooses run.setting.shape 0 (script_in run) is.lines v.user v.path v.number named
+    (Contains-append_left (script_of run.history) (event_of run.begun) (events.Get v.user v.path v.number named) among) in
+    let some = named_some run.setting.shape named choice in
+    let back = ap (λ (l : List Answered). l ++ a ∷ later) (sym (reverse-reverse earlier)) in
+    acknowledged_given clouds run is apart ranged earlier later a named v e get choice
+    (kept_uploaded clouds run is apart ranged (reverse earlier) (a ∷ later) some.0 v (e ∙ back) (kept some.0 some.1)) kept
+
+pub disks_keep : (clouds new : ℕ → Cloud) (run : Session) → IsRun clouds run → DisksKeep run new
+disks_keep clouds new run is cloud v image list below still apart left settles stands =
+    let ranged = are_ranged run.setting.shape 0 (script_in run) is.lines in
+    let kept = still.kept in
+    let back = reverse-reverse run.history in
+    let e : run.history ≡ reverse (reverse run.history) ++ [] = sym (append-nil (reverse (reverse run.history)) ∙ back) in
+    let keeps = kept_keeps clouds run is apart ranged (reverse run.history) [] cloud below v e run.between
+    (subst (λ (l : List Answered). Turns run.setting (opening clouds) l run.between) (sym back) is.answered) refl kept in
+    let told = kept_told clouds run is apart ranged (reverse run.history) cloud v kept in
+    let x = grows_last run.setting cloud told run.between run.begun run.last is.begun list settles in
+    subst (λ (l : List Command). Keeps run.setting.shape cloud l v.user v.path v.number v.file) (sym x.3)
+    (keeps_more run.setting.shape cloud x.0 x.1 v.user v.path v.number v.file (keeps x.0 x.2))

@@ -1,0 +1,193 @@
+-- A told cloud's lists grow, line by line.
+use Rattle.std.proofs.Common.{◌≡◌, ℕ, Bool, true, List, [], ◌∷◌, ◌++◌, map, Option, Some, None, Result, Ok, Err, sym, ap, ◌∙◌, subst, inl, inr, ◌⊎◌, append-nil, append_assoc}
+use Rattle.std.specs.Prelude.{IsTrue, IsSomeAnd, MatchOption, option_to_list}
+use Rattle.std.specs.List.{Contains}
+use Rattle.std.proofs.lemmas.List.Elements.{Contains-append_cases, Contains-append_right}
+use Rattle.std.specs.Bool.{MatchBool}
+use Rattle.std.proofs.lemmas.Bool.{cases_eq}
+use Rattle.commit_journal.specs.declared.errors.OpenErr.{OpenErr}
+use Rattle.commit_journal.specs.declared.errors.OpenErr.TheVariants as errors
+use Rattle.messages.specs.declared.request.Request.{Request}
+use Rattle.messages.specs.declared.reply.Reply.{Reply}
+use Rattle.user_dedup.specs.declared.command.Command.{Command}
+use Rattle.user_dedup.specs.Dedup.{Outcome}
+use Rattle.user_dedup.specs.Exec.{Peer, MaySettleAs, Settles, Stays, IsCut, ExecTold, ExecUntold}
+use Rattle.share_server.specs.Serving.{ReopensAs}
+use Rattle.upload_job.specs.Lanes as lanes
+use Rattle.lane_requests.specs.Runs.{Turn, Progress, LaneRun, progress_after}
+use Rattle.session.specs.declared.event.Event.{Event}
+use Rattle.session.specs.declared.event.Event.TheVariants as events
+use Rattle.transcript.specs.declared.line.Line.{Line}
+use Rattle.vault.specs.Vault.{Setting, Vault, Executes, OneGoes, served_at, lanes_of}
+use Rattle.user_dedup.proofs.Owned.{contains_cases, contains_nothing, contains_here}
+use Rattle.vault.specs.Steps.{Moment, Execution, moment_of, LaneStep, DropStep, FinishLanes, ReopensUntold, VStep}
+use Rattle.vault.specs.Run.{Answered, Turns}
+use Rattle.vault.specs.Headline.{Begun, ComesTo, IsPartOf}
+
+-- each list that the cloud may settle as is one that it might have settled as before, and more
+abbrev pub Grows : Peer → Peer → Type 0
+Grows p q = (list : List Command) → MaySettleAs q list → (before : List Command) × (more : List Command) × MaySettleAs p before × (list ≡ before ++ more)
+
+pub grows_in : (p q : Peer) → ((list : List Command) → MaySettleAs q list → MaySettleAs p list) → Grows p q
+grows_in p q fewer list settles = (list, [], fewer list settles, sym (append-nil list))
+
+pub grows_same : (p q : Peer) → q ≡ p → Grows p q
+grows_same p q e = grows_in p q (λ list settles. subst (λ (x : Peer). MaySettleAs x list) e settles)
+
+pub grows_on : (p q r : Peer) → Grows p q → Grows q r → Grows p r
+grows_on p q r one two list settles =
+    let y = two list settles in
+    let x = one y.0 y.2 in
+    (x.0, x.1 ++ y.1, x.2, y.3 ∙ ap (λ (l : List Command). l ++ y.1) x.3 ∙ append_assoc x.0 x.1 y.1)
+
+nothing_pending : (p : Peer) (list : List Command) → p.pending ≡ None → MaySettleAs p list → list ≡ p.list
+nothing_pending p list is (inl same) = same
+nothing_pending p list is (inr some) = absurd (subst (λ (o : Option Command). IsSomeAnd o (λ command. list ≡ p.list ++ command ∷ [])) is some)
+
+pub stays_in : (p q : Peer) → Stays p q → (list : List Command) → MaySettleAs q list → MaySettleAs p list
+stays_in p q stays list (inl same) = inl (same ∙ stays.list)
+stays_in p q stays list (inr some) =
+    inr (subst (λ (l : List Command). IsSomeAnd p.pending (λ command. list ≡ l ++ command ∷ [])) stays.list
+    (subst (λ (o : Option Command). IsSomeAnd o (λ command. list ≡ q.list ++ command ∷ [])) stays.pending some))
+
+pub settles_in : (p q : Peer) → Settles p q → (list : List Command) → MaySettleAs q list → MaySettleAs p list
+settles_in p q s list settles = subst (MaySettleAs p) (sym (nothing_pending q list s.pending settles)) s.list
+
+pending_more : (l : List Command) (o : Option Command) (list : List Command) → IsSomeAnd o (λ command. list ≡ l ++ command ∷ []) → (more : List Command) × (list ≡ l ++ more)
+pending_more l None list some = absurd some
+pending_more l (Some command) list some = (command ∷ [], some)
+
+pub grows_told : (serve : List Command → Request → Outcome) (p q : Peer) (request : Request) (reply : Reply) → ExecTold serve p request reply q → Grows p q
+grows_told serve p q request reply (inl a) list settles =
+    (a.before, option_to_list (serve a.before request).adds, a.settled, nothing_pending q list a.pending settles ∙ a.list)
+grows_told serve p q request reply (inr f) list settles = failed f.left settles
+  where
+    failed : Stays p q ⊎ IsCut serve p request q → MaySettleAs q list → (before : List Command) × (more : List Command) × MaySettleAs p before × (list ≡ before ++ more)
+    failed (inl stays) settles = (list, [], stays_in p q stays list settles, sym (append-nil list))
+    failed (inr cut) (inl same) = (q.list, [], cut.list, same ∙ sym (append-nil q.list))
+    failed (inr cut) (inr some) = let x = pending_more q.list q.pending list some in (q.list, x.0, cut.list, x.1)
+
+module _ (s : Setting) (c : ℕ) (told : IsTrue (s.told c)) where
+  pub grows_executes : (cloud : ℕ) (old new : ℕ → Peer) (request : Request) (reply : Reply) → Executes s cloud old request reply new → Grows (old c) (new c)
+  grows_executes cloud old new request reply x = elim (cases_eq c cloud) [
+    | inl same ↦ subst (λ (n : ℕ). Grows (old n) (new n)) (sym same) (grows_told (served_at s cloud) (old cloud) (new cloud) request reply
+        (subst (λ (b : Bool). MatchBool b (ExecTold (served_at s cloud) (old cloud) request reply (new cloud)) (ExecUntold s.shape (old cloud) request reply (new cloud)))
+        (subst (λ (n : ℕ). IsTrue (s.told n)) same told) x.does.does))
+    | inr ne ↦ grows_same (old c) (new c) (x.others c ne)
+  ]
+
+  grows_one : (cloud : ℕ) (Goes : Peer → Peer → Type 0) (old new : ℕ → Peer) → OneGoes cloud Goes old new → (c ≡ cloud → Goes (old cloud) (new cloud) → Grows (old cloud) (new cloud)) → Grows (old c) (new c)
+  grows_one cloud Goes old new x there = elim (cases_eq c cloud) [
+    | inl same ↦ subst (λ (n : ℕ). Grows (old n) (new n)) (sym same) (there same x.goes)
+    | inr ne ↦ grows_same (old c) (new c) (x.others c ne)
+  ]
+
+  pub grows_run : (cloud : ℕ) (p : Progress) (old : ℕ → Peer) (turns : List (Turn (ℕ → Peer))) (last : Progress) (new : ℕ → Peer) → LaneRun (Executes s cloud) p old turns last new → Grows (old c) (new c)
+  grows_run cloud p old [] last new run = grows_same (old c) (new c) (ap (λ (f : ℕ → Peer). f c) run.2)
+  grows_run cloud p old (t ∷ turns) last new run =
+      grows_on (old c) (run.3.0 c) (new c) (grows_executes cloud old run.3.0 t.request t.reply run.3.1) (grows_run cloud (progress_after p t.reply) run.3.0 turns last new run.3.2)
+
+  pub grows_finish : (job : ℕ) (clouds : List ℕ) (old : Vault) (answers : List Line) (moments : List Moment) (new : Vault) → FinishLanes s job clouds old answers moments new → Grows (old.peers c) (new.peers c)
+  grows_finish job [] old answers moments new f = grows_same (old.peers c) (new.peers c) (ap (λ (v : Vault). v.peers c) f.2)
+  grows_finish job (cloud ∷ clouds) old answers moments new f =
+      grows_on (old.peers c) (f.3.peers c) (new.peers c) (grows_run cloud _ old.peers f.0 f.1 f.3.peers f.7) (grows_finish job clouds f.3 f.5 f.6 new f.13)
+
+  grows_lane : (job cloud : ℕ) (request : Option Request) (old : Vault) (answers : List Line) (moments : List Moment) (new : Vault) → LaneStep s job cloud request old answers moments new → Grows (old.peers c) (new.peers c)
+  grows_lane job cloud None old answers moments new x = grows_same (old.peers c) (new.peers c) (ap (λ (v : Vault). v.peers c) x.2)
+  grows_lane job cloud (Some request) old answers moments new x = grows_executes cloud old.peers new.peers request x.0 x.3
+
+  grows_drop : (job cloud : ℕ) (request : Option Request) (old : Vault) (answers : List Line) (moments : List Moment) (new : Vault) → DropStep s job cloud request old answers moments new → Grows (old.peers c) (new.peers c)
+  grows_drop job cloud None old answers moments new x = grows_same (old.peers c) (new.peers c) (ap (λ (v : Vault). v.peers c) x.2)
+  grows_drop job cloud (Some request) old answers moments new x = grows_executes cloud old.peers new.peers request x.0 x.1
+
+  grows_reopen : (result : Result ℕ OpenErr) (p q : Peer) → ReopensAs true p q result → Grows p q
+  grows_reopen (Ok commands) p q r = grows_in p q (settles_in p q r.0)
+  grows_reopen (Err errors.Fault) p q r = grows_in p q (stays_in p q r.0)
+  grows_reopen (Err (errors.NotBegun len)) p q r = grows_same p q r.0
+  grows_reopen (Err (errors.OtherStore found asked)) p q r = absurd r
+  grows_reopen (Err (errors.Damaged at byte)) p q r = absurd r
+  grows_reopen (Err (errors.RoomsTooSmall room limit at)) p q r = absurd r
+  grows_reopen (Err errors.NoMemory) p q r = absurd r
+
+  pub grows_step : (old : Vault) (event : Event) (answers : List Line) (moments : List Moment) (new : Vault) → VStep s old event answers moments new → Grows (old.peers c) (new.peers c)
+  grows_step old (events.Upload user path version bytes) answers moments new x = grows_same (old.peers c) (new.peers c) (ap (λ (f : ℕ → Peer). f c) x.2)
+  grows_step old (events.Step job lane) answers moments new x = grows_lane job lane.0 (lanes.request_at (lanes_of old.jobs job) lane.0) old answers moments new x
+  grows_step old (events.Lose job lane) answers moments new x = grows_same (old.peers c) (new.peers c) (ap (λ (v : Vault). v.peers c) x.2)
+  grows_step old (events.Drop job lane) answers moments new x = grows_drop job lane.0 (lanes.request_at (lanes_of old.jobs job) lane.0) old answers moments new x
+  grows_step old (events.Finish job) answers moments new x = grows_finish job _ old x.0 moments new x.1
+  grows_step old (events.Get user path version clouds) answers moments new x = grows_in (old.peers c) (new.peers c) (by_read (x.1.read.read c).0)
+    where
+      by_read : Stays (old.peers c) (new.peers c) ⊎ Settles (old.peers c) (new.peers c) → (list : List Command) → MaySettleAs (new.peers c) list → MaySettleAs (old.peers c) list
+      by_read (inl stays) = stays_in (old.peers c) (new.peers c) stays
+      by_read (inr settles) = settles_in (old.peers c) (new.peers c) settles
+  grows_step old (events.Arm cloud calls keep) answers moments new x =
+      grows_one cloud.0 _ old.peers new.peers x.0 (λ same armed. grows_in (old.peers cloud.0) (new.peers cloud.0) (stays_in (old.peers cloud.0) (new.peers cloud.0) armed.stays))
+  grows_step old (events.Restart cloud) answers moments new x =
+      grows_one cloud.0 _ old.peers new.peers x.1 (λ same r. grows_reopen r.0 (old.peers cloud.0) (new.peers cloud.0)
+      (subst (λ (b : Bool). MatchBool b (ReopensAs true (old.peers cloud.0) (new.peers cloud.0) r.0) (ReopensUntold r.0 (old.peers cloud.0) (new.peers cloud.0))) (subst (λ (n : ℕ). IsTrue (s.told n)) same told) r.2))
+  grows_step old (events.List user cloud) answers moments new x = absurd x
+  grows_step old (events.Replace cloud) answers moments new x = absurd x
+  grows_step old (events.Rebuild user target from) answers moments new x = absurd x
+
+  pub grows_turns : (history : List Answered) (old new : Vault) → Turns s old history new → Grows (old.peers c) (new.peers c)
+  grows_turns [] old new t = grows_same (old.peers c) (new.peers c) (ap (λ (v : Vault). v.peers c) t)
+  grows_turns (a ∷ more) old new t =
+      grows_on (old.peers c) (a.after.peers c) (new.peers c) (grows_step old a.event a.answers a.moments a.after t.1)
+      (grows_turns more a.after new t.2)
+
+  -- ---- at each moment of a line
+
+  grows_turn : (cloud : ℕ) (p : Progress) (old : ℕ → Peer) (turns : List (Turn (ℕ → Peer))) (last : Progress) (new : ℕ → Peer) → LaneRun (Executes s cloud) p old turns last new
+      → (m : Moment) → Contains (map (moment_of cloud) turns) m → Grows (old c) (m.peers c)
+  grows_turn cloud p old [] last new run m has = absurd (contains_nothing m has)
+  grows_turn cloud p old (t ∷ turns) last new run m has = elim (contains_cases (moment_of cloud t) (map (moment_of cloud) turns) m has) [
+    | inl same ↦ grows_same (old c) (m.peers c) (ap (λ (n : Moment). n.peers c) (sym same) ∙ ap (λ (f : ℕ → Peer). f c) run.1)
+    | inr later ↦ grows_on (old c) (run.3.0 c) (m.peers c) (grows_executes cloud old run.3.0 t.request t.reply run.3.1) (grows_turn cloud (progress_after p t.reply) run.3.0 turns last new run.3.2 m later)
+  ]
+
+  grows_finish_at : (job : ℕ) (clouds : List ℕ) (old : Vault) (answers : List Line) (moments : List Moment) (new : Vault) → FinishLanes s job clouds old answers moments new
+      → (m : Moment) → Contains moments m → Grows (old.peers c) (m.peers c)
+  grows_finish_at job [] old answers moments new f m has = absurd (contains_nothing m (subst (λ (l : List Moment). Contains l m) f.1 has))
+  grows_finish_at job (cloud ∷ clouds) old answers moments new f m has = elim (Contains-append_cases (map (moment_of cloud) f.0) f.6 m (subst (λ (l : List Moment). Contains l m) f.12 has)) [
+    | inl here ↦ grows_turn cloud _ old.peers f.0 f.1 f.3.peers f.7 m here
+    | inr later ↦ grows_on (old.peers c) (f.3.peers c) (m.peers c) (grows_run cloud _ old.peers f.0 f.1 f.3.peers f.7) (grows_finish_at job clouds f.3 f.5 f.6 new f.13 m later)
+  ]
+
+  grows_alone : (old : ℕ → Peer) (event : Option Execution) (moments : List Moment) → moments ≡ record { peers = old; event = event } ∷ [] → (m : Moment) → Contains moments m → Grows (old c) (m.peers c)
+  grows_alone old event moments e m has = elim (contains_cases (record { peers = old; event = event }) [] m (subst (λ (l : List Moment). Contains l m) e has)) [
+    | inl same ↦ grows_same (old c) (m.peers c) (ap (λ (n : Moment). n.peers c) (sym same))
+    | inr none ↦ absurd (contains_nothing m none)
+  ]
+
+  grows_lane_at : (job cloud : ℕ) (request : Option Request) (old : Vault) (answers : List Line) (moments : List Moment) (new : Vault) → LaneStep s job cloud request old answers moments new
+      → (m : Moment) → Contains moments m → Grows (old.peers c) (m.peers c)
+  grows_lane_at job cloud None old answers moments new x = grows_alone old.peers None moments x.1
+  grows_lane_at job cloud (Some request) old answers moments new x = grows_alone old.peers _ moments x.4
+
+  grows_drop_at : (job cloud : ℕ) (request : Option Request) (old : Vault) (answers : List Line) (moments : List Moment) (new : Vault) → DropStep s job cloud request old answers moments new
+      → (m : Moment) → Contains moments m → Grows (old.peers c) (m.peers c)
+  grows_drop_at job cloud None old answers moments new x = grows_alone old.peers None moments x.1
+  grows_drop_at job cloud (Some request) old answers moments new x = grows_alone old.peers _ moments x.2
+
+  pub grows_at : (old : Vault) (event : Event) (answers : List Line) (moments : List Moment) (new : Vault) → VStep s old event answers moments new → (m : Moment) → Contains moments m → Grows (old.peers c) (m.peers c)
+  grows_at old (events.Upload user path version bytes) answers moments new x = grows_alone old.peers None moments x.1
+  grows_at old (events.Step job lane) answers moments new x = grows_lane_at job lane.0 (lanes.request_at (lanes_of old.jobs job) lane.0) old answers moments new x
+  grows_at old (events.Lose job lane) answers moments new x = grows_alone old.peers None moments x.1
+  grows_at old (events.Drop job lane) answers moments new x = grows_drop_at job lane.0 (lanes.request_at (lanes_of old.jobs job) lane.0) old answers moments new x
+  grows_at old (events.Finish job) answers moments new x = grows_finish_at job _ old x.0 moments new x.1
+  grows_at old (events.Get user path version clouds) answers moments new x = grows_alone old.peers None moments x.3
+  grows_at old (events.Arm cloud calls keep) answers moments new x = grows_alone old.peers None moments x.2
+  grows_at old (events.Restart cloud) answers moments new x = grows_alone old.peers None moments x.3
+  grows_at old (events.List user cloud) answers moments new x = absurd x
+  grows_at old (events.Replace cloud) answers moments new x = absurd x
+  grows_at old (events.Rebuild user target from) answers moments new x = absurd x
+
+  pub grows_last : (between : Vault) (begun : Option Begun) (last : ℕ → Peer) → MatchOption begun (last ≡ between.peers) (λ b. IsPartOf s between b last) → Grows (between.peers c) (last c)
+  grows_last between None last x = grows_same (between.peers c) (last c) (ap (λ (f : ℕ → Peer). f c) x)
+  grows_last between (Some b) last x = by_rest x.1 x.3 x.4
+    where
+      by_rest : (rest : List Moment) → VStep s between b.event x.0 (b.moments ++ rest) x.2 → ComesTo rest x.2.peers last → Grows (between.peers c) (last c)
+      by_rest [] step comes = grows_on (between.peers c) (x.2.peers c) (last c) (grows_step between b.event x.0 (b.moments ++ []) x.2 step) (grows_same (x.2.peers c) (last c) (ap (λ (f : ℕ → Peer). f c) comes))
+      by_rest (m ∷ rest) step comes =
+          grows_on (between.peers c) (m.peers c) (last c) (grows_at between b.event x.0 (b.moments ++ m ∷ rest) x.2 step m (Contains-append_right b.moments (m ∷ rest) m (contains_here m rest)))
+          (grows_same (m.peers c) (last c) (ap (λ (f : ℕ → Peer). f c) comes))

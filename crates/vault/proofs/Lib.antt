@@ -1,0 +1,11 @@
+pub mod Private
+pub mod Ranged
+pub mod Growing
+pub mod Jobs
+pub mod Committed
+pub mod Seen
+pub mod Lines
+pub mod Acknowledged
+pub mod Parts
+pub mod Unmoved
+mod Examples

@@ -1,0 +1,170 @@
+-- A line that was cut before it moved anything goes on by a fault.
+use Rattle.std.proofs.Common.{◌≡◌, ℕ, ◌+◌, ◌-◌, ◌^◌, Bool, true, false, List, [], ◌∷◌, ◌++◌, length, min, Option, Some, None, refl, sym, subst, arith}
+use Rattle.std.specs.Prelude.{IsTrue, Err}
+use Rattle.std.specs.Bool.{MatchBool}
+use Rattle.std.specs.List.{range_with_len}
+use Rattle.cd_base.specs.declared.ids.CloudNo.{CloudNo}
+use Rattle.cd_base.specs.declared.ids.UserId.{UserId}
+use Rattle.cd_base.specs.declared.ids.Version.{Version}
+use Rattle.cd_edges.specs.Causes.{Rose}
+use Rattle.commit_journal.specs.declared.errors.OpenErr.TheVariants as errors
+use Rattle.messages.specs.declared.request.Request.{Request}
+use Rattle.messages.specs.declared.reply.Reply.TheVariants as replies
+use Rattle.user_dedup.specs.Exec.{Peer}
+use Rattle.share_server.specs.Serving.{ReopensAs}
+use Rattle.upload_job.specs.declared.news.LaneNews.TheVariants as lane_news
+use Rattle.upload_job.specs.Lanes.{with_state}
+use Rattle.lane_requests.specs.Runs.{moved, lane_at}
+use Rattle.local_link.specs.Calls.{Armed}
+use Rattle.session.specs.Spelling.{Fits, AreClouds}
+use Rattle.session.specs.declared.event.Event.{Event}
+use Rattle.session.specs.declared.event.Event.TheVariants as events
+use Rattle.transcript.specs.declared.line.Line.{Line}
+use Rattle.transcript.specs.declared.line.Line.TheVariants as lines
+use Rattle.vault.specs.Scripts.{is_carried}
+use Rattle.vault.specs.Vault.{Setting, Vault, new_job, lanes_of, with_lanes, OneGoes}
+use Rattle.vault.specs.Steps.{Execution, quiet, no_step, step_line, stored_line, lose_lines, all_done, asked_by, version_of, LaneStep, DropStep, ReopensUntold, RestartStep}
+use Rattle.vault.specs.Headline.{IsPartOf}
+use Rattle.vault.proofs.Seen.{first_finish}
+use Rattle.vault.proofs.Parts.{fault_of, put, put_here, put_other, news_fault, fails, finishes, comes, part_of_get}
+
+-- nothing of the line has passed
+abbrev pub IsUnmoved : Setting → Vault → Event → Type 0
+IsUnmoved s old event = IsPartOf s old (record { event = event; moments = [] }) old.peers
+
+armed_of : Peer → Peer
+armed_of p = record { list = p.list; pending = p.pending; faults = p.faults; armings = min (p.armings + 1) (2 ^ 64 - 1) }
+
+module _ (s : Setting) (old : Vault) where
+  -- the cloud goes on so, and the others stay
+  one_goes : (cloud : ℕ) (Goes : Peer → Peer → Type 0) (p : Peer) → Goes (old.peers cloud) p → OneGoes cloud Goes old.peers (put old.peers cloud p)
+  one_goes cloud Goes p goes = record {
+    goes = subst (Goes (old.peers cloud)) (sym (put_here old.peers cloud p)) goes;
+    others = put_other old.peers cloud p;
+  }
+
+  part_of_upload : (user : UserId) (path : List ℕ) (version : Version) (bytes : List ℕ) → IsUnmoved s old (events.Upload user path version bytes)
+  part_of_upload user path version bytes = (
+    lines.Job (length old.jobs + 1) ∷ [],
+    quiet old.peers,
+    record { peers = old.peers; jobs = old.jobs ++ new_job s (version_of user path version bytes) ∷ [] },
+    (refl, refl, refl, refl),
+    refl,
+  )
+
+  -- the step of a lane that has this request, or none
+  lane_fails : (job cloud : ℕ) (r : Option Request) → (answers : List Line) × (after : Vault) × (event : Option Execution) × LaneStep s job cloud r old answers (record { peers = old.peers; event = event } ∷ []) after
+  lane_fails job cloud None = (no_step job cloud, old, None, (refl, refl, refl))
+  lane_fails job cloud (Some request) =
+      let views = lanes_of old.jobs job in
+      let after = with_state views cloud (moved (lane_at views cloud) replies.Fault).state in (
+        step_line job cloud lane_news.Fault ∷ stored_line job views after,
+        record { peers = put old.peers cloud (fault_of (old.peers cloud)); jobs = with_lanes old.jobs job after },
+        Some (record { cloud = cloud; request = request; reply = replies.Fault }),
+        (
+          replies.Fault,
+          lane_news.Fault,
+          after,
+          fails s cloud old.peers request,
+          refl,
+          news_fault (lane_at views cloud).state,
+          refl,
+          refl,
+          refl,
+        ),
+      )
+
+  part_of_step : (job : ℕ) (lane : CloudNo) → IsUnmoved s old (events.Step job lane)
+  part_of_step job lane =
+      let x = lane_fails job lane.0 (asked_by old job lane.0) in
+      (x.0, record { peers = old.peers; event = x.2 } ∷ [], x.1, x.3, refl)
+
+  drop_fails : (job cloud : ℕ) (r : Option Request) → (answers : List Line) × (after : Vault) × (event : Option Execution) × DropStep s job cloud r old answers (record { peers = old.peers; event = event } ∷ []) after
+  drop_fails job cloud None = (no_step job cloud, old, None, (refl, refl, refl))
+  drop_fails job cloud (Some request) = (
+    lines.Lost job (record { 0 = cloud }) ∷ [],
+    record { peers = put old.peers cloud (fault_of (old.peers cloud)); jobs = old.jobs },
+    Some (record { cloud = cloud; request = request; reply = replies.Fault }),
+    (replies.Fault, fails s cloud old.peers request, refl, refl, refl),
+  )
+
+  part_of_drop : (job : ℕ) (lane : CloudNo) → IsUnmoved s old (events.Drop job lane)
+  part_of_drop job lane =
+      let x = drop_fails job lane.0 (asked_by old job lane.0) in
+      (x.0, record { peers = old.peers; event = x.2 } ∷ [], x.1, x.3, refl)
+
+  part_of_lose : (job : ℕ) (lane : CloudNo) → IsUnmoved s old (events.Lose job lane)
+  part_of_lose job lane = (lose_lines job lane.0 (asked_by old job lane.0), quiet old.peers, old, (refl, refl, refl), refl)
+
+  part_of_arm : (cloud : CloudNo) (calls keep : ℕ) → IsUnmoved s old (events.Arm cloud calls keep)
+  unfolding armed_of
+  part_of_arm cloud calls keep = (
+    lines.Armed cloud ∷ [],
+    quiet old.peers,
+    record { peers = put old.peers cloud.0 (armed_of (old.peers cloud.0)); jobs = old.jobs },
+    (
+      one_goes cloud.0 Armed (armed_of (old.peers cloud.0)) (record { stays = record { list = refl; pending = refl }; faults = refl; armings = refl }),
+      refl,
+      refl,
+      refl,
+    ),
+    refl,
+  )
+
+  part_of_restart : (cloud : CloudNo) → IsUnmoved s old (events.Restart cloud)
+  unfolding fault_of
+  part_of_restart cloud = (
+    line ∷ [],
+    quiet old.peers,
+    record { peers = put old.peers cloud.0 (fault_of (old.peers cloud.0)); jobs = old.jobs },
+    (
+      line,
+      one_goes cloud.0 (RestartStep s cloud.0 line) (fault_of (old.peers cloud.0)) (Err errors.Fault, refl, by_told (s.told cloud.0) (old.peers cloud.0)),
+      refl,
+      refl,
+      refl,
+    ),
+    refl,
+  )
+    where
+      line : Line
+      line = lines.Fault cloud
+
+      rose : (p : Peer) → Rose p.faults (fault_of p).faults
+      rose p = let r : Rose p.faults (p.faults + 1) = omega arith in r
+
+      by_told : (b : Bool) (p : Peer) → MatchBool b (ReopensAs true p (fault_of p) (Err errors.Fault)) (ReopensUntold (Err errors.Fault) p (fault_of p))
+      by_told true p = (record { list = refl; pending = refl }, rose p, refl)
+      by_told false p = record {
+        stays = record { list = refl; pending = refl };
+        counts = record { faults = omega arith; armings = refl };
+        fault = λ is. rose p;
+      }
+
+  part_of_finish_begun : (job : ℕ) → IsUnmoved s old (events.Finish job)
+  part_of_finish_begun job =
+      let r = finishes s job (range_with_len 0 s.shape.n) old in (
+        r.answers ++ lines.End job (all_done (lanes_of r.new.jobs job)) ∷ [],
+        r.moments,
+        r.new,
+        (r.answers, r.lanes_run, refl),
+        comes s r.moments old.peers r.new.peers (first_finish s job (range_with_len 0 s.shape.n) old r.answers r.moments r.new r.lanes_run),
+      )
+
+  -- a get names a cloud at least
+  part_of_read : (jobs : ℕ) (user : UserId) (path : List ℕ) (version : Version) (clouds : List ℕ) → AreClouds s.shape clouds → IsUnmoved s old (events.Get user path version clouds)
+  part_of_read jobs user path version [] are = absurd (let n : 0 ≡ s.shape.k = are.count in let m = s.shape.several in omega arith)
+  part_of_read jobs user path version (cloud ∷ clouds) are = part_of_get s old user path version cloud clouds
+
+  pub unmoved : (jobs : ℕ) (event : Event) → Fits s.shape jobs event → IsTrue (is_carried event) → IsUnmoved s old event
+  unmoved jobs (events.Upload user path version bytes) fits carried = part_of_upload user path version bytes
+  unmoved jobs (events.Step job lane) fits carried = part_of_step job lane
+  unmoved jobs (events.Lose job lane) fits carried = part_of_lose job lane
+  unmoved jobs (events.Drop job lane) fits carried = part_of_drop job lane
+  unmoved jobs (events.Finish job) fits carried = part_of_finish_begun job
+  unmoved jobs (events.Get user path version clouds) fits carried = part_of_read jobs user path version clouds fits.1
+  unmoved jobs (events.Arm cloud calls keep) fits carried = part_of_arm cloud calls keep
+  unmoved jobs (events.Restart cloud) fits carried = part_of_restart cloud
+  unmoved jobs (events.List user cloud) fits carried = absurd (let f : false ≡ true = carried in cc)
+  unmoved jobs (events.Replace cloud) fits carried = absurd (let f : false ≡ true = carried in cc)
+  unmoved jobs (events.Rebuild user target from) fits carried = absurd (let f : false ≡ true = carried in cc)

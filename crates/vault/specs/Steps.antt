@@ -1,0 +1,253 @@
+-- What each line of a script does to a vault, and what is answered.
+use Rattle.std.specs.Prelude.{◌≡◌, ℕ, ◌+◌, Bool, true, false, not, ◌&&◌, IsTrue, List, [], ◌∷◌, ◌++◌, length, map, Option, Some, None, IfErr, Result, Ok, Err, if◌then◌else◌}
+use Rattle.std.specs.Bool.{MatchBool}
+use Rattle.std.specs.List.{Contains, list_all, range_with_len}
+use Rattle.cd_base.specs.declared.ids.Version.{Version}
+use Rattle.cd_base.specs.declared.ids.UserId.{UserId}
+use Rattle.cd_base.specs.declared.ids.CloudNo.{CloudNo}
+use Rattle.cd_base.specs.declared.shape.Shape.{Shape}
+use Rattle.cd_edges.specs.Causes.{Rose}
+use Rattle.commit_journal.specs.declared.errors.OpenErr.{OpenErr}
+use Rattle.commit_journal.specs.declared.errors.OpenErr.TheVariants as errors
+use Rattle.messages.specs.declared.request.Request.{Request}
+use Rattle.messages.specs.declared.reply.Reply.{Reply}
+use Rattle.user_dedup.specs.Exec.{Peer, Stays, CountsOn}
+use Rattle.user_dedup.specs.Link.{LinkTelling}
+use Rattle.share_server.specs.Serving.{ReopensAs}
+use Rattle.upload_job.specs.declared.news.LaneNews.{LaneNews}
+use Rattle.upload_job.specs.declared.news.LaneNews.TheVariants as lane_news
+use Rattle.upload_job.specs.Lane.{LaneState, Done, news_of}
+use Rattle.upload_job.specs.Upload.{FileVersion}
+use Rattle.upload_job.specs.Lanes.{LaneView, with_state}
+use Rattle.upload_job.specs.Lanes as lanes
+use Rattle.lane_requests.specs.Runs.{Turn, Progress, starting, moved, LaneRun, Tell, lane_at}
+use Rattle.restore_job.specs.declared.error.RestoreErr.{RestoreErr}
+use Rattle.restore_job.specs.declared.error.RestoreErr.TheVariants as restore_errors
+use Rattle.restore_job.specs.Asking.{OnlyRead, is_lost}
+use Rattle.restore_job.specs.Reading.{Restores}
+use Rattle.restore_job.specs.Refusals.{Names, Causes}
+use Rattle.kept_files.specs.Kept.{key_of}
+use Rattle.local_link.specs.Calls.{Armed}
+use Rattle.session.specs.declared.event.Event.{Event}
+use Rattle.session.specs.declared.event.Event.TheVariants as events
+use Rattle.transcript.specs.declared.news.News.{News}
+use Rattle.transcript.specs.declared.news.News.TheVariants as news
+use Rattle.transcript.specs.declared.refusal.Refusal.{Refusal}
+use Rattle.transcript.specs.declared.refusal.Refusal.TheVariants as refusals
+use Rattle.transcript.specs.declared.line.Line.{Line}
+use Rattle.transcript.specs.declared.line.Line.TheVariants as lines
+use Rattle.vault.specs.Vault.{Setting, Vault, new_job, lanes_of, with_lanes, Executes, OneGoes}
+
+-- ---- moments
+
+-- a request that a cloud executed, and its reply
+pub record Execution : Type 0 where
+  pub cloud : ℕ
+  pub request : Request
+  pub reply : Reply
+
+-- the clouds, and the event that comes next: an execution, or a line without one
+pub record Moment : Type 0 where
+  pub peers : ℕ → Peer
+  pub event : Option Execution
+
+-- before this cloud executes this request, with this reply
+abbrev pub executed : (ℕ → Peer) → ℕ → Request → Reply → Moment
+executed peers cloud request reply =
+    record { peers = peers; event = Some (record { cloud = cloud; request = request; reply = reply }) }
+
+-- one moment, before a line without an execution
+abbrev pub quiet : (ℕ → Peer) → List Moment
+quiet peers = record { peers = peers; event = None } ∷ []
+
+abbrev pub moment_of : ℕ → Turn (ℕ → Peer) → Moment
+moment_of cloud t = executed t.before cloud t.request t.reply
+
+-- ---- lanes
+
+-- what a step tells, as a transcript says it
+abbrev pub as_told : LaneNews → News
+as_told (lane_news.Known known asked) = news.Known known asked
+as_told (lane_news.Stored new sent) = news.Stored new sent
+as_told lane_news.Committed = news.Committed
+as_told lane_news.Exists = news.Exists
+as_told (lane_news.Lacking place) = news.Lacking place
+as_told (lane_news.Full room used need limit) = news.Full room used need limit
+as_told lane_news.Fault = news.Fault
+as_told (lane_news.Damaged at byte) = news.Damaged at byte
+as_told (lane_news.Rotten named found) = news.Rotten named found
+as_told lane_news.NoMemory = news.NoMemory
+
+abbrev pub cloud_no : ℕ → CloudNo
+cloud_no cloud = record { 0 = cloud }
+
+abbrev pub step_line : ℕ → ℕ → LaneNews → Line
+step_line job cloud told = lines.Step job (cloud_no cloud) (as_told told)
+
+-- the lane has no request
+abbrev pub no_step : ℕ → ℕ → List Line
+no_step job cloud = lines.Step job (cloud_no cloud) news.Done ∷ []
+
+abbrev pub is_done : LaneState → Bool
+is_done Done = true
+is_done state = false
+
+abbrev pub all_done : List LaneView → Bool
+all_done views = list_all (λ (lane : LaneView). is_done lane.state) views
+
+-- the line of a job whose last lane was committed between these
+abbrev pub stored_line : ℕ → List LaneView → List LaneView → List Line
+stored_line job old new = if not (all_done old) && all_done new then lines.JobStored job ∷ [] else []
+
+-- A step of a lane that has this request, or none: the cloud executes it, and the lane moves by the reply.
+abbrev pub LaneStep : Setting → ℕ → ℕ → Option Request → Vault → List Line → List Moment → Vault → Type 0
+LaneStep s job cloud None old answers moments new =
+    (answers ≡ no_step job cloud) × (moments ≡ quiet old.peers) × (new ≡ old)
+LaneStep s job cloud (Some request) old answers moments new =
+    let views = lanes_of old.jobs job in
+    let lane = lane_at views cloud in
+    (reply : Reply) × (told : LaneNews) × (after : List LaneView)
+    × Executes s cloud old.peers request reply new.peers
+    × (moments ≡ executed old.peers cloud request reply ∷ [])
+    × (news_of lane.state reply ≡ Some told)
+    × (after ≡ with_state views cloud (moved lane reply).state)
+    × (new.jobs ≡ with_lanes old.jobs job after)
+    × (answers ≡ step_line job cloud told ∷ stored_line job views after)
+
+-- The request is executed, and the lane doesn't learn it.
+abbrev pub DropStep : Setting → ℕ → ℕ → Option Request → Vault → List Line → List Moment → Vault → Type 0
+DropStep s job cloud None old answers moments new =
+    (answers ≡ no_step job cloud) × (moments ≡ quiet old.peers) × (new ≡ old)
+DropStep s job cloud (Some request) old answers moments new =
+    (reply : Reply) × Executes s cloud old.peers request reply new.peers
+    × (moments ≡ executed old.peers cloud request reply ∷ [])
+    × (new.jobs ≡ old.jobs) × (answers ≡ lines.Lost job (cloud_no cloud) ∷ [])
+
+abbrev pub lose_lines : ℕ → ℕ → Option Request → List Line
+lose_lines job cloud None = no_step job cloud
+lose_lines job cloud (Some request) = lines.Lost job (cloud_no cloud) ∷ []
+
+-- The lanes of a finish in turn.
+abbrev pub FinishLanes : Setting → ℕ → List ℕ → Vault → List Line → List Moment → Vault → Type 0
+FinishLanes s job [] old answers moments new = (answers ≡ []) × (moments ≡ []) × (new ≡ old)
+FinishLanes s job (cloud ∷ clouds) old answers moments new =
+    let views = lanes_of old.jobs job in
+    (turns : List (Turn (ℕ → Peer))) × (last : Progress) × (told : List LaneNews) × (mid : Vault)
+    × (after : List LaneView) × (more : List Line) × (rest : List Moment)
+    × LaneRun (Executes s cloud) (starting (lane_at views cloud)) old.peers turns last mid.peers
+    × Tell (lane_at views cloud) turns told
+    × (after ≡ with_state views cloud last.lane.state)
+    × (mid.jobs ≡ with_lanes old.jobs job after)
+    × (answers ≡ map (step_line job cloud) told ++ stored_line job views after ++ more)
+    × (moments ≡ map (moment_of cloud) turns ++ rest)
+    × FinishLanes s job clouds mid more rest new
+
+-- ---- lines that read
+
+abbrev pub refusal_of : RestoreErr → Option Refusal
+refusal_of (restore_errors.Missing c) = Some (refusals.Missing c)
+refusal_of (restore_errors.Lost c) = Some (refusals.Lost c)
+refusal_of (restore_errors.CloudFault c) = Some (refusals.Fault c)
+refusal_of (restore_errors.CloudDamaged c at byte) = Some (refusals.Damaged c at byte)
+refusal_of (restore_errors.CloudRotten c named found) = Some (refusals.Rotten c named found)
+refusal_of (restore_errors.CloudNoMemory c) = Some (refusals.NoMemory c)
+refusal_of (restore_errors.Strange c kind) = Some (refusals.Strange c kind)
+refusal_of (restore_errors.RecipesDiffer a b place) = Some (refusals.RecipesDiffer a b place)
+refusal_of (restore_errors.ShareLength c secret found wanted) = Some (refusals.ShareLength c secret found wanted)
+refusal_of (restore_errors.BadShare c secret named found) = Some (refusals.BadShare c secret named found)
+refusal_of (restore_errors.BadSecret secret named found) = Some (refusals.BadSecret secret named found)
+refusal_of (restore_errors.BadPad secret at byte) = Some (refusals.BadPad secret at byte)
+refusal_of restore_errors.NoMemory = None
+
+-- the line of a restore that gave this file or this error; its own want of memory has no line
+abbrev pub IsGetLine : Result (Unit {0}) RestoreErr → List ℕ → Line → Type 0
+IsGetLine (Ok u) file line = line ≡ lines.Got file
+IsGetLine (Err e) file line = (why : Refusal) × (refusal_of e ≡ Some why) × (line ≡ lines.Refused why)
+
+-- which clouds are told, as a link's telling, for the causes of a restore's refusals
+abbrev pub told_so : Shape → LinkTelling (ℕ → Bool)
+told_so shape = record {
+  reaches = λ told cloud. true;
+  shape = λ told. shape;
+  told = λ told cloud. told cloud;
+  stands = λ told cloud p. ⊥;
+  full = λ told cloud list command. None;
+  losses = λ told. 0;
+  lossless = λ told. true;
+  passes = λ told exchange after. ⊥;
+}
+
+-- A get: only its clouds are read; a refusal has its cause; and where all of them are told the line is that of their lists
+-- as they stand after it.
+pub record GetStep (s : Setting) (user : UserId) (path : List ℕ) (version : Version) (clouds : List ℕ)
+    (old : ℕ → Peer) (line : Line) (new : ℕ → Peer) : Type 0 where
+  pub result : Result (Unit {0}) RestoreErr
+  pub file : List ℕ
+  pub line_is : IsGetLine result file line
+  pub found : is_lost result ≡ false
+  pub read : OnlyRead clouds old new
+  pub named : IfErr result (Names (Contains clouds))
+  pub caused : Causes (told_so s.shape) s.told s.shape user (key_of s.shape path version) result old new
+  pub told : ((cloud : ℕ) → Contains clouds cloud → IsTrue (s.told cloud))
+      → Restores s.shape user (key_of s.shape path version) clouds result [] file old new
+
+-- ---- lines on one cloud
+
+-- the line of an opening that ended so
+abbrev pub IsRestartLine : ℕ → Result ℕ OpenErr → Line → Type 0
+IsRestartLine cloud (Ok commands) line = line ≡ lines.Restarted (cloud_no cloud) commands
+IsRestartLine cloud (Err errors.Fault) line = line ≡ lines.Fault (cloud_no cloud)
+IsRestartLine cloud (Err e) line = (at : ℕ) × (byte : ℕ) × (line ≡ lines.Damaged (cloud_no cloud) at byte)
+
+abbrev pub IsFault : Result ℕ OpenErr → Type 0
+IsFault (Err errors.Fault) = Unit {0}
+IsFault result = ⊥
+
+-- an opening of a cloud of which nothing is told
+pub record ReopensUntold (result : Result ℕ OpenErr) (old new : Peer) : Type 0 where
+  pub stays : Stays old new
+  pub counts : CountsOn old new
+  pub fault : IsFault result → Rose old.faults new.faults
+
+-- The cloud is opened again, and begun where it wasn't. It may be found damaged only where nothing is told.
+abbrev pub RestartStep : Setting → ℕ → Line → Peer → Peer → Type 0
+RestartStep s cloud line old new =
+    (result : Result ℕ OpenErr) × IsRestartLine cloud result line
+    × MatchBool (s.told cloud) (ReopensAs true old new result) (ReopensUntold result old new)
+
+-- ---- every line
+
+-- what the lane of a job asks of its cloud, if it has a request
+abbrev pub asked_by : Vault → ℕ → ℕ → Option Request
+asked_by v job cloud = lanes.request_at (lanes_of v.jobs job) cloud
+
+abbrev pub version_of : UserId → List ℕ → Version → List ℕ → FileVersion
+version_of user path version bytes = record { user = user; path = path; number = version; file = bytes }
+
+abbrev pub VStep : Setting → Vault → Event → List Line → List Moment → Vault → Type 0
+VStep s old (events.Upload user path version bytes) answers moments new =
+    (answers ≡ lines.Job (length old.jobs + 1) ∷ []) × (moments ≡ quiet old.peers) × (new.peers ≡ old.peers)
+    × (new.jobs ≡ old.jobs ++ new_job s (version_of user path version bytes) ∷ [])
+VStep s old (events.Step job lane) answers moments new =
+    LaneStep s job lane.0 (asked_by old job lane.0) old answers moments new
+VStep s old (events.Lose job lane) answers moments new =
+    (answers ≡ lose_lines job lane.0 (asked_by old job lane.0)) × (moments ≡ quiet old.peers) × (new ≡ old)
+VStep s old (events.Drop job lane) answers moments new =
+    DropStep s job lane.0 (asked_by old job lane.0) old answers moments new
+VStep s old (events.Finish job) answers moments new =
+    (steps : List Line)
+    × FinishLanes s job (range_with_len 0 s.shape.n) old steps moments new
+    × (answers ≡ steps ++ lines.End job (all_done (lanes_of new.jobs job)) ∷ [])
+VStep s old (events.Get user path version clouds) answers moments new =
+    (line : Line) × GetStep s user path version clouds old.peers line new.peers
+    × (answers ≡ line ∷ []) × (moments ≡ quiet old.peers) × (new.jobs ≡ old.jobs)
+VStep s old (events.Arm cloud calls keep) answers moments new =
+    OneGoes cloud.0 Armed old.peers new.peers
+    × (answers ≡ lines.Armed cloud ∷ []) × (moments ≡ quiet old.peers) × (new.jobs ≡ old.jobs)
+VStep s old (events.Restart cloud) answers moments new =
+    (line : Line) × OneGoes cloud.0 (RestartStep s cloud.0 line) old.peers new.peers
+    × (answers ≡ line ∷ []) × (moments ≡ quiet old.peers) × (new.jobs ≡ old.jobs)
+-- not carried out
+VStep s old (events.List user cloud) answers moments new = ⊥
+VStep s old (events.Replace cloud) answers moments new = ⊥
+VStep s old (events.Rebuild user target from) answers moments new = ⊥

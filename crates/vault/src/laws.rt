@@ -1,0 +1,68 @@
+//! What follows of a session that was carried out, whatever carried it out. The calls do nothing.
+
+ghost use Rattle.std.specs.Prelude.{◌≡◌, ℕ, IsTrue, List, [], ◌∷◌, ◌++◌};
+ghost use Rattle.std.specs.List.{range_with_len};
+ghost use Rattle.cd_base.specs.declared.ids.UserId.{UserId};
+ghost use Rattle.cd_base.specs.declared.ids.Version.{Version};
+ghost use Rattle.cd_base.specs.declared.shape.Shape.{Shape};
+ghost use Rattle.messages.specs.declared.request.Request.{Request};
+ghost use Rattle.user_dedup.specs.declared.command.Command.{Command};
+ghost use Rattle.user_dedup.specs.Cloud.{commands_of};
+ghost use Rattle.user_dedup.specs.Requests.{asker};
+ghost use Rattle.user_dedup.specs.Exec.{Peer};
+ghost use Rattle.session.specs.Spelling.{Fits};
+ghost use Rattle.session.specs.declared.event.Event.{Event};
+ghost use Rattle.session.specs.declared.event.Event.TheVariants as events;
+ghost use Rattle.transcript.specs.declared.line.Line.{Line};
+ghost use Rattle.vault.specs.Scripts.{is_carried};
+ghost use Rattle.vault.specs.Vault.{Setting, Vault};
+ghost use Rattle.vault.specs.Steps.{Moment, VStep};
+ghost use Rattle.vault.specs.Run.{IsListIn};
+ghost use Rattle.vault.specs.Cut.{FinishCut};
+ghost use Rattle.cd_edges.specs.Disk.{Cloud};
+ghost use Rattle.vault.specs.Headline.{Session, Begun, IsRun, GivesAcknowledged, DisksKeep, AnswersPrivately, IsPartOf, own_reply};
+
+/// Each reply that speaks of a user's own commands follows from that user's view.
+pub fn law_of_own_replies()
+    ensures { (clouds : ℕ → Cloud) (run : Session) → IsRun clouds run → AnswersPrivately run }
+{}
+
+/// Such a reply follows from the asking user's own commands alone: lists that have the same ones, in the same order, give the same reply,
+/// whatever commands of others lie between them.
+pub fn law_of_own_commands()
+    ensures { (shape : Shape) (cloud : ℕ) (one two : List Command) (request : Request)
+        → commands_of (asker request) two ≡ commands_of (asker request) one
+        → own_reply shape cloud two request ≡ own_reply shape cloud one request }
+{}
+
+/// A get gives each version that its clouds acknowledged; and each list that a crash may leave behind the last state keeps what its cloud
+/// acknowledged.
+pub fn law_of_acknowledged()
+    ensures given { (clouds : ℕ → Cloud) (run : Session) → IsRun clouds run → GivesAcknowledged run }
+    ensures kept { (clouds new : ℕ → Cloud) (run : Session) → IsRun clouds run → DisksKeep run new }
+{}
+
+/// A list that a cloud had by some moment it also had where a line more was carried out, or a part of one.
+pub fn law_of_moments()
+    ensures later { (s : Setting) (cloud : ℕ) (before : List Moment) (old : Vault) (event : Event) (answers : List Line)
+        (moments : List Moment) (new : Vault) → VStep s old event answers moments new
+        → (list : List Command) → IsListIn s cloud before old.peers list → IsListIn s cloud (before ++ moments) new.peers list }
+    ensures here { (s : Setting) (cloud : ℕ) (before moments : List Moment) (last : ℕ → Peer) (list : List Command)
+        → IsListIn s cloud moments last list → IsListIn s cloud (before ++ moments) last list }
+    ensures part { (s : Setting) (cloud : ℕ) (before : List Moment) (old : Vault) (begun : Begun) (last : ℕ → Peer)
+        → IsPartOf s old begun last → (list : List Command) → IsListIn s cloud before old.peers list
+        → IsListIn s cloud (before ++ begun.moments) last list }
+{}
+
+/// A line that want of memory cut is a part of one that goes on, by a fault of what is left: a finish between two requests, a get before
+/// its clouds have moved, and each line of which nothing has passed.
+pub fn law_of_parts()
+    ensures finish { (s : Setting) (job : ℕ) (old : Vault) (moments : List Moment) (last : ℕ → Peer)
+        → FinishCut s job (range_with_len 0 s.shape.n) old moments last
+        → IsPartOf s old (record { event = events.Finish job; moments = moments }) last }
+    ensures get { (s : Setting) (old : Vault) (user : UserId) (path : List ℕ) (version : Version) (cloud : ℕ)
+        (clouds : List ℕ)
+        → IsPartOf s old (record { event = events.Get user path version (cloud ∷ clouds); moments = [] }) old.peers }
+    ensures unmoved { (s : Setting) (old : Vault) (jobs : ℕ) (event : Event) → Fits s.shape jobs event → IsTrue (is_carried event)
+        → IsPartOf s old (record { event = event; moments = [] }) old.peers }
+{}

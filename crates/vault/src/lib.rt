@@ -1,0 +1,9 @@
+//! A session over clouds: what each line of a script does, what is answered to it, and what follows of a whole session. It is definitions
+//! and laws: there is nothing to run.
+#![tactic(auto)]
+
+mod laws;
+
+pub use laws::{
+    law_of_acknowledged, law_of_moments, law_of_own_commands, law_of_own_replies, law_of_parts,
+};

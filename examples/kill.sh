@@ -1,0 +1,45 @@
+#!/usr/bin/env bash
+# Kills the program by `kill -9`, between and inside the lines of a session over four clouds in a folder, and looks at what it left:
+# kill.sh [KILLS].
+#
+# Each journal is then the journal of a session that wasn't killed, up to a place: either it ends there, or the gate there, which that
+# session opened, is still closed. And a new replay over the folder begins with what stands there: it names the first area that has
+# bytes and ends with status 7, or it runs if nothing was written yet.
+set -eu
+kills="${1:-200}"
+. "$(dirname "$0")/../bench/build.sh"
+cd "$work"
+take cdstore
+cp "$top/HANDLES" HANDLES
+cd crates/cdstore
+printf 'cdstore 1 3 2 90000 90000 90000 900 900 900\n' > "$work/script"
+for job in $(seq 1 40); do
+    bytes="$(head -c 3000 /dev/zero | od -An -v -tx1 | tr -d ' \n')$(printf '%06x' "$job")"
+    printf 'upload %d 61 %d %s\nstep %d 0\nstep %d 1\nfinish %d\n' "$((job % 3))" "$job" "$bytes" "$job" "$job" "$job"
+done >> "$work/script"
+rt run -- replay "$work/whole" < "$work/script" > "$work/transcript" 2> "$work/log" || { cat "$work/log"; exit 1; }
+program="$PWD/out/cdstore"
+
+dead=0
+for kill in $(seq 1 "$kills"); do
+    rm -rf "$work/clouds"
+    "$program" replay "$work/clouds" < "$work/script" > "$work/partly" 2> /dev/null &
+    pid=$!
+    sleep "0.$(printf '%03d' $((RANDOM % 200)))"
+    if kill -9 "$pid" 2> /dev/null; then dead=$((dead + 1)); fi
+    wait "$pid" 2> /dev/null || true
+    for cloud in 0 1 2; do
+        journal="$work/clouds/cloud$cloud/journal"
+        [ -s "$journal" ] || continue
+        first="$(cmp -l "$journal" "$work/whole/cloud$cloud/journal" 2> /dev/null | head -1)"
+        set -- $first
+        [ -z "$first" ] || [ "$2 $3" = "0 1" ] || { echo "kill $kill: cloud $cloud's journal differs: $first"; exit 1; }
+    done
+    status=0
+    printf 'cdstore 1 3 2\n' | "$program" replay "$work/clouds" > "$work/again" || status=$?
+    case "$status $(head -c 5 "$work/again")" in
+        "7 store" | "0 open ") ;;
+        *) echo "kill $kill: a new replay said $status"; cat "$work/again"; exit 1 ;;
+    esac
+done
+echo "$dead of $kills runs were killed, and each left a front of its commands on each cloud"
