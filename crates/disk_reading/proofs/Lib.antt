@@ -1,0 +1,5 @@
+pub mod Written
+pub mod Disks
+pub mod Row
+pub mod Restoring
+pub mod Whole

@@ -1,0 +1,4 @@
+pub mod Disks
+pub mod Opening
+pub mod Refusals
+pub mod Ends

@@ -1,0 +1,13 @@
+//! Reading a version of a file from the disks of k clouds alone.
+#![tactic(auto)]
+
+mod end;
+mod opening;
+mod reading;
+mod refusal;
+mod wanted;
+mod writing;
+
+pub use end::ReadEnd;
+pub use reading::read_file;
+pub use wanted::Wanted;
