@@ -48,7 +48,7 @@ by_entry shape (Some entry) bytes r e read =
     let same : entry.recipe ≡ bytes = (let f : Some entry.recipe ≡ Some bytes = e in cc) in
     ap (λ (x : Result Recipe ℕ). Some (recipe_read x)) (ap (recipe_at shape) same ∙ read)
 
-kept_recipe : (shape : Shape) (cloud : ℕ) (list : List Command) (user : UserId) (path : List ℕ) (version : Version) (file : List ℕ) → IsPath path → length file ≤ 67108864 → Keeps shape cloud list user path version file
+pub kept_recipe : (shape : Shape) (cloud : ℕ) (list : List Command) (user : UserId) (path : List ℕ) (version : Version) (file : List ℕ) → IsPath path → length file ≤ 67108864 → Keeps shape cloud list user path version file
     → recipe_in shape list user (key_of shape path version) ≡ Some (recipe_of shape cloud path file)
 kept_recipe shape cloud list user path version file named few keeps =
     by_entry shape (entry_at (user_view shape list user).files (key_of shape path version)) (recipe_bytes shape cloud path file) (recipe_of shape cloud path file) keeps.entry
@@ -70,14 +70,14 @@ same_recipes shape a b path file =
 
 -- ---- rows
 
-rows_long : (f : ℕ → List ℕ) (w : ℕ) (clouds : List ℕ) → ((c : ℕ) → length (f c) ≡ w) → length (flat_map f clouds) ≡ length clouds * w
+pub rows_long : (f : ℕ → List ℕ) (w : ℕ) (clouds : List ℕ) → ((c : ℕ) → length (f c) ≡ w) → length (flat_map f clouds) ≡ length clouds * w
 rows_long f w [] long = omega arith
 rows_long f w (c ∷ clouds) long =
     let rest = rows_long f w clouds long in
     let next : suc (length clouds) * w ≡ w + length clouds * w = omega arith in
     ap length (flat_map-cons f c clouds) ∙ length-append (f c) (flat_map f clouds) ∙ omega (arith, long c, rest)
 
-row_is : (f : ℕ → List ℕ) (w : ℕ) (clouds : List ℕ) (t : ℕ) → ((c : ℕ) → length (f c) ≡ w) → t < length clouds → row w t (flat_map f clouds) ≡ f (slice_index clouds t)
+pub row_is : (f : ℕ → List ℕ) (w : ℕ) (clouds : List ℕ) (t : ℕ) → ((c : ℕ) → length (f c) ≡ w) → t < length clouds → row w t (flat_map f clouds) ≡ f (slice_index clouds t)
 row_is f w [] t long lt = absurd (omega arith)
 row_is f w (c ∷ clouds) zero long lt =
     let none : 0 * w ≡ 0 = omega arith in
@@ -91,7 +91,7 @@ row_is f w (c ∷ clouds) (suc t) long lt =
 
 -- ---- bytes
 
-abbrev AreBytes : List ℕ → Type 0
+abbrev pub AreBytes : List ℕ → Type 0
 AreBytes xs = (i : ℕ) → slice_index xs i < 256
 
 map_bytes : (f : ℕ → ℕ) (xs : List ℕ) → ((x : ℕ) → f x < 256) → AreBytes (map f xs)
@@ -123,11 +123,11 @@ unfolding combine
 combine_lt w v zero = omega arith
 combine_lt w v (suc n) = xor_lt 8 (combine w v n) (product (w n) (v n)) (combine_lt w v n) (product_lt (w n) (v n))
 
-share_bytes : (s : Shape) (j : ℕ) (text : List ℕ) → AreBytes (share s j text)
+pub share_bytes : (s : Shape) (j : ℕ) (text : List ℕ) → AreBytes (share s j text)
 unfolding share share_of share_byte interpolant
 share_bytes s j text = map_bytes (share_byte s (package_of s text) j) (range_with_len 0 (length (package_of s text) / s.k)) (λ c. combine_lt _ _ s.k)
 
-flat_bytes : (f : ℕ → List ℕ) (clouds : List ℕ) → ((c : ℕ) → AreBytes (f c)) → AreBytes (flat_map f clouds)
+pub flat_bytes : (f : ℕ → List ℕ) (clouds : List ℕ) → ((c : ℕ) → AreBytes (f c)) → AreBytes (flat_map f clouds)
 flat_bytes f [] all i = omega arith
 flat_bytes f (c ∷ clouds) all i = (subst AreBytes (sym (flat_map-cons f c clouds)) (append_bytes (f c) (flat_map f clouds) (all c) (λ k. flat_bytes f clouds all k))) i
 

@@ -262,7 +262,7 @@ agreed_unmade t shape user clouds recipes link out tag version = leads_none t cl
 
 -- ---- all of it
 
-givens_by : (shape : Shape) (user : UserId) (key : Tag × Version) (clouds : List ℕ) (recipes : List Recipe) (a : ℕ → Peer) → recipes_in shape user key a clouds ≡ map Some recipes
+pub givens_by : (shape : Shape) (user : UserId) (key : Tag × Version) (clouds : List ℕ) (recipes : List Recipe) (a : ℕ → Peer) → recipes_in shape user key a clouds ≡ map Some recipes
     → map (given_by shape (λ cloud. (a cloud).list) user key) clouds ≡ givens a clouds recipes
 givens_by shape user key [] recipes a are = refl
 givens_by shape user key (c ∷ clouds) [] a are = absurd (let n = ap length are in omega arith)
@@ -271,7 +271,7 @@ givens_by shape user key (c ∷ clouds) (r ∷ recipes) a are =
     let more = givens_by shape user key clouds recipes a h.1 in
     λ i. record { cloud = c; recipe = unwrap_or (h.0 i) no_recipe; held = λ fp. unwrap_or (held_string (a c).list fp) [] } ∷ more i
 
-none_missing : (shape : Shape) (user : UserId) (key : Tag × Version) (clouds : List ℕ) (recipes : List Recipe) (a : ℕ → Peer) → recipes_in shape user key a clouds ≡ map Some recipes
+pub none_missing : (shape : Shape) (user : UserId) (key : Tag × Version) (clouds : List ℕ) (recipes : List Recipe) (a : ℕ → Peer) → recipes_in shape user key a clouds ≡ map Some recipes
     → find (λ cloud. is_none (recipe_in shape (a cloud).list user key)) clouds ≡ None
 none_missing shape user key [] recipes a are = refl
 none_missing shape user key (c ∷ clouds) [] a are = absurd (let n = ap length are in omega arith)
@@ -279,14 +279,14 @@ none_missing shape user key (c ∷ clouds) (r ∷ recipes) a are =
     let h = head_is (recipe_in shape (a c).list user key) (Some r) (recipes_in shape user key a clouds) (map Some recipes) are in
     ap (λ (o : Option Recipe). cond (is_none o) (Some c) (find (λ cloud. is_none (recipe_in shape (a cloud).list user key)) clouds)) h.0 ∙ none_missing shape user key clouds recipes a h.1
 
-file_over : (shape : Shape) (user : UserId) (key : Tag × Version) (clouds : List ℕ) (recipes : List Recipe) (a : ℕ → Peer) → recipes_in shape user key a clouds ≡ map Some recipes
+pub file_over : (shape : Shape) (user : UserId) (key : Tag × Version) (clouds : List ℕ) (recipes : List Recipe) (a : ℕ → Peer) → recipes_in shape user key a clouds ≡ map Some recipes
     → restored_file shape (λ cloud. (a cloud).list) user key clouds ≡ agreed shape (givens a clouds recipes)
 unfolding restored_file
 file_over shape user key clouds recipes a are =
     ap (λ (o : Option ℕ). unless (option_map Restored.Missing o) (agreed shape (map (given_by shape (λ cloud. (a cloud).list) user key) clouds))) (none_missing shape user key clouds recipes a are)
     ∙ ap (agreed shape) (givens_by shape user key clouds recipes a are)
 
-file_missing : (shape : Shape) (user : UserId) (key : Tag × Version) (clouds : List ℕ) (a : ℕ → Peer) (why : Unrestored) → missing shape (λ cloud. (a cloud).list) user key clouds ≡ Some why
+pub file_missing : (shape : Shape) (user : UserId) (key : Tag × Version) (clouds : List ℕ) (a : ℕ → Peer) (why : Unrestored) → missing shape (λ cloud. (a cloud).list) user key clouds ≡ Some why
     → restored_file shape (λ cloud. (a cloud).list) user key clouds ≡ Err why
 unfolding restored_file
 file_missing shape user key clouds a why is = ap (λ (o : Option Unrestored). unless o (agreed shape (map (given_by shape (λ cloud. (a cloud).list) user key) clouds))) is
@@ -396,7 +396,7 @@ never_differs cloud recipe (c ∷ clouds) (r ∷ recipes) =
     by_place None = tt
     by_place (Some place) = tt
 
-never_agreed : (shape : Shape) (all : List Given) → Never (agreed shape all)
+pub never_agreed : (shape : Shape) (all : List Given) → Never (agreed shape all)
 never_agreed shape [] = tt
 never_agreed shape (g ∷ all) =
     never_unless (differing g.cloud g.recipe (map (λ given. given.cloud) all) (map (λ given. given.recipe) all)) (items_opened shape g.recipe.items (g ∷ all))

@@ -60,7 +60,8 @@ fn differ(one: &Recipe, other: &Recipe) -> Option<u32>
     items_differ(3, one.items.as_slice(), other.items.as_slice())
 }
 
-/// Compares recipes of other clouds, in order, with that of the first one.
+/// Compares recipes of other clouds, in order, with that of the first one. RecipesDiffer comes exactly where one differs,
+/// of the first such with the first place; no other error comes.
 pub fn compare(
     first: CloudNo,
     recipe: &Recipe,

@@ -12,6 +12,10 @@ mod reply;
 mod restoring;
 mod rooms;
 mod shares;
+mod versions;
 
+pub use comparing::compare;
 pub use error::RestoreErr;
-pub use restoring::restore;
+pub use recipes::Recipes;
+pub use restoring::{restore, restore_agreed};
+pub use versions::fetch_version;

@@ -23,10 +23,10 @@ use crate::RestoreErr;
 use crate::batch::restore_items;
 use crate::comparing::compare;
 use crate::fetching::{fetch_recipes, next_pair};
+use crate::versions::version_request;
 use caont_rs::tag_of;
 use cd_base::{Bytes, CloudNo, Clouds, NoMemory, Shape, UserId, Version};
 use frames::ReplyBuf;
-use messages::Request;
 use recipe::Recipe;
 use std::alloc::Global;
 use user_dedup::Link;
@@ -44,9 +44,7 @@ fn recipe_request(
     ensures framed { IfOk result (λ content. (1 ≤ length content) × (length content ≤ 4194304)) }
 {
     let tag = tag_of(alloc, shape, path)?;
-    let mut content = Bytes::new(alloc);
-    Request::GetRecipe { user, tag, version }.write(&mut content)?;
-    Ok(content)
+    version_request(alloc, user, tag, version)
 }
 
 // The numbers of clouds, as the code takes them.
@@ -56,8 +54,12 @@ fn points_of(alloc: Global, clouds: &[CloudNo]) -> Result<Vec<u8>, NoMemory>
     Ok(clouds.iter().map(|cloud| cloud.0).collect(alloc)?)
 }
 
-// Compares the recipes, and appends the secrets; after an error a part of them may stand there.
-fn restore_agreed<L: Link>(
+/// Compares the recipes that k clouds have of a file, one for each cloud, with the first one, and appends the file to `out`
+/// as a restore does. After an error a part of it may stand there, behind what stood before.
+///
+/// The errors are those of `restore` but Missing, each with its cause there. Of told clouds whose recipes these are, as
+/// `fetch_version` gives them, the result is what their lists say.
+pub fn restore_agreed<L: Link>(
     alloc: Global,
     link: &mut L,
     shape: Shape,

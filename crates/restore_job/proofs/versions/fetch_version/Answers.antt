@@ -1,0 +1,19 @@
+use Rattle.std.proofs.Common.{List, ℕ, sym, subst, Err}
+use Rattle.messages.specs.declared.request.Request.TheVariants as requests
+use Rattle.messages.specs.Requests.{IsRequest}
+use Rattle.cd_base.specs.Numbers.{numbers_of}
+use Rattle.restore_job.proofs.Leading.{leads_none}
+use Rattle.restore_job.proofs.versions.fetch_version.Goals as goal
+
+pub returns-in-Err-clause-told : goal.returns-in-Err-clause-told
+returns-in-Err-clause-told g c = leads_none g.L.Link.tells (numbers_of c.args.clouds.now) c.args.link.now _ _ (λ a. tt) (λ a. tt)
+
+pub returns-in-Ok-fetch_recipes-clause-told : goal.returns-in-Ok-fetch_recipes-clause-told
+returns-in-Ok-fetch_recipes-clause-told g c =
+    let asks = subst (λ (l : List ℕ). IsRequest l (requests.GetRecipe c.args.user c.args.tag c.args.version)) (sym c.as_slice.ensures) c.in-Ok.ensures.asks in
+    c.in-Ok-fetch_recipes.ensures.told c.args.user c.args.tag c.args.version asks
+
+pub returns-clause-told : goal.returns-clause-told
+returns-clause-told g c =
+    let asks = subst (λ (l : List ℕ). IsRequest l (requests.GetRecipe c.args.user c.args.tag c.args.version)) (sym c.as_slice.ensures) c.in-Ok.ensures.asks in
+    c.in-Err-fetch_recipes.ensures.told c.args.user c.args.tag c.args.version asks
