@@ -105,7 +105,7 @@ line_other : (lines : List Line) (cloud other : ℕ) (line : Line) → other ≢
 line_other lines cloud other line apart = get_or-set_other lines cloud other line no_line apart
 
 -- a line that keeps its port leaves every cloud's port
-port_kept : (lines : List Line) (cloud : ℕ) (line : Line) → cloud < length lines → line.port ≡ (line_of lines cloud).port → (a : ℕ) → (line_of (set lines cloud line) a).port ≡ (line_of lines a).port
+pub port_kept : (lines : List Line) (cloud : ℕ) (line : Line) → cloud < length lines → line.port ≡ (line_of lines cloud).port → (a : ℕ) → (line_of (set lines cloud line) a).port ≡ (line_of lines a).port
 port_kept lines cloud line within same a = elim (nat_cases a cloud) [
   | inl here ↦ subst (λ (n : ℕ). (line_of (set lines cloud line) n).port ≡ (line_of lines n).port) (sym here) (ap (λ (l : Line). l.port) (line_set lines cloud line within) ∙ same)
   | inr apart ↦ ap (λ (l : Line). l.port) (line_other lines cloud a line apart)

@@ -1,5 +1,5 @@
 -- What a link over ports tells: which clouds it reaches, and what was said with them.
-use Rattle.std.specs.Prelude.{◌≡◌, ℕ, Bool, true, false, List, [], ◌++◌, Option, Some, None, IsTrue}
+use Rattle.std.specs.Prelude.{◌≡◌, ◌≤◌, ℕ, Bool, true, false, List, [], ◌++◌, Option, Some, None, IsTrue}
 use Rattle.user_dedup.specs.Link.{Exchange, LinkTelling, Talk}
 use Rattle.frames.specs.Frames.{AreContents, stream}
 use Rattle.cd_edges.specs.Ports.{Telling, OthersStay}
@@ -45,12 +45,16 @@ pub record PassesOn (old new : Telling) (before after : Line) (port : ℕ) (requ
   pub others : OthersStay old new port
   pub heard : IsHeard old new port before after request reply
 
--- ports that tell their bytes say this of an ask
-abbrev pub PassesOver : {P : Type 0} → (P → Telling) → PortsLink P → Exchange → PortsLink P → Type 0
-PassesOver {P} tells old e new =
-    IsTrue (tells old.ports.now).told → (port : ℕ) → (line_of old.lines.items.items e.cloud).port ≡ Some port
-    → PassesOn (tells old.ports.now) (tells new.ports.now)
-    (line_of old.lines.items.items e.cloud) (line_of new.lines.items.items e.cloud) port e.content e.reply
+-- What an ask leaves: the same ports, which tell as much as before and have failed as often or more, and of each cloud the port that it had.
+-- Ports that tell their bytes say this of it.
+pub record PassesOver {P : Type 0} (tells : P → Telling) (faults : P → ℕ) (old : PortsLink P) (e : Exchange) (new : PortsLink P) : Type 0 where
+  pub same_reference : new.ports.ghost_name ≡ old.ports.ghost_name
+  pub told : (tells new.ports.now).told ≡ (tells old.ports.now).told
+  pub later : faults old.ports.now ≤ faults new.ports.now
+  pub lines : (cloud : ℕ) → (line_of new.lines.items.items cloud).port ≡ (line_of old.lines.items.items cloud).port
+  pub bytes : IsTrue (tells old.ports.now).told → (port : ℕ) → (line_of old.lines.items.items e.cloud).port ≡ Some port
+      → PassesOn (tells old.ports.now) (tells new.ports.now)
+      (line_of old.lines.items.items e.cloud) (line_of new.lines.items.items e.cloud) port e.content e.reply
 
 -- It reaches the clouds that have a port, and tells of no cloud what it stands for. What was lost are the ports' faults.
 abbrev pub telling : {P : Type 0} → (P → Telling) → (P → ℕ) → LinkTelling (PortsLink P)
@@ -62,5 +66,5 @@ telling {P} tells faults = record {
   full = λ link cloud list command. None;
   losses = λ link. faults link.ports.now;
   lossless = λ link. false;
-  passes = PassesOver tells;
+  passes = PassesOver tells faults;
 }

@@ -34,8 +34,9 @@ fn next_dialled(dialled: &[(CloudNo, u32)]) -> Option<(CloudNo, u32, &[(CloudNo,
     }
 }
 
-// A line for each number of a cloud, with a port for each of these clouds.
-fn lines_of(alloc: Global, dialled: &[(CloudNo, u32)]) -> Result<Lines, NoMemory>
+/// A line for each number of a cloud, with a port for each of these clouds; a cloud that is named twice has the last of its ports. The
+/// only error is want of memory.
+pub fn lines_of(alloc: Global, dialled: &[(CloudNo, u32)]) -> Result<Lines, NoMemory>
     ensures { IfOk result (λ lines. lines.items.items ≡ lines_for dialled.now) }
 {
     let mut lines = Lines::none(alloc)?;
@@ -96,6 +97,30 @@ impl<'a, P: Ports> PortsLink<'a, P> {
             shape,
             lines,
         })
+    }
+
+    /// A link over these lines, of a store of this shape. Who wants to know of the ports what came of it makes the lines first, and at the
+    /// end takes them back by `release`.
+    pub fn of(ports: &'a mut P, shape: Shape, lines: Lines) -> PortsLink<'a, P>
+        ensures lines { result.lines ≡ lines }
+        ensures shape { (telling P.tells P.faults).shape result ≡ shape }
+        ensures ports { result.ports.now ≡ ports.old }
+        ensures same_reference { result.ports.ghost_name ≡ ports.entry.ghost_name }
+    {
+        PortsLink {
+            ports,
+            shape,
+            lines,
+        }
+    }
+
+    /// Gives the ports back.
+    pub fn release(self) -> &'a mut P
+        ensures ports { result.now ≡ self.entry.ports.now }
+        ensures same_reference { result.ghost_name ≡ self.entry.ports.ghost_name }
+    {
+        let PortsLink { ports, .. } = self;
+        ports
     }
 
     /// Whether it reaches this cloud.

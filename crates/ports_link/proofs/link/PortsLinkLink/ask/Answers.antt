@@ -1,9 +1,9 @@
-use Rattle.std.proofs.Common.{◌≡◌, ◌<◌, List, Some, rules, length, sym, ap, subst, ◌∙◌}
+use Rattle.std.proofs.Common.{◌≡◌, ◌<◌, List, Some, rules, length, refl, sym, ap, subst, ◌∙◌}
 use Rattle.user_dedup.specs.Link.{first_reply, said}
 use Rattle.ports_link.specs.declared.lines.Line.{Line}
 use Rattle.ports_link.specs.Lines.{AsksOn, line_of}
 use Rattle.ports_link.specs.Tells.{HasTalk}
-use Rattle.ports_link.proofs.Talks.{passed, passed_lost, says, said_else, still_said}
+use Rattle.ports_link.proofs.Talks.{passed, passed_lost, port_kept, says, said_else, still_said}
 use Rattle.ports_link.proofs.link.PortsLinkLink.ask.Goals as goal
 
 pub returns-in-Ok-clause-says : goal.returns-in-Ok-clause-says
@@ -35,18 +35,31 @@ returns-in-Err-clause-says_else g c = λ other before apart has.
     c.in-Err.ensures.others other before apart has
 
 pub returns-in-Ok-clause-passes : goal.returns-in-Ok-clause-passes
-returns-in-Ok-clause-passes g c = λ told.
+returns-in-Ok-clause-passes g c =
     let lines = c.args.self.now.lines.items.items in
     let within : c.args.cloud.0 < length lines = search rules in
     let there : (line_of lines c.args.cloud.0).port ≡ Some c.in-Some.port = sym (ap (λ (l : Line). l.port) c.get-line.ensures) ∙ c.in-Some.is in
-    passed (g.P.Ports.tells c.args.self.now.ports.now) (g.P.Ports.tells c.ask_on.new.ports) lines c.args.cloud.0 c.in-Some.port within there
-    (c.in-Ok.ensures.others told) _ c.in-Ok.after c.args.request.now c.ask_on.new.reply c.set.ensures
-    (subst (λ (l : Line). AsksOn (g.P.Ports.tells c.args.self.now.ports.now) (g.P.Ports.tells c.ask_on.new.ports) c.in-Some.port l c.in-Ok.after c.args.request.now c.ask_on.new.reply) c.get-line.ensures (c.in-Ok.ensures.asks told))
+    record {
+      same_reference = refl;
+      told = c.in-Ok.ensures.told;
+      later = c.ask_on.ensures.cause.later;
+      lines = λ cloud. ap (λ (l : List Line). (line_of l cloud).port) c.set.ensures
+          ∙ port_kept lines c.args.cloud.0 c.in-Ok.after within (c.in-Ok.ensures.port ∙ ap (λ (l : Line). l.port) c.get-line.ensures) cloud;
+      bytes = λ told. passed (g.P.Ports.tells c.args.self.now.ports.now) (g.P.Ports.tells c.ask_on.new.ports) lines c.args.cloud.0 c.in-Some.port within there
+          (c.in-Ok.ensures.others told) _ c.in-Ok.after c.args.request.now c.ask_on.new.reply c.set.ensures
+          (subst (λ (l : Line). AsksOn (g.P.Ports.tells c.args.self.now.ports.now) (g.P.Ports.tells c.ask_on.new.ports) c.in-Some.port l c.in-Ok.after c.args.request.now c.ask_on.new.reply) c.get-line.ensures (c.in-Ok.ensures.asks told));
+    }
 
 pub returns-in-Err-clause-passes : goal.returns-in-Err-clause-passes
-returns-in-Err-clause-passes g c = λ told.
+returns-in-Err-clause-passes g c =
     let lines = c.args.self.now.lines.items.items in
     let within : c.args.cloud.0 < length lines = search rules in
     let there : (line_of lines c.args.cloud.0).port ≡ Some c.in-Some.port = sym (ap (λ (l : Line). l.port) c.get-line.ensures) ∙ c.in-Some.is in
-    passed_lost (g.P.Ports.tells c.args.self.now.ports.now) (g.P.Ports.tells c.ask_on.new.ports) lines c.args.cloud.0 c.in-Some.port within there
-    (c.in-Err.ensures.others told) lines c.args.request.now
+    record {
+      same_reference = refl;
+      told = c.in-Err.ensures.told;
+      later = c.ask_on.ensures.cause.later;
+      lines = λ cloud. refl;
+      bytes = λ told. passed_lost (g.P.Ports.tells c.args.self.now.ports.now) (g.P.Ports.tells c.ask_on.new.ports) lines c.args.cloud.0 c.in-Some.port within there
+          (c.in-Err.ensures.others told) lines c.args.request.now;
+    }
