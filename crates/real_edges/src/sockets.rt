@@ -8,36 +8,55 @@ use cd_edges::{Failed, Ports};
 use std::alloc::Global;
 use std::io::{Read, Write};
 use std::net::{Net, TcpListener, TcpStream};
+use std::time::Duration;
 
 /// Connections of the system. They tell no bytes, and each call that fails is counted.
 ///
 /// A port's number is free again once it was closed, and the next connection has it. A call fails where the system refuses it or
-/// memory runs out; `accept` before `listen`, and `recv` and `send` on a number that no connection has.
+/// memory runs out; `accept` before `listen`, and `recv` and `send` on a number that no connection has, and where a patience is set
+/// and the other side let it pass. `accept` waits without end for somebody to come.
 #[derive(Drop)]
 pub struct TcpPorts<'a, N: Net<Listener = TcpListener, Stream = TcpStream>> {
     net: &'a N,
     listener: Option<TcpListener>,
     // A closed one leaves its place to the next.
     streams: Vec<Option<TcpStream>>,
+    // How long a connection waits for the other side; without end where there is none.
+    patience: Option<Duration>,
     faults: u64,
 }
 
 impl<'a, N: Net<Listener = TcpListener, Stream = TcpStream>> TcpPorts<'a, N> {
-    /// No connection yet.
+    /// No connection yet, and patience without end.
     pub fn new(alloc: Global, net: &'a N) -> TcpPorts<'a, N> {
         TcpPorts {
             net,
             listener: None,
             streams: Vec::new(alloc),
+            patience: None,
             faults: 0,
         }
     }
 
-    // Gives a connection a number. Small pieces are sent at once.
+    /// The same with a patience for each connection that comes from now on: a `recv` or a `send` on it fails once the other side
+    /// has sent or taken nothing for so long. With a patience of no time `accept` and `dial` fail.
+    pub fn with_patience(self, patience: Duration) -> TcpPorts<'a, N>
+        ensures faults { result.faults ≡ self.entry.faults }
+        ensures patience { result.patience ≡ Some patience }
+    {
+        TcpPorts {
+            patience: Some(patience),
+            ..self
+        }
+    }
+
+    // Gives a connection a number. Small pieces are sent at once, and no call waits longer than the patience.
     fn keep(&mut self, stream: TcpStream) -> Option<u32>
         ensures { self.new.faults ≡ self.old.faults }
     {
         stream.set_nodelay(true).ok()?;
+        stream.set_read_timeout(self.patience).ok()?;
+        stream.set_write_timeout(self.patience).ok()?;
         let free = self.streams.iter().position(|place| place.is_none());
         match free {
             Some(at) => {

@@ -5,6 +5,7 @@ use cd_base::CloudNo;
 use cd_edges::{Area, Failed, Ports, Shelf, receive, send_all};
 use std::net::TcpListener;
 use std::test::Fail;
+use std::time::Duration;
 use std::{env, fs, process};
 
 #[test]
@@ -59,5 +60,29 @@ fn bytes_go_both_ways(rt: HostRuntime) -> Result<(), Fail> {
     assert_eq!(rt; ports.dial(addr.as_str()), Ok(1));
     assert_eq!(rt; ports.dial("nowhere"), Err(Failed));
     assert_eq!(rt; ports.send(7, &[1]), Err(Failed));
+    Ok(())
+}
+
+#[test]
+fn a_silent_peer_is_a_fault(rt: HostRuntime) -> Result<(), Fail> {
+    let free = TcpListener::bind(&rt, "127.0.0.1:0")?.local_addr()?;
+    let addr = format!(in rt.alloc(); "{free}")?;
+    let mut ports = TcpPorts::new(rt.alloc(), &rt).with_patience(Duration::from_millis(50));
+    assert!(rt; ports.listen(addr.as_str()).is_ok());
+    assert_eq!(rt; ports.dial(addr.as_str()), Ok(0));
+    assert_eq!(rt; ports.accept(), Ok(1));
+    let mut out = [0; 3];
+    assert_eq!(rt; ports.recv(1, &mut out), Err(Failed));
+    // what comes later is there still
+    assert!(rt; send_all(&mut ports, 0, &[5]).is_ok());
+    assert_eq!(rt; ports.recv(1, &mut out), Ok(1));
+    assert_eq!(rt; out[0], 5);
+    // a peer that takes nothing: the system's buffers are full at last
+    let piece = vec![in rt.alloc(); 0u8; 1_000_000]?;
+    let mut taken = true;
+    for _ in 0..1_000 {
+        taken = taken && send_all(&mut ports, 0, piece.as_slice()).is_ok();
+    }
+    assert!(rt; !taken);
     Ok(())
 }
