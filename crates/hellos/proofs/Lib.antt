@@ -1,0 +1,4 @@
+pub mod Opening
+pub mod Chains
+pub mod Clouds
+pub mod Texts

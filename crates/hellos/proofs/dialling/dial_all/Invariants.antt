@@ -1,0 +1,17 @@
+use Rattle.std.proofs.Common.{◌≡◌, ◌+◌, length, IsTrue}
+use Rattle.hellos.specs.Dialled.{Dials}
+use Rattle.hellos.proofs.Opening.{Stands}
+use Rattle.hellos.proofs.dialling.dial_all.Given as goal
+
+abbrev pub invariant-addresses : goal.invariant-addresses
+invariant-addresses g l = record {
+  many : length l.dialled.items + length l.rest ≡ length l.addresses;
+  dials : IsTrue (g.P.Ports.tells l.fn.ports).told → Dials (g.P.Ports.tells l.fn.ports) l.dialled.items
+      (g.P.Ports.tells l.ports);
+  stands : IsTrue (g.P.Ports.tells l.fn.ports).told → Stands (g.P.Ports.tells l.ports) l.dialled.items;
+  told : (g.P.Ports.tells l.ports).told ≡ (g.P.Ports.tells l.fn.ports).told;
+  still : g.P.Ports.faults l.ports ≡ g.P.Ports.faults l.fn.ports;
+}
+
+abbrev pub decreases-addresses : goal.decreases-addresses
+decreases-addresses g l = length l.rest

@@ -1,0 +1,4 @@
+pub mod Dialled
+pub mod Greetings
+pub mod Hellos
+pub mod Refusals
