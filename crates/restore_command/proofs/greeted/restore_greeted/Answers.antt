@@ -1,0 +1,124 @@
+use Rattle.std.proofs.Common.{rules, ◌≡◌, ◌≤◌, ◌<◌, ℕ, List, IsTrue, IfErr, [], sym, ap, ◌∙◌, subst}
+use Rattle.std.specs.Prelude.{All}
+use Rattle.std.specs.List.{Contains}
+use Rattle.cd_edges.specs.Causes.{Rose}
+use Rattle.hellos.specs.Hellos.{HaveTalks, clouds_of}
+use Rattle.ports_link.specs.declared.lines.Line.{Line}
+use Rattle.ports_link.specs.declared.link.PortsLink.{PortsLink}
+use Rattle.ports_link.specs.Lines.{lines_for}
+use Rattle.ports_link.specs.Tells.{HasTalk}
+use Rattle.restore_job.specs.Exchanges.{RestoreSaid, Unlost}
+use Rattle.restore_job.specs.Refusals.{Names}
+use Rattle.restore_command.specs.Calls.{ports_of, tag_in}
+use Rattle.restore_command.specs.Came.{Says}
+use Rattle.restore_command.proofs.Passing.{AreOn, kept, others}
+use Rattle.restore_command.proofs.Lines.{few_clouds, lines_reach, on_ports}
+use Rattle.restore_command.proofs.Saying.{at_call, says_by}
+use Rattle.restore_command.proofs.greeted.restore_greeted.Goals as goal
+
+pub returns-clause-named : goal.returns-clause-named
+returns-clause-named g c =
+    subst (λ (l : List ℕ). IfErr c.restore-came.result (Names (Contains l)))
+    (c.in-Ok.ensures ∙ ap clouds_of c.as_slice.ensures.value) c.restore-came.ensures.named
+
+pub returns-clause-lost : goal.returns-clause-lost
+returns-clause-lost g c = λ yes.
+    let faults = g.P.Ports.faults in
+    let old = c.of-link.result in
+    let new = c.restore-came.new.link in
+    let asked = c.restore-came.ensures.asked in
+    let same : new.ports.ghost_name ≡ old.ports.ghost_name =
+    (kept g.P.Ports.tells faults _ asked.asks old new asked.passed).same_reference in
+    let back : new.ports.now ≡ c.ports-1.given.0 = search rules in
+    subst (λ (p : g.row.P.Denot). Rose (faults p) (faults c.ports-1.given.0)) c.of-link.ensures.ports
+    (subst (λ (p : g.row.P.Denot). Rose (faults old.ports.now) (faults p)) back (asked.lost yes))
+
+pub returns-clause-later : goal.returns-clause-later
+returns-clause-later g c =
+    let faults = g.P.Ports.faults in
+    let old = c.of-link.result in
+    let new = c.restore-came.new.link in
+    let asked = c.restore-came.ensures.asked in
+    let same : new.ports.ghost_name ≡ old.ports.ghost_name =
+    (kept g.P.Ports.tells faults _ asked.asks old new asked.passed).same_reference in
+    let back : new.ports.now ≡ c.ports-1.given.0 = search rules in
+    subst (λ (p : g.row.P.Denot). faults p ≤ faults c.ports-1.given.0) c.of-link.ensures.ports
+    (subst (λ (p : g.row.P.Denot). faults old.ports.now ≤ faults p) back asked.later)
+
+pub returns-clause-told : goal.returns-clause-told
+returns-clause-told g c =
+    let tells = g.P.Ports.tells in
+    let old = c.of-link.result in
+    let new = c.restore-came.new.link in
+    let asked = c.restore-came.ensures.asked in
+    let k = kept tells g.P.Ports.faults _ asked.asks old new asked.passed in
+    let same : new.ports.ghost_name ≡ old.ports.ghost_name = k.same_reference in
+    let back : new.ports.now ≡ c.ports-1.given.0 = search rules in
+    ap (λ (p : g.row.P.Denot). (tells p).told) (sym back) ∙ k.told
+    ∙ ap (λ (p : g.row.P.Denot). (tells p).told) c.of-link.ensures.ports
+
+pub returns-clause-others : goal.returns-clause-others
+returns-clause-others g c = λ told port not.
+    let tells = g.P.Ports.tells in
+    let old = c.of-link.result in
+    let new = c.restore-came.new.link in
+    let asked = c.restore-came.ensures.asked in
+    let items = c.args.greeted.now.lines.items in
+    let same : new.ports.ghost_name ≡ old.ports.ghost_name =
+    (kept tells g.P.Ports.faults _ asked.asks old new asked.passed).same_reference in
+    let back : new.ports.now ≡ c.ports-1.given.0 = search rules in
+    let named : c.in-Ok.clouds ≡ clouds_of items = c.in-Ok.ensures ∙ ap clouds_of c.as_slice.ensures.value in
+    let lines : old.lines.items.items ≡ lines_for items =
+    ap (λ l. l.items.items) c.of-link.ensures.lines ∙ c.in-Ok-lines_of.ensures
+    ∙ ap lines_for c.as_slice-2.ensures.value in
+    let few : All (λ cloud. cloud < 256) (clouds_of items) = few_clouds c.args.greeted.now.shape items
+    c.requires.clouds.2 (c.args.greeted.now.shape.few) in
+    let on = on_ports (lines_for items) items (lines_reach items few c.requires.clouds.1) in
+    ap (λ (p : g.row.P.Denot). (tells p).port port) (sym back)
+    ∙ others tells g.P.Ports.faults c.in-Ok.clouds (ports_of items) asked.asks old new asked.passed
+    (subst (λ (p : g.row.P.Denot). IsTrue (tells p).told) (sym c.of-link.ensures.ports) told)
+    (subst (λ (l : List ℕ). AreOn old.lines.items.items l (ports_of items)) (sym named)
+    (subst (λ (l : List Line). AreOn l (clouds_of items) (ports_of items)) (sym lines) on)) port not
+    ∙ ap (λ (p : g.row.P.Denot). (tells p).port port) c.of-link.ensures.ports
+
+pub returns-clause-said : goal.returns-clause-said
+returns-clause-said g c = λ told talks call user path version after.
+    let tells = g.P.Ports.tells in
+    let old = c.of-link.result in
+    let new = c.restore-came.new.link in
+    let asked = c.restore-came.ensures.asked in
+    let result = c.restore-came.result in
+    let file = c.restore-came.new.out in
+    let greeted = c.args.greeted.now in
+    let items = greeted.lines.items in
+    let k = kept tells g.P.Ports.faults _ asked.asks old new asked.passed in
+    let same : new.ports.ghost_name ≡ old.ports.ghost_name = k.same_reference in
+    let back : new.ports.now ≡ c.ports-1.given.0 = search rules in
+    let named : c.in-Ok.clouds ≡ clouds_of items = c.in-Ok.ensures ∙ ap clouds_of c.as_slice.ensures.value in
+    let lines : old.lines.items.items ≡ lines_for items =
+    ap (λ l. l.items.items) c.of-link.ensures.lines ∙ c.in-Ok-lines_of.ensures
+    ∙ ap lines_for c.as_slice-2.ensures.value in
+    let few : All (λ cloud. cloud < 256) (clouds_of items) = few_clouds greeted.shape items
+    c.requires.clouds.2 greeted.shape.few in
+    let reach = lines_reach items few c.requires.clouds.1 in
+    let on = on_ports (lines_for items) items reach in
+    let told_old = subst (λ (p : g.row.P.Denot). IsTrue (tells p).told) (sym c.of-link.ensures.ports) told in
+    let on_old = subst (λ (l : List ℕ). AreOn old.lines.items.items l (ports_of items)) (sym named)
+    (subst (λ (l : List Line). AreOn l (clouds_of items) (ports_of items)) (sym lines) on) in
+    let talk = λ (l : PortsLink g.row.P.Denot) (cloud : ℕ). HasTalk (tells l.ports.now) l.lines.items.items cloud in
+    let said : Unlost result (RestoreSaid talk old new greeted.shape c.args.user (tag_in greeted.shape c.args.path.now)
+    c.args.version c.in-Ok.clouds c.args.file.now file result) = c.restore-came.ensures.said in
+    subst (λ (p : g.row.P.Denot). Says call greeted (tells p) result file) c.of-link.ensures.ports
+    (says_by (λ (l : PortsLink g.row.P.Denot). tells l.ports.now) (λ l. l.lines.items.items) old new greeted lines
+    k.lines
+    (λ port not. others tells g.P.Ports.faults c.in-Ok.clouds (ports_of items) asked.asks old new asked.passed told_old
+    on_old port not)
+    (subst (λ (p : g.row.P.Denot). HaveTalks (tells p) items) (sym c.of-link.ensures.ports) talks) reach
+    c.requires.clouds.1 call (ap tells back ∙ sym after) result file
+    (at_call (λ u p v. Unlost result (RestoreSaid talk old new greeted.shape u (tag_in greeted.shape p) v
+    (clouds_of items)
+    [] file result)) call c.args.user c.args.path.now c.args.version user path version
+    (subst (λ (l : List ℕ). Unlost result (RestoreSaid talk old new greeted.shape c.args.user
+    (tag_in greeted.shape c.args.path.now) c.args.version l [] file result)) named
+    (subst (λ (l : List ℕ). Unlost result (RestoreSaid talk old new greeted.shape c.args.user
+    (tag_in greeted.shape c.args.path.now) c.args.version c.in-Ok.clouds l file result)) c.requires.empty said))))

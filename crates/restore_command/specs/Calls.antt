@@ -1,0 +1,54 @@
+-- A restore over ports: what it is asked for, and the ports around it.
+use Rattle.std.specs.Prelude.{◌≡◌, ℕ, IsTrue, List, length, map, Ok}
+use Rattle.std.specs.List.{Contains}
+use Rattle.cd_base.specs.declared.ids.CloudNo.{CloudNo}
+use Rattle.cd_base.specs.declared.ids.Tag.{Tag}
+use Rattle.cd_base.specs.declared.ids.UserId.{UserId}
+use Rattle.cd_base.specs.declared.ids.Version.{Version}
+use Rattle.cd_base.specs.declared.shape.Shape.{Shape}
+use Rattle.caont_rs.specs.Package.{tag as tag_at}
+use Rattle.cd_edges.specs.Ports.{Telling}
+use Rattle.hellos.specs.declared.greeting.Greeted.{Greeted}
+use Rattle.hellos.specs.declared.judging.Asked.TheVariants as asked
+use Rattle.hellos.specs.Dialled.{Dials}
+use Rattle.hellos.specs.Hellos.{GreetsAll}
+
+-- What is asked for, of how many addresses, what the ports tell before and after it, and how often they have failed.
+pub record Call : Type 0 where
+  pub user : UserId
+  pub path : List ℕ
+  pub version : Version
+  pub addresses : ℕ
+  pub before : Telling
+  pub after : Telling
+  pub faults_before : ℕ
+  pub faults_after : ℕ
+
+-- the tag of the file in a store of this shape
+abbrev pub tag_in : Shape → List ℕ → Tag
+tag_in shape path = record { 0 = tag_at shape path }
+
+-- the clouds of some lines
+abbrev pub named_in : List (CloudNo × ℕ) → List CloudNo
+named_in lines = map (λ (line : CloudNo × ℕ). line.0) lines
+
+-- the ports of some lines
+abbrev pub ports_of : List (CloudNo × ℕ) → List ℕ
+ports_of lines = map (λ (line : CloudNo × ℕ). line.1) lines
+
+-- All addresses were dialled, in order. Then Hello was asked of each port, in order, and each reply was as asked: they
+-- are so many clouds of a shape as give a file back, and they rise.
+pub record Met (call : Call) (greeted : Greeted) (behind : Telling) : Type 0 where
+  pub dialled : List ℕ
+  pub many : length dialled ≡ call.addresses
+  pub opened : Telling
+  pub told : opened.told ≡ call.before.told
+  pub dials : IsTrue call.before.told → Dials call.before dialled opened
+  pub greets : GreetsAll asked.Restore dialled opened behind (Ok greeted)
+
+-- Ports were dialled, and every other port is as it was.
+pub record OnlyDialled (before after : Telling) : Type 0 where
+  pub dialled : List ℕ
+  pub opened : Telling
+  pub dials : Dials before dialled opened
+  pub others : (port : ℕ) → ¬ Contains dialled port → after.port port ≡ opened.port port

@@ -1,0 +1,4 @@
+pub mod Calls
+pub mod Spoken
+pub mod Came
+pub mod Ends

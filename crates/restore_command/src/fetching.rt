@@ -1,0 +1,92 @@
+//! Fetching a file from addresses.
+
+ghost use Rattle.std.specs.Prelude.{◌≡◌, ◌≤◌, [], length, IsTrue};
+ghost use Rattle.cd_base.specs.Limits.{IsPath};
+ghost use Rattle.restore_command.specs.Calls.{OnlyDialled};
+ghost use Rattle.restore_command.specs.Ends.{Fetches, IsErrOf};
+
+use crate::greeted::restore_greeted;
+use cd_base::{Bytes, NoMemory, UserId, Version};
+use cd_edges::Ports;
+use frames::ReplyBuf;
+use hellos::{Asked, DialErr, GreetErr, Refused, dial_all, greet_all};
+use restore_job::RestoreErr;
+use restore_lines::as_refusal;
+use std::alloc::Global;
+use transcript::Refusal;
+
+/// Why no file was fetched.
+#[derive(Clone, Copy, Debug, PartialEq, Eq)]
+pub enum FetchErr {
+    /// A reply to Hello isn't as asked: the first such.
+    Hello(Refused),
+    /// A later reply, or what came in it, is refused.
+    Refused(Refusal),
+    /// The ports failed.
+    Lost,
+    /// Memory ran out.
+    NoMemory,
+}
+
+// What an error of a restore is here.
+fn fetch_err(error: RestoreErr) -> FetchErr
+    ensures { IsErrOf error result }
+{
+    if let RestoreErr::Lost { .. } = error {
+        return FetchErr::Lost;
+    }
+    match as_refusal(error) {
+        Some(why) => FetchErr::Refused(why),
+        None => FetchErr::NoMemory,
+    }
+}
+
+/// Fetches a version of a file: dials the addresses, asks Hello of each, and restores it from these clouds. After an
+/// error the file may hold a part of it.
+pub fn fetch<P: Ports>(
+    alloc: Global,
+    user: UserId,
+    path: &[u8],
+    version: Version,
+    addresses: &[String],
+    ports: &mut P,
+    file: &mut Bytes,
+) -> Result<(), FetchErr>
+    requires path { IsPath path.now }
+    requires some { 1 ≤ length addresses.now }
+    requires few { length addresses.now ≤ 255 }
+    requires empty { file.old ≡ [] }
+    ensures fetches { Fetches (record {
+      user = user;
+      path = path.now;
+      version = version;
+      addresses = length addresses.now;
+      before = P.tells ports.old;
+      after = P.tells ports.new;
+      faults_before = P.faults ports.old;
+      faults_after = P.faults ports.new;
+    }) result file.new }
+    ensures others { IsTrue (P.tells ports.old).told → OnlyDialled (P.tells ports.old) (P.tells ports.new) }
+    ensures told { (P.tells ports.new).told ≡ (P.tells ports.old).told }
+    ensures later { P.faults ports.old ≤ P.faults ports.new }
+{
+    let mut reply = match ReplyBuf::make(alloc) {
+        Ok(reply) => reply,
+        Err(NoMemory) => return Err(FetchErr::NoMemory),
+    };
+    let dialled = match dial_all(alloc, ports, addresses) {
+        Ok(dialled) => dialled,
+        Err(DialErr::Failed) => return Err(FetchErr::Lost),
+        Err(DialErr::NoMemory) => return Err(FetchErr::NoMemory),
+    };
+    let greeted = match greet_all(alloc, ports, Asked::Restore, dialled.as_slice(), &mut reply) {
+        Ok(greeted) => greeted,
+        Err(GreetErr::Refused(why)) => return Err(FetchErr::Hello(why)),
+        Err(GreetErr::Lost) => return Err(FetchErr::Lost),
+        Err(GreetErr::NoMemory) => return Err(FetchErr::NoMemory),
+    };
+    match restore_greeted(alloc, user, path, version, &greeted, ports, file) {
+        Ok(()) => Ok(()),
+        Err(error) => Err(fetch_err(error)),
+    }
+}

@@ -1,0 +1,7 @@
+//! Restores over ports in memory, on which the replies of four servers come.
+#![tactic(auto)]
+
+#[cfg(test)]
+mod command;
+#[cfg(test)]
+mod servers;
