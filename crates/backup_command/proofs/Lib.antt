@@ -1,0 +1,7 @@
+pub mod Leaving
+pub mod Walking
+pub mod Reaching
+pub mod Joining
+pub mod Ordering
+pub mod Finishing
+pub mod Ending

@@ -1,0 +1,38 @@
+use Rattle.std.proofs.Common.{ℕ, List, [], ◌∷◌, ◌++◌, Ok, sym, ap, ◌∙◌, subst}
+use Rattle.cd_base.specs.declared.ids.CloudNo.{CloudNo}
+use Rattle.cd_edges.specs.Ports.{Telling}
+use Rattle.upload_job.specs.Lanes.{LaneView, lanes_begun}
+use Rattle.transcript.specs.declared.line.Line.TheVariants as lines
+use Rattle.backup_command.specs.Lanes.{LanesGo, numbered}
+use Rattle.backup_command.specs.BackedUp.{version_of}
+use Rattle.backup_command.specs.Texts.{text_of, end_lines}
+use Rattle.backup_command.proofs.Joining.{joined}
+use Rattle.backup_command.proofs.Finishing.{at_call}
+use Rattle.backup_command.proofs.carrying.carry_greeted.Goals as goal
+
+pub returns-in-Ok-put_end-clause-carries : goal.returns-in-Ok-put_end-clause-carries
+returns-in-Ok-put_end-clause-carries g c = λ call dialled user path version after on.
+    let old = g.P.Ports.tells c.args.ports.now in
+    let shape = c.args.greeted.now.shape in
+    let w = c.in-Ok-bring_all.ensures.went dialled on in
+    let last = c.bring_all.new.job in
+    let stored = c.stored-stored.result in (
+      w.answers,
+      last,
+      subst (λ (t : Telling). LanesGo old t (numbered 0 dialled) (lanes_begun shape (version_of call c.args.file))
+          (Ok tt) w.answers last) (sym after)
+          (subst (λ (ls : List (CloudNo × ℕ)). LanesGo old (g.P.Ports.tells c.bring_all.new.ports) ls
+          (lanes_begun shape (version_of call c.args.file)) (Ok tt) w.answers last)
+          on.lines_are
+          (at_call call c.args.user c.args.path.now c.args.version c.args.file shape user path version
+          (λ views. LanesGo old (g.P.Ports.tells c.bring_all.new.ports) c.args.greeted.now.lines.items views
+          (Ok tt) w.answers
+          last)
+          (subst (λ (views : List LaneView). LanesGo old (g.P.Ports.tells c.bring_all.new.ports)
+          c.args.greeted.now.lines.items views (Ok tt) w.answers last) c.in-Ok.ensures.begun w.go))),
+      c.stored-stored.ensures,
+      joined [] c.bring_all.new.text c.put_end.new.text (lines.Job 1 ∷ w.answers) (end_lines stored)
+          (joined [] c.put_line.new.text c.bring_all.new.text (lines.Job 1 ∷ []) w.answers
+          (c.in-Ok-put_line.ensures ∙ ap (λ (l : List ℕ). l ++ text_of (lines.Job 1 ∷ [])) c.requires.empty) w.wrote)
+          c.in-Ok-put_end.ensures,
+    )

@@ -1,0 +1,108 @@
+use Rattle.std.proofs.Common.{◌≡◌, ◌<◌, ℕ, Bool, List, ◌∷◌, length, Ok, Err, IsTrue, sym, ap, ◌∙◌, subst, arith}
+use Rattle.std.specs.Prelude.{All}
+use Rattle.std.proofs.lemmas.List.Elements.{All-head, All-tail}
+use Rattle.std.specs.List.{Contains}
+use Rattle.cd_base.specs.declared.ids.CloudNo.{CloudNo}
+use Rattle.cd_base.specs.declared.shape.Shape.{Shape}
+use Rattle.lane_requests.specs.Reached.{IsReached}
+use Rattle.ports_link.specs.Tells.{telling}
+use Rattle.backup_command.specs.Steps.{AreReady, IsReady, LanesWent, ports_of}
+use Rattle.backup_command.proofs.Joining.{went_none, went_more, went_stopped, rest_ready, not_first, not_later}
+use Rattle.backup_command.proofs.Joining.{not_here}
+use Rattle.backup_command.proofs.lanes.+bring_lanes.Goals as goal
+
+pub returns-in_default-clause-went : goal.returns-in_default-clause-went
+returns-in_default-clause-went g t c = λ behind ready.
+    subst (λ (ls : List (CloudNo × ℕ)). LanesWent behind (g.P.Ports.tells c.args.link.now.ports.now) ls c.args.job.now
+    (Ok tt) c.args.job.now c.args.text.now c.args.text.now) (sym c.in_default.ensures)
+    (went_none behind (g.P.Ports.tells c.args.link.now.ports.now) c.args.job.now c.args.text.now)
+
+pub returns-in-Err-clause-went : goal.returns-in-Err-clause-went
+returns-in-Err-clause-went g t c = λ behind ready.
+    let tells = g.P.Ports.tells in
+    let old = c.args.link.now in
+    let new = c.bring_one.new.link in
+    let line : CloudNo × ℕ = c.in-Some.line in
+    let rest = c.in-Some.more.now in
+    let e = c.in-Some.ensures in
+    let r = subst (AreReady behind tells old) e ready in
+    subst (λ (ls : List (CloudNo × ℕ)). LanesWent behind (tells new.ports.now) ls c.args.job.now (Err c.in-Err.halt)
+    c.bring_one.new.job c.args.text.now c.bring_one.new.text) (sym e)
+    (went_stopped tells behind old new line rest c.args.job.now c.bring_one.new.job c.in-Err.halt c.args.text.now
+    c.bring_one.new.text r c.in-Err.ensures.leaves
+    (c.in-Err.ensures.goes behind line.1 r.told (All-head (IsReady behind tells old) line rest r.each)))
+
+pub returns-in-Err-clause-others : goal.returns-in-Err-clause-others
+returns-in-Err-clause-others g t c = λ behind ready told port none.
+    let tells = g.P.Ports.tells in
+    let old = c.args.link.now in
+    let line : CloudNo × ℕ = c.in-Some.line in
+    let rest = c.in-Some.more.now in
+    let e = c.in-Some.ensures in
+    let r = subst (AreReady behind tells old) e ready in
+    let first = All-head (IsReady behind tells old) line rest r.each in
+    c.in-Err.ensures.leaves.others (subst IsTrue (sym r.told) told) line.1 first.port port
+    (not_first line rest port (subst (λ (ls : List (CloudNo × ℕ)). ¬ Contains (ports_of ls) port) e none))
+
+pub bring_lanes-requires : goal.bring_lanes-requires
+bring_lanes-requires g t c κs within =
+    let rest = c.in-Some.more.now in
+    let line : CloudNo × ℕ = c.in-Some.line in
+    let e = c.in-Some.ensures in
+    let long : length c.args.lines.now ≡ length (line ∷ rest) = ap length e in
+    let shape = c.in-Ok.ensures.shape in
+    let old_shape = c.args.link.now.shape in
+    let below = All-tail (λ (l : CloudNo × ℕ). l.0.0 < old_shape.n) line rest
+    (subst (λ (ls : List (CloudNo × ℕ)). All (λ (l : CloudNo × ℕ). l.0.0 < old_shape.n) ls) e c.requires.below) in
+    let reaches = (telling g.P.Ports.tells g.P.Ports.faults).reaches in
+    let reached = All-tail (λ (l : CloudNo × ℕ). IsTrue (reaches c.args.link.now l.0.0)) line rest
+    (subst (λ (ls : List (CloudNo × ℕ)). All (λ (l : CloudNo × ℕ). IsTrue (reaches c.args.link.now l.0.0)) ls) e
+    c.requires.reaches) in (
+      omega (arith, long, c.decreases),
+      (
+        within,
+        (
+          subst (λ (s : Shape). All (λ (l : CloudNo × ℕ). l.0.0 < s.n) rest) (sym shape) below,
+          (
+            subst (λ (f : ℕ → Bool). All (λ (l : CloudNo × ℕ). IsTrue (f l.0.0)) rest) (sym c.in-Ok.ensures.reaches)
+                reached,
+            subst (λ (s : Shape). IsReached s c.bring_one.new.job) (sym shape) c.in-Ok.ensures.reached,
+          ),
+        ),
+      ),
+    )
+
+pub returns-clause-went : goal.returns-clause-went
+returns-clause-went g t c = λ behind ready.
+    let tells = g.P.Ports.tells in
+    let old = c.args.link.now in
+    let mid = c.bring_one.new.link in
+    let new = c.bring_lanes.new.link in
+    let line : CloudNo × ℕ = c.in-Some.line in
+    let rest = c.in-Some.more.now in
+    let e = c.in-Some.ensures in
+    let r = subst (AreReady behind tells old) e ready in
+    let next = rest_ready tells behind old mid line rest r c.in-Ok.ensures.leaves c.in-Ok.ensures.talks in
+    subst (λ (ls : List (CloudNo × ℕ)). LanesWent behind (tells new.ports.now) ls c.args.job.now c.bring_lanes.result
+    c.bring_lanes.new.job c.args.text.now c.bring_lanes.new.text) (sym e)
+    (went_more behind (tells mid.ports.now) (tells new.ports.now) line rest c.args.job.now c.bring_one.new.job
+    c.bring_lanes.new.job c.bring_lanes.result c.args.text.now c.bring_one.new.text c.bring_lanes.new.text
+    (λ told. c.bring_lanes.ensures.others behind next told line.1 (not_here line rest (r.ports told)))
+    (c.in-Ok.ensures.goes behind line.1 r.told (All-head (IsReady behind tells old) line rest r.each))
+    (c.bring_lanes.ensures.went behind next))
+
+pub returns-clause-others : goal.returns-clause-others
+returns-clause-others g t c = λ behind ready told port none.
+    let tells = g.P.Ports.tells in
+    let old = c.args.link.now in
+    let mid = c.bring_one.new.link in
+    let line : CloudNo × ℕ = c.in-Some.line in
+    let rest = c.in-Some.more.now in
+    let e = c.in-Some.ensures in
+    let r = subst (AreReady behind tells old) e ready in
+    let next = rest_ready tells behind old mid line rest r c.in-Ok.ensures.leaves c.in-Ok.ensures.talks in
+    let first = All-head (IsReady behind tells old) line rest r.each in
+    let away = subst (λ (ls : List (CloudNo × ℕ)). ¬ Contains (ports_of ls) port) e none in
+    c.bring_lanes.ensures.others behind next told port (not_later line rest port away)
+    ∙ c.in-Ok.ensures.leaves.others (subst IsTrue (sym r.told) told) line.1 first.port port
+    (not_first line rest port away)

@@ -1,0 +1,174 @@
+-- What backing up over ports promises.
+use Rattle.std.specs.Prelude.{◌≡◌, ℕ, Bool, IsTrue, ◌↔◌, List, [], ◌∷◌, length, All, Some, Result, Ok, Err}
+use Rattle.std.specs.Prelude.{if◌then◌else◌}
+use Rattle.std.specs.List.{Contains}
+use Rattle.cd_base.specs.declared.ids.UserId.{UserId}
+use Rattle.cd_base.specs.declared.ids.Version.{Version}
+use Rattle.cd_base.specs.declared.shape.Shape.{Shape}
+use Rattle.cd_edges.specs.Causes.{Rose}
+use Rattle.cd_edges.specs.Ports.{Telling}
+use Rattle.recipe.specs.Spelling.{file_limit}
+use Rattle.upload_job.specs.Lane.{Done}
+use Rattle.upload_job.specs.Lanes.{LaneView, lanes_begun}
+use Rattle.upload_job.specs.Upload.{FileVersion}
+use Rattle.transcript.specs.declared.ending.Ending.TheVariants as endings
+use Rattle.transcript.specs.declared.line.Line.{Line}
+use Rattle.transcript.specs.declared.line.Line.TheVariants as lines
+use Rattle.transcript.specs.Endings.{ending_text}
+use Rattle.hellos.specs.declared.judging.Asked.TheVariants as asked
+use Rattle.hellos.specs.declared.judging.Greeting.{Greeting}
+use Rattle.hellos.specs.declared.greeting.GreetErr.TheVariants as unmet
+use Rattle.hellos.specs.declared.refused.Refused.{Refused}
+use Rattle.hellos.specs.Dialled.{Dials}
+use Rattle.hellos.specs.Hellos.{Greets}
+use Rattle.hellos.specs.Refusals.{refused_text}
+use Rattle.backup_command.specs.declared.halt.Halt.{Halt}
+use Rattle.backup_command.specs.declared.halt.Halt.TheVariants as halts
+use Rattle.backup_command.specs.Lanes.{LanesGo, numbered}
+use Rattle.backup_command.specs.Reading.{Input, IsRead, IsTooLong}
+use Rattle.backup_command.specs.Texts.{text_of, due_lines}
+use Rattle.backup_command.specs.Writing.{Output, IsSilent, Writes}
+
+-- Which version of a file is backed up, to how many addresses; what the ports tell before and after it, and how often
+-- they had failed and have failed.
+pub record Call : Type 0 where
+  pub user : UserId
+  pub path : List ℕ
+  pub version : Version
+  pub addresses : ℕ
+  pub before : Telling
+  pub after : Telling
+  pub faults_before : ℕ
+  pub faults_after : ℕ
+
+abbrev pub version_of : Call → List ℕ → FileVersion
+version_of call file = record { user = call.user; path = call.path; number = call.version; file = file }
+
+-- ---- before the clouds
+
+-- Memory ran out, and nothing is written.
+pub record IsLacking (status : ℕ) (out : Output) : Type 0 where
+  pub status_is : status ≡ 6
+  pub silent : IsSilent out
+
+-- no port was touched
+pub record IsUntouched (call : Call) : Type 0 where
+  pub tells : call.after ≡ call.before
+  pub faults : call.faults_after ≡ call.faults_before
+
+-- The source failed. Nothing is written, and no port was touched.
+pub record IsUnread (status : ℕ) (call : Call) (input : Input) (out : Output) : Type 0 where
+  pub status_is : status ≡ 3
+  pub rose : Rose input.faults_before input.faults_after
+  pub silent : IsSilent out
+  pub untouched : IsUntouched call
+
+-- The source has too many bytes: the line names the place of the first of them, and it. No port was touched.
+pub record IsOverlong (status : ℕ) (call : Call) (input : Input) (out : Output) : Type 0 where
+  pub byte : ℕ
+  pub too_long : IsTooLong input byte
+  pub writes : Writes (ending_text (endings.Script 1 file_limit (Some byte))) 2 out status
+  pub untouched : IsUntouched call
+
+-- ---- up to the Hellos
+
+-- All addresses were dialled, in order.
+pub record HasDialled (call : Call) (dialled : List ℕ) (opened : Telling) : Type 0 where
+  pub many : length dialled ≡ call.addresses
+  pub told : opened.told ≡ call.before.told
+  pub dials : IsTrue call.before.told → Dials call.before dialled opened
+
+-- An address couldn't be dialled. Those before it were, in order, and nothing is written.
+pub record IsUndialled (status : ℕ) (call : Call) (out : Output) : Type 0 where
+  pub status_is : status ≡ 9
+  pub rose : Rose call.faults_before call.faults_after
+  pub silent : IsSilent out
+  pub some : IsTrue call.before.told → (dialled : List ℕ) × Dials call.before dialled call.after
+
+-- The ports failed in a Hello. Nothing is written.
+pub record IsUnheard (status : ℕ) (call : Call) (out : Output) : Type 0 where
+  pub status_is : status ≡ 9
+  pub rose : Rose call.faults_before call.faults_after
+  pub silent : IsSilent out
+  pub dialled : List ℕ
+  pub opened : Telling
+  pub dials : HasDialled call dialled opened
+  pub greets : Greets asked.Backup (length dialled) [] opened dialled (Err unmet.Lost) call.after
+
+-- Hello was asked of each port in order, up to the first whose reply isn't as asked: the line says which, and what
+-- came.
+pub record IsRefused (status : ℕ) (call : Call) (out : Output) : Type 0 where
+  pub why : Refused
+  pub writes : Writes (refused_text why) 8 out status
+  pub dialled : List ℕ
+  pub opened : Telling
+  pub dials : HasDialled call dialled opened
+  pub greets : Greets asked.Backup (length dialled) [] opened dialled (Err (unmet.Refused why)) call.after
+
+-- ---- the lanes
+
+-- All addresses were dialled, and Hello was asked of each port, in order: each reply was as asked, so that cloud i of
+-- the store is reached on the port that was dialled for address i.
+pub record Met (call : Call) (dialled : List ℕ) (shape : Shape) (behind : Telling) : Type 0 where
+  pub opened : Telling
+  pub dials : HasDialled call dialled opened
+  pub greetings : List Greeting
+  pub greets : Greets asked.Backup (length dialled) [] opened dialled (Ok greetings) behind
+  pub shape_is : All (λ (g : Greeting). (g.n ≡ shape.n) × (g.k ≡ shape.k)) greetings
+  pub all : length dialled ≡ shape.n
+  pub told : behind.told ≡ call.before.told
+
+-- The lanes of the job of the source's bytes went so, in order, each on the port of its cloud: their lines are these,
+-- and they stand so in the end.
+pub record Brought (call : Call) (input : Input) (result : Result (Unit {0}) Halt) (steps : List Line)
+    (after : List LaneView) : Type 0 where
+  pub file : List ℕ
+  pub read : IsRead input file
+  pub dialled : List ℕ
+  pub shape : Shape
+  pub behind : Telling
+  pub met : Met call dialled shape behind
+  pub lanes : LanesGo behind call.after (numbered 0 dialled) (lanes_begun shape (version_of call file)) result steps
+      after
+
+-- whether the version is entered at each cloud
+abbrev pub AreDone : List LaneView → Type 0
+AreDone views = All (λ (lane : LaneView). lane.state ≡ Done) views
+
+-- Each lane came to its end. The lines are the job's, those of the lanes, and whether it is stored: 0 exactly where
+-- each lane's version is entered.
+pub record IsThrough (status : ℕ) (call : Call) (input : Input) (out : Output) : Type 0 where
+  pub steps : List Line
+  pub after : List LaneView
+  pub brought : Brought call input (Ok tt) steps after
+  pub stored : Bool
+  pub stored_is : IsTrue stored ↔ AreDone after
+  pub writes : Writes (text_of (due_lines steps stored)) (if stored then 0 else 8) out status
+
+-- The ports failed in a lane. The lines are the job's and those of the replies before.
+pub record IsLost (status : ℕ) (call : Call) (input : Input) (out : Output) : Type 0 where
+  pub rose : Rose call.faults_before call.faults_after
+  pub steps : List Line
+  pub after : List LaneView
+  pub brought : Brought call input (Err halts.Lost) steps after
+  pub writes : Writes (text_of (lines.Job 1 ∷ steps)) 9 out status
+
+-- The whole promise, by the way it ended.
+pub data IsBackedUp (status : ℕ) (call : Call) (input : Input) (out : Output) : Type 0 where
+  OutOfMemory : IsLacking status out → IsBackedUp status call input out
+  SourceFailed : IsUnread status call input out → IsBackedUp status call input out
+  SourceTooLong : IsOverlong status call input out → IsBackedUp status call input out
+  DialFailed : IsUndialled status call out → IsBackedUp status call input out
+  HelloFailed : IsUnheard status call out → IsBackedUp status call input out
+  HelloRefused : IsRefused status call out → IsBackedUp status call input out
+  WentThrough : IsThrough status call input out → IsBackedUp status call input out
+  LaneFailed : IsLost status call input out → IsBackedUp status call input out
+
+-- ---- beside it
+
+-- Ports were dialled, and every other port is as it was.
+pub record OnlyDialled (before after : Telling) : Type 0 where
+  pub dialled : List ℕ
+  pub opened : Telling
+  pub dials : Dials before dialled opened
+  pub others : (port : ℕ) → ¬ Contains dialled port → after.port port ≡ opened.port port

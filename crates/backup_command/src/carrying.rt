@@ -1,0 +1,203 @@
+//! A file that was read, to the clouds at some addresses.
+
+ghost use Rattle.std.specs.Prelude.{◌≡◌, ◌≤◌, ℕ, List, [], length, IfOk, IsTrue};
+ghost use Rattle.std.specs.List.{Contains};
+ghost use Rattle.cd_base.specs.Limits.{IsPath};
+ghost use Rattle.cd_edges.specs.Causes.{Rose};
+ghost use Rattle.recipe.specs.Spelling.{file_limit};
+ghost use Rattle.upload_job.specs.Lanes.{lanes_begun};
+ghost use Rattle.lane_requests.specs.Reached.{IsReached};
+ghost use Rattle.backup_command.specs.BackedUp.{Call, OnlyDialled};
+ghost use Rattle.backup_command.specs.Steps.{AreGreetedOn, BringsFile, Carries, IfLost, IsCarryLost, IsNumbered};
+ghost use Rattle.backup_command.specs.Steps.{LanesWent};
+
+use crate::halt::Halt;
+use crate::lanes::bring_lanes;
+use crate::news::{put_end, put_line};
+use cd_base::{Bytes, NoMemory, Shape, UserId, Version};
+use cd_edges::Ports;
+use frames::ReplyBuf;
+use hellos::{Asked, DialErr, GreetErr, Greeted, Refused, dial_all, greet_all};
+use ports_link::{PortsLink, lines_of};
+use std::alloc::Global;
+use transcript::Line;
+use upload_job::Job;
+
+/// Why a file wasn't carried to the clouds.
+#[derive(Clone, Copy, Debug, PartialEq, Eq)]
+pub enum CarryErr {
+    /// An address couldn't be dialled.
+    Undialled,
+    /// The ports failed in a Hello.
+    Unheard,
+    /// A reply to Hello isn't as asked: the first such.
+    Refused(Refused),
+    /// The ports failed in a lane.
+    Lost,
+    /// Memory ran out.
+    NoMemory,
+}
+
+// The job of a version of a file, whose bytes are dropped then.
+fn job_of(
+    alloc: Global,
+    shape: Shape,
+    user: UserId,
+    path: &[u8],
+    version: Version,
+    file: Bytes,
+) -> Result<Job, NoMemory>
+    requires path { IsPath path.now }
+    requires few { length file ≤ file_limit }
+    ensures begun { IfOk result (λ job. job ≡ lanes_begun shape (record {
+      user = user;
+      path = path.now;
+      number = version;
+      file = file;
+    })) }
+    ensures reached { IfOk result (IsReached shape) }
+{
+    let _user = user.0;
+    let _version = version.0;
+    Job::new(alloc, shape, user, path, version, file.as_slice())
+}
+
+// Brings the lanes of a job to the clouds that were greeted, with their lines.
+fn bring_all<P: Ports>(
+    alloc: Global,
+    greeted: &Greeted,
+    job: &mut Job,
+    ports: &mut P,
+    reply: &mut ReplyBuf,
+    text: &mut Bytes,
+) -> Result<(), Halt>
+    requires numbered { IsNumbered greeted.now }
+    requires reached { IsReached greeted.now.shape job.old }
+    ensures went { (dialled : List ℕ) → AreGreetedOn (P.tells ports.old) dialled greeted.now.lines.items
+        → LanesWent (P.tells ports.old) (P.tells ports.new) greeted.now.lines.items job.old result job.new
+        text.old text.new }
+    ensures others { (dialled : List ℕ) → AreGreetedOn (P.tells ports.old) dialled greeted.now.lines.items
+        → IsTrue (P.tells ports.old).told → (port : ℕ) → ¬ Contains dialled port
+        → (P.tells ports.new).port port ≡ (P.tells ports.old).port port }
+    ensures told { (P.tells ports.new).told ≡ (P.tells ports.old).told }
+    ensures later { P.faults ports.old ≤ P.faults ports.new }
+    ensures lost { IfLost result (Rose (P.faults ports.old) (P.faults ports.new)) }
+{
+    let lines = match lines_of(alloc, greeted.lines.as_slice()) {
+        Ok(lines) => lines,
+        Err(NoMemory) => return Err(Halt::NoMemory),
+    };
+    let mut link = PortsLink::of(ports, greeted.shape, lines);
+    let mut content = Bytes::new(alloc);
+    let mut told = Vec::new(alloc);
+    let came = bring_lanes(
+        &mut link,
+        greeted.lines.as_slice(),
+        job,
+        &mut content,
+        reply,
+        &mut told,
+        text,
+    );
+    let _ports = link.release();
+    came
+}
+
+// Carries a file to the clouds that were greeted, with the lines.
+fn carry_greeted<P: Ports>(
+    alloc: Global,
+    user: UserId,
+    path: &[u8],
+    version: Version,
+    greeted: &Greeted,
+    file: Bytes,
+    ports: &mut P,
+    reply: &mut ReplyBuf,
+    text: &mut Bytes,
+) -> Result<bool, CarryErr>
+    requires path { IsPath path.now }
+    requires few { length file ≤ file_limit }
+    requires empty { text.old ≡ [] }
+    requires numbered { IsNumbered greeted.now }
+    ensures carries { (call : Call) (dialled : List ℕ) → call.user ≡ user → call.path ≡ path.now
+        → call.version ≡ version → call.after ≡ P.tells ports.new
+        → AreGreetedOn (P.tells ports.old) dialled greeted.now.lines.items
+        → BringsFile call file greeted.now.shape (P.tells ports.old) dialled result text.new }
+    ensures others { (dialled : List ℕ) → AreGreetedOn (P.tells ports.old) dialled greeted.now.lines.items
+        → IsTrue (P.tells ports.old).told → (port : ℕ) → ¬ Contains dialled port
+        → (P.tells ports.new).port port ≡ (P.tells ports.old).port port }
+    ensures told { (P.tells ports.new).told ≡ (P.tells ports.old).told }
+    ensures later { P.faults ports.old ≤ P.faults ports.new }
+    ensures lost { IsCarryLost result → Rose (P.faults ports.old) (P.faults ports.new) }
+{
+    let mut job = match job_of(alloc, greeted.shape, user, path, version, file) {
+        Ok(job) => job,
+        Err(NoMemory) => return Err(CarryErr::NoMemory),
+    };
+    match put_line(Line::Job { job: 1 }, text) {
+        Ok(()) => {}
+        Err(NoMemory) => return Err(CarryErr::NoMemory),
+    }
+    match bring_all(alloc, greeted, &mut job, ports, reply, text) {
+        Ok(()) => {}
+        Err(Halt::Lost) => return Err(CarryErr::Lost),
+        Err(Halt::NoMemory) => return Err(CarryErr::NoMemory),
+    }
+    let stored = job.stored();
+    match put_end(stored, text) {
+        Ok(()) => Ok(stored),
+        Err(NoMemory) => Err(CarryErr::NoMemory),
+    }
+}
+
+/// Carries a file to the clouds at these addresses: dials them, asks Hello of each, and brings each lane of the job
+/// to its end. It answers whether the version is entered at all clouds; the text has the lines then, and where the
+/// ports failed in a lane those so far.
+pub fn carry<P: Ports>(
+    alloc: Global,
+    user: UserId,
+    path: &[u8],
+    version: Version,
+    addresses: &[String],
+    file: Bytes,
+    ports: &mut P,
+    text: &mut Bytes,
+) -> Result<bool, CarryErr>
+    requires path { IsPath path.now }
+    requires few { length file ≤ file_limit }
+    requires some { 1 ≤ length addresses.now }
+    requires many { length addresses.now ≤ 255 }
+    requires empty { text.old ≡ [] }
+    ensures carries { Carries (record {
+      user = user;
+      path = path.now;
+      version = version;
+      addresses = length addresses.now;
+      before = P.tells ports.old;
+      after = P.tells ports.new;
+      faults_before = P.faults ports.old;
+      faults_after = P.faults ports.new;
+    }) file result text.new }
+    ensures others { IsTrue (P.tells ports.old).told → OnlyDialled (P.tells ports.old) (P.tells ports.new) }
+    ensures told { (P.tells ports.new).told ≡ (P.tells ports.old).told }
+    ensures later { P.faults ports.old ≤ P.faults ports.new }
+{
+    let mut reply = match ReplyBuf::make(alloc) {
+        Ok(reply) => reply,
+        Err(NoMemory) => return Err(CarryErr::NoMemory),
+    };
+    let dialled = match dial_all(alloc, ports, addresses) {
+        Ok(dialled) => dialled,
+        Err(DialErr::Failed) => return Err(CarryErr::Undialled),
+        Err(DialErr::NoMemory) => return Err(CarryErr::NoMemory),
+    };
+    let greeted = match greet_all(alloc, ports, Asked::Backup, dialled.as_slice(), &mut reply) {
+        Ok(greeted) => greeted,
+        Err(GreetErr::Refused(why)) => return Err(CarryErr::Refused(why)),
+        Err(GreetErr::Lost) => return Err(CarryErr::Unheard),
+        Err(GreetErr::NoMemory) => return Err(CarryErr::NoMemory),
+    };
+    carry_greeted(
+        alloc, user, path, version, &greeted, file, ports, &mut reply, text,
+    )
+}

@@ -1,0 +1,93 @@
+//! The lanes of a job, over ports.
+
+ghost use Rattle.std.specs.Prelude.{◌≡◌, ◌<◌, ◌≤◌, ◌∷◌, [], ℕ, All, IsTrue, OnOk, MatchOption};
+ghost use Rattle.std.specs.List.{Contains};
+ghost use Rattle.cd_edges.specs.Causes.{Rose};
+ghost use Rattle.cd_edges.specs.Ports.{Telling};
+ghost use Rattle.ports_link.specs.Tells.{telling};
+ghost use Rattle.user_dedup.specs.Link.{SaysNothingElse};
+ghost use Rattle.lane_requests.specs.Reached.{IsReached};
+ghost use Rattle.backup_command.specs.Steps.{AreReady, IfLost, IsReady, LaneGoes, LanesWent, Leaves, Talked, ports_of};
+
+use crate::halt::Halt;
+use crate::news::put_lane;
+use cd_base::{Bytes, CloudNo};
+use cd_edges::Ports;
+use frames::ReplyBuf;
+use lane_steps::finish_lane;
+use ports_link::PortsLink;
+use upload_job::{Job, LaneNews};
+
+// The first cloud with its port, and the others.
+fn next_line(lines: &[(CloudNo, u32)]) -> Option<((CloudNo, u32), &[(CloudNo, u32)])>
+    ensures { MatchOption result (lines.now ≡ []) (λ x. lines.now ≡ x.0 ∷ x.1.now) }
+{
+    match lines {
+        [] => None,
+        [line, more @ ..] => Some((*line, more)),
+    }
+}
+
+// Brings the lane of one cloud to its end, with its lines.
+fn bring_one<P: Ports>(
+    link: &mut PortsLink<'_, P>,
+    job: &mut Job,
+    lane: CloudNo,
+    content: &mut Bytes,
+    reply: &mut ReplyBuf,
+    told: &mut Vec<LaneNews>,
+    text: &mut Bytes,
+) -> Result<(), Halt>
+    requires below { lane.0 < link.old.shape.n }
+    requires reaches { IsTrue ((telling P.tells P.faults).reaches link.old lane.0) }
+    requires reached { IsReached link.old.shape job.old }
+    ensures goes { (behind : Telling) (port : ℕ) → (P.tells link.old.ports.now).told ≡ behind.told
+        → IsReady behind P.tells link.old (lane, port)
+        → LaneGoes behind (P.tells link.new.ports.now) (lane, port) job.old result job.new text.old text.new }
+    ensures leaves { Leaves P.tells lane.0 link.old link.new }
+    ensures talks { OnOk result (SaysNothingElse (Talked P.tells) lane.0 link.old link.new) }
+    ensures reaches { (telling P.tells P.faults).reaches link.new ≡ (telling P.tells P.faults).reaches link.old }
+    ensures reached { IsReached link.old.shape job.new }
+    ensures shape { link.new.shape ≡ link.old.shape }
+    ensures later { P.faults link.old.ports.now ≤ P.faults link.new.ports.now }
+    ensures lost { IfLost result (Rose (P.faults link.old.ports.now) (P.faults link.new.ports.now)) }
+{
+    told.clear();
+    let came = finish_lane(link, job, lane, content, reply, told);
+    put_lane(lane, came, told.as_slice(), text)
+}
+
+/// Brings the lanes of these clouds to their ends, one after another, with their lines. It stops where the ports
+/// fail, and where memory runs out.
+pub fn bring_lanes<P: Ports>(
+    link: &mut PortsLink<'_, P>,
+    lines: &[(CloudNo, u32)],
+    job: &mut Job,
+    content: &mut Bytes,
+    reply: &mut ReplyBuf,
+    told: &mut Vec<LaneNews>,
+    text: &mut Bytes,
+) -> Result<(), Halt>
+    requires below { All (λ line. line.0.0 < link.old.shape.n) lines.now }
+    requires reaches { All (λ line. IsTrue ((telling P.tells P.faults).reaches link.old line.0.0))
+        lines.now }
+    requires reached { IsReached link.old.shape job.old }
+    ensures went { (behind : Telling) → AreReady behind P.tells link.old lines.now
+        → LanesWent behind (P.tells link.new.ports.now) lines.now job.old result job.new text.old text.new }
+    ensures others { (behind : Telling) → AreReady behind P.tells link.old lines.now
+        → IsTrue behind.told → (port : ℕ) → ¬ Contains (ports_of lines.now) port
+        → (P.tells link.new.ports.now).port port ≡ (P.tells link.old.ports.now).port port }
+    ensures told { (P.tells link.new.ports.now).told ≡ (P.tells link.old.ports.now).told }
+    ensures same_reference { link.new.ports.ghost_name ≡ link.old.ports.ghost_name }
+    ensures later { P.faults link.old.ports.now ≤ P.faults link.new.ports.now }
+    ensures lost { IfLost result (Rose (P.faults link.old.ports.now) (P.faults link.new.ports.now)) }
+{
+    let Some((line, more)) = next_line(lines) else {
+        return Ok(());
+    };
+    match bring_one(link, job, line.0, content, reply, told, text) {
+        Ok(()) => {}
+        Err(halt) => return Err(halt),
+    }
+    bring_lanes(link, more, job, content, reply, told, text)
+}

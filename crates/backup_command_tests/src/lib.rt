@@ -1,0 +1,5 @@
+//! Backups over ports in memory.
+#![tactic(auto)]
+
+#[cfg(test)]
+mod command;
