@@ -1,0 +1,6 @@
+pub mod Along
+pub mod Completing
+pub mod Openings
+pub mod Passing
+pub mod Running
+pub mod Texts

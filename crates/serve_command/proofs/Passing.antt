@@ -1,0 +1,94 @@
+-- The bytes of connections, one after another.
+use Rattle.std.proofs.Common.{◌≡◌, ◌≢◌, ◌⊎◌, inl, inr, ℕ, ◌+◌, ◌<◌, ◌≤◌, List, [], ◌∷◌, ◌++◌, length, IsTrue, refl, sym}
+use Rattle.std.proofs.Common.{ap, ◌∙◌, subst, arith, length-append}
+use Rattle.cd_edges.specs.Ports.{Port, Telling, Opens}
+use Rattle.frame_serving.specs.declared.served.Served.{Served}
+use Rattle.frame_serving.specs.Connection as connections
+use Rattle.frame_serving.specs.Connection.{EndsBy, Passed, Serves}
+use Rattle.serve_command.specs.Runs.{Connection, HasBytes, HaveBytes, HavePassed}
+use Rattle.serve_command.specs.Steps.{OneServed, PassesNext}
+
+-- ---- one connection
+
+abbrev of_end : Served → List (List ℕ) → List (List ℕ) → Connection
+of_end ended requests replies = record { ended = ended; requests = requests; replies = replies }
+
+-- a port was opened, and bytes passed there
+passes : (old mid new : Telling) (port : ℕ) (ended : Served) (requests replies : List (List ℕ)) → Opens old mid port
+    → connections.HasBytes mid new port requests replies ended → PassesNext old new (of_end ended requests replies)
+passes old mid new port ended requests replies opens has =
+    let p = has.passed in
+    let went : (new.port port).sent ≡ has.went = p.went_is ∙ ap (λ (l : List ℕ). l ++ has.went) opens.fresh in
+    let at_port : HasBytes (new.port port) (of_end ended requests replies) = record {
+      came = has.came;
+      ends = subst (λ (w : List ℕ). EndsBy ended has.came requests replies w (new.port port).to_come) (sym went)
+          has.ends;
+    } in record {
+      opened = omega (arith, p.opened, opens.opened);
+      bytes = subst (λ (n : ℕ). HasBytes (new.port n) (of_end ended requests replies)) opens.next at_port;
+      others = λ other apart.
+          p.others other (λ same. apart (same ∙ opens.next)) ∙ opens.others other (λ same. apart (same ∙ opens.next));
+    }
+
+-- a port was opened, and its connection served
+pub one_served : {S : Type 0} (step : S → List ℕ → List ℕ → S → Type 0) (old mid new : Telling) (port : ℕ)
+    (first last : S) (ended : Served)
+    → (IsTrue old.told → Opens old mid port) → mid.told ≡ old.told → Serves step mid new port first last ended
+    → OneServed step old new first last ended
+one_served step old mid new port first last ended opens told serves = record {
+  requests = serves.requests;
+  replies = serves.replies;
+  responds = serves.responds;
+  bytes = λ tells. passes old mid new port ended serves.requests serves.replies (opens tells)
+      (serves.bytes (rw told tells));
+}
+
+-- ---- many
+
+have_more : (now : Telling) (number : ℕ) (all : List Connection) (last : Connection) → HaveBytes now number all
+    → HasBytes (now.port (number + length all)) last → HaveBytes now number (all ++ last ∷ [])
+have_more now number [] last have has =
+    let same : number + 0 ≡ number = omega arith in
+    (subst (λ (n : ℕ). HasBytes (now.port n) last) same has, tt)
+have_more now number (first ∷ all) last have has =
+    let same : number + length (first ∷ all) ≡ number + 1 + length all = omega arith in
+    (have.0, have_more now (number + 1) all last have.1 (subst (λ (n : ℕ). HasBytes (now.port n) last) same has))
+
+-- another port changed
+have_still : (old new : Telling) (number changed : ℕ) (all : List Connection) → number + length all ≤ changed
+    → ((other : ℕ) → other ≢ changed → new.port other ≡ old.port other) → HaveBytes old number all
+    → HaveBytes new number all
+have_still old new number changed [] within others have = tt
+have_still old new number changed (first ∷ all) within others have =
+    let apart : number ≢ changed = omega arith in
+    let more : number + 1 + length all ≤ changed = omega arith in (
+      subst (λ (p : Port). HasBytes p first) (sym (others number apart)) have.0,
+      have_still old new (number + 1) changed
+          all more others have.1,
+    )
+
+pub passed_none : (old : Telling) → HavePassed old old []
+passed_none old = record { opened = omega arith; bytes = tt; others = λ number outside. refl }
+
+module _ (old mid new : Telling) (all : List Connection) (last : Connection) (passed : HavePassed old mid all)
+    (next : PassesNext mid new last) where
+  others_more : (number : ℕ) → (number < old.opened) ⊎ (new.opened ≤ number) → new.port number ≡ old.port number
+  others_more number (inl before) =
+      let apart : number ≢ mid.opened = omega (arith, passed.opened) in next.others number apart
+      ∙ passed.others number (inl before)
+  others_more number (inr behind) =
+      let apart : number ≢ mid.opened = omega (arith, next.opened) in
+      let outside : mid.opened ≤ number = omega (arith, next.opened) in next.others number apart
+      ∙ passed.others number (inr outside)
+
+  pub passed_more : HavePassed old new (all ++ last ∷ [])
+  passed_more =
+      let within : old.opened + length all ≤ mid.opened = omega (arith, passed.opened) in
+      let many : length (all ++ last ∷ []) ≡ length all + 1 = length-append all (last ∷ []) in
+      record {
+        opened = omega (arith, next.opened, passed.opened, many);
+        bytes = have_more new old.opened all last
+            (have_still mid new old.opened mid.opened all within next.others passed.bytes)
+            (subst (λ (n : ℕ). HasBytes (new.port n) last) passed.opened next.bytes);
+        others = others_more;
+      }

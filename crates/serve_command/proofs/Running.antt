@@ -1,0 +1,110 @@
+-- A run of connections, by one more.
+use Rattle.std.proofs.Common.{◌≡◌, ℕ, ◌-◌, ◌^◌, ◌≤◌, min, List, [], ◌∷◌, ◌++◌, IsTrue, refl, ap, ◌∙◌, subst, arith}
+use Rattle.std.proofs.lemmas.List.{map-append}
+use Rattle.cd_base.specs.declared.rooms.Rooms.{Rooms}
+use Rattle.cd_edges.specs.Ports.{Telling}
+use Rattle.cd_edges.proofs.Calls.{called_twice}
+use Rattle.commit_journal.specs.declared.header.Header.{Header}
+use Rattle.cloud_store.specs.Space.{served_by}
+use Rattle.cloud_serving.specs.Serving.{RepliesOne, ServesOne}
+use Rattle.frame_serving.specs.declared.served.Served.{Served}
+use Rattle.frame_serving.specs.declared.served.Served.TheVariants as ends
+use Rattle.frame_serving.specs.Connection.{EndsWithCause}
+use Rattle.serve_command.specs.Runs.{Connection, Runs, None, More, ServeRun}
+use Rattle.serve_command.specs.Steps.{Moment, OneServed, Goes, Went}
+use Rattle.serve_command.proofs.Passing.{passed_none, passed_more}
+
+module _ {S : Type 0} (step : S → List ℕ → List ℕ → S → Type 0) where
+  pub run_none : (old : Telling) (first : S) (before : ℕ) → ServeRun step old old first before [] first before
+  run_none old first before = record { connections = []; ended = refl; runs = None; bytes = λ told. passed_none old }
+
+  pub run_more : (old mid new : Telling) (first state last : S) (before count after : ℕ) (all : List Served)
+      (ended : Served)
+      → ServeRun step old mid first before all state count → mid.told ≡ old.told
+      → OneServed step mid new state last ended
+      → EndsWithCause ended count after → ServeRun step old new first before (all ++ ended ∷ []) last after
+  run_more old mid new first state last before count after all ended run told one cause =
+      let next : Connection = record { ended = ended; requests = one.requests; replies = one.replies } in record {
+        connections = run.connections ++ next ∷ [];
+        ended = map-append (λ (c : Connection). c.ended) run.connections (next ∷ [])
+            ∙ ap (λ (l : List Served). l ++ ended ∷ []) run.ended;
+        runs = More run.connections state count next last after run.runs one.responds cause;
+        bytes = λ tells. passed_more old mid new run.connections next (run.bytes tells) (one.bytes (rw told tells));
+      }
+
+-- ---- the ports' count doesn't fall, but from beyond the last value of a u64
+
+later_by : (ended : Served) (before count now : ℕ) → min before (2 ^ 64 - 1) ≤ count → EndsWithCause ended count now
+    → min before (2 ^ 64 - 1) ≤ now
+later_by ends.End before count now late cause = omega (arith, late, cause)
+later_by (ends.Cut got) before count now late cause = omega (arith, late, cause)
+later_by (ends.BadLength found) before count now late cause = omega (arith, late, cause)
+later_by ends.Spent before count now late cause = omega (arith, late, cause)
+later_by ends.Failed before count now late cause = omega (arith, late, cause)
+
+runs_later : {S : Type 0} (step : S → List ℕ → List ℕ → S → Type 0) (first : S) (before : ℕ) (all : List Connection)
+    (last : S) (after : ℕ)
+    → Runs step first before all last after → min before (2 ^ 64 - 1) ≤ after
+runs_later step first before _ _ _ None = omega arith
+runs_later step first before _ _ _ (More all state count next last after runs responds cause) =
+    later_by next.ended before count after (runs_later step first before all state count runs) cause
+
+pub run_later : {S : Type 0} (step : S → List ℕ → List ℕ → S → Type 0) (old new : Telling) (first last : S)
+    (before after : ℕ) (all : List Served)
+    → ServeRun step old new first before all last after → min before (2 ^ 64 - 1) ≤ after
+run_later step old new first last before after all run = runs_later step first before run.connections last after
+    run.runs
+
+-- ---- a server over its cloud
+
+pub went_none : (header : Header) (rooms : Rooms) (old : Moment) (before : ℕ)
+    → Went header rooms old old before [] before
+went_none header rooms old before = record {
+  same = record { header = refl; rooms = refl };
+  call = record {
+    others = λ other apart. refl;
+    told = refl;
+    armings = refl;
+    later = omega arith;
+    total_later = omega arith;
+  };
+  told = refl;
+  replied = run_none (RepliesOne header.shape) old.tells tt before;
+  served = λ told p serving. (
+    p,
+    serving,
+    run_none
+        (ServesOne header.shape (served_by rooms header.shape header.cloud.0)) old.tells p before,
+  );
+}
+
+module _ (header : Header) (rooms : Rooms) (old mid new : Moment) (before count after : ℕ) (all : List Served)
+    (ended : Served)
+    (went : Went header rooms old mid before all count) (cause : EndsWithCause ended count after) where
+  by_same : Goes header rooms mid new ended → Went header rooms old new before (all ++ ended ∷ []) after
+  by_same goes = record {
+    same = record { header = goes.same.header ∙ went.same.header; rooms = goes.same.rooms ∙ went.same.rooms };
+    call = called_twice old.clouds mid.clouds new.clouds header.cloud.0 old.total mid.total new.total went.call
+        goes.call;
+    told = goes.told ∙ went.told;
+    replied = run_more (RepliesOne header.shape) old.tells mid.tells new.tells tt tt tt before count after all ended
+        went.replied went.told goes.replied cause;
+    served = λ told p serving.
+        let so_far = went.served told p serving in
+        let told_mid : IsTrue (mid.clouds header.cloud.0).told = rw went.call.told told in
+        let more = goes.served told_mid so_far.0 so_far.1 in (
+          more.0,
+          more.1,
+          run_more (ServesOne header.shape (served_by rooms header.shape header.cloud.0)) old.tells mid.tells new.tells
+              p so_far.0 more.0 before count after all ended
+              so_far.2 went.told more.2 cause,
+        );
+  }
+
+  -- the next connection
+  pub went_more : old.server.state.header ≡ header → old.server.state.rooms ≡ rooms
+      → Goes mid.server.state.header mid.server.state.rooms mid new ended
+      → Went header rooms old new before (all ++ ended ∷ []) after
+  went_more header_is rooms_are goes =
+      by_same (subst (λ (h : Header). Goes h rooms mid new ended) (went.same.header ∙ header_is)
+      (subst (λ (r : Rooms). Goes mid.server.state.header r mid new ended) (went.same.rooms ∙ rooms_are) goes))

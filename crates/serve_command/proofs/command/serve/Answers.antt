@@ -1,0 +1,8 @@
+use Rattle.std.proofs.Common.{inr}
+use Rattle.serve_command.proofs.Completing.{completes}
+use Rattle.serve_command.proofs.Openings.{by_shape}
+use Rattle.serve_command.proofs.command.serve.Goals as goal
+
+pub returns-clause-complete : goal.returns-clause-complete
+returns-clause-complete g c = λ well. completes _ _
+    (inr (by_shape _ _ _ c.in-Ok.ensures.of.shape_is c.serve_at.ensures.served)) well

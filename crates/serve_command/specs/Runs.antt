@@ -1,0 +1,49 @@
+-- Connections that are served one after another.
+use Rattle.std.specs.Prelude.{◌≡◌, ◌⊎◌, ℕ, ◌+◌, ◌<◌, ◌≤◌, List, [], ◌∷◌, ◌++◌, length, map, IsTrue}
+use Rattle.cd_edges.specs.Ports.{Port, Telling}
+use Rattle.frame_serving.specs.declared.served.Served.{Served}
+use Rattle.frame_serving.specs.Connection.{Responds, EndsBy, EndsWithCause}
+
+-- a connection: how it ended, the contents that were answered, and their replies
+pub record Connection : Type 0 where
+  pub ended : Served
+  pub requests : List (List ℕ)
+  pub replies : List (List ℕ)
+
+-- The first connection begins with a state, and each later one with the state that the one before left; so it is with
+-- the ports' count of faults too. It rises in a connection that failed, and in no other.
+pub data Runs {S : Type 0} (step : S → List ℕ → List ℕ → S → Type 0) (first : S) (before : ℕ) : List Connection → S → ℕ
+    → Type 0 where
+  None : Runs step first before [] first before
+  More : (connections : List Connection) (state : S) (count : ℕ) (connection : Connection) (last : S) (after : ℕ)
+      → Runs step first before connections state count
+      → Responds step state connection.requests connection.replies last
+      → EndsWithCause connection.ended count after
+      → Runs step first before (connections ++ connection ∷ []) last after
+
+-- These bytes came on a connection's port. Those that were sent there are what is told as sent, and what is told to
+-- come didn't come. They are as its end says of its requests and replies.
+pub record HasBytes (now : Port) (connection : Connection) : Type 0 where
+  pub came : List ℕ
+  pub ends : EndsBy connection.ended came connection.requests connection.replies now.sent now.to_come
+
+-- The connections have the ports from this number on.
+abbrev pub HaveBytes : Telling → ℕ → List Connection → Type 0
+HaveBytes now number [] = Unit {0}
+HaveBytes now number (connection ∷ more) = HasBytes (now.port number) connection × HaveBytes now (number + 1) more
+
+-- What the ports tell in the end: the next ports were opened, one for each connection in order, with its bytes. Each
+-- other port is as it was.
+pub record HavePassed (old new : Telling) (connections : List Connection) : Type 0 where
+  pub opened : new.opened ≡ old.opened + length connections
+  pub bytes : HaveBytes new old.opened connections
+  pub others : (number : ℕ) → (number < old.opened) ⊎ (new.opened ≤ number) → new.port number ≡ old.port number
+
+-- Connections that ended so were served, from a state to a state and from a count of the ports' faults to a count.
+pub record ServeRun {S : Type 0} (step : S → List ℕ → List ℕ → S → Type 0) (old new : Telling) (first : S) (before : ℕ)
+    (all : List Served)
+    (last : S) (after : ℕ) : Type 0 where
+  pub connections : List Connection
+  pub ended : map (λ connection. connection.ended) connections ≡ all
+  pub runs : Runs step first before connections last after
+  pub bytes : IsTrue old.told → HavePassed old new connections

@@ -1,0 +1,218 @@
+-- What the serving of a cloud promises.
+use Rattle.std.specs.Prelude.{◌≡◌, ◌⊎◌, ℕ, ◌<◌, ◌≤◌, true, IsTrue, List, [], ◌∷◌, ◌++◌, length, Option, Ok}
+use Rattle.std.specs.Io.KnownBytes.{Appends}
+use Rattle.std.specs.List.{Contains}
+use Rattle.cd_base.specs.Limits.{greatest_rooms}
+use Rattle.cd_base.specs.declared.ids.CloudNo.{CloudNo}
+use Rattle.cd_base.specs.declared.shape.Shape.{Shape}
+use Rattle.cd_edges.specs.Causes.{Rose}
+use Rattle.cd_edges.specs.declared.area.Area.TheVariants.{Journal}
+use Rattle.cd_edges.specs.Disk.{Cloud, reads}
+use Rattle.cd_edges.specs.Ports.{Telling}
+use Rattle.cd_edges.specs.Shelf.{HasFailed, KeepsCounts}
+use Rattle.commit_journal.specs.declared.errors.OpenErr.{OpenErr}
+use Rattle.commit_journal.specs.declared.errors.OpenErr.TheVariants as errors
+use Rattle.commit_journal.specs.declared.header.Header.{Header}
+use Rattle.commit_journal.specs.Openings.{OnFault}
+use Rattle.user_dedup.specs.declared.command.Command.{Command}
+use Rattle.user_dedup.specs.Exec.{Peer, MaySettleAs}
+use Rattle.cloud_opening.specs.Exact.{Opens}
+use Rattle.cloud_opening.specs.Replied.{IsOkOrFault, OtherStoreIs}
+use Rattle.cloud_opening.specs.Spared.{Spares}
+use Rattle.cloud_store.specs.Space.{IsWithin, served_by}
+use Rattle.cloud_store.specs.Standing.{ImagesNow, ImagesSince, StandsAs}
+use Rattle.cloud_store.specs.Store.{StandsFor}
+use Rattle.cloud_serving.specs.Serving.{RepliesOne, ServesOne}
+use Rattle.frame_serving.specs.declared.served.Served.{Served}
+use Rattle.share_server.specs.Serving.{an_error, settled_with}
+use Rattle.transcript.specs.Endings.{ending_text}
+use Rattle.transcript.specs.declared.ending.Ending.TheVariants as endings
+use Rattle.serve_command.specs.Lines.{ready_text, connection_text, serving_text}
+use Rattle.serve_command.specs.Runs.{ServeRun}
+
+-- the sink: its bytes and its count of faults, before and after
+pub record Output : Type 0 where
+  pub written_before : Option (List ℕ)
+  pub written_after : Option (List ℕ)
+  pub faults_before : ℕ
+  pub faults_after : ℕ
+
+abbrev pub output_of : Option (List ℕ) → Option (List ℕ) → ℕ → ℕ → Output
+output_of before after faults now =
+    record { written_before = before; written_after = after; faults_before = faults; faults_after = now }
+
+-- what is served, and what the outside tells before and after: the sink, the shelf's clouds with their count of faults
+-- in all, and the ports with theirs
+pub record Call : Type 0 where
+  pub shape : Shape
+  pub cloud : CloudNo
+  pub address : List ℕ
+  pub count : ℕ
+  pub out : Output
+  pub old : ℕ → Cloud
+  pub new : ℕ → Cloud
+  pub total_before : ℕ
+  pub total_after : ℕ
+  pub tells_before : Telling
+  pub tells_after : Telling
+  pub ports_before : ℕ
+  pub ports_after : ℕ
+
+-- the served cloud, before and after
+abbrev pub old_cloud : Call → Cloud
+old_cloud call = call.old call.cloud.0
+
+abbrev pub new_cloud : Call → Cloud
+new_cloud call = call.new call.cloud.0
+
+-- the header of the served cloud's journal
+abbrev pub own_header : Call → Header
+own_header call = record { format = 1; shape = call.shape; cloud = call.cloud }
+
+-- ---- no memory
+
+-- Memory ran out before anything was done.
+pub record IsUnmade (status : ℕ) (call : Call) : Type 0 where
+  pub status_is : status ≡ 6
+  pub written : call.out.written_after ≡ call.out.written_before
+  pub sink : call.out.faults_after ≡ call.out.faults_before
+  pub clouds : call.new ≡ call.old
+  pub total : call.total_after ≡ call.total_before
+  pub tells : call.tells_after ≡ call.tells_before
+  pub ports : call.ports_after ≡ call.ports_before
+
+-- ---- a cloud that isn't opened
+
+-- The opening ended with this error. On a told cloud it is what the bytes of the areas come to, record by record,
+-- unless a device call failed; the areas are spared, whatever they hold; and each image since then stands for one of
+-- the lists that the images stood for.
+pub record Refuses (call : Call) (error : OpenErr) : Type 0 where
+  pub exact : IsTrue (old_cloud call).told → OnFault (an_error error) (Unit {0})
+      (Opens (own_header call) greatest_rooms true (reads (old_cloud call).now) (an_error error))
+  pub other_store : IsTrue (old_cloud call).told
+      → OtherStoreIs ((old_cloud call).now Journal).read (own_header call) (an_error error)
+  pub whole : IsTrue (old_cloud call).told → (list : List Command)
+      → StandsFor (reads (old_cloud call).now) (own_header call) list
+      → IsWithin greatest_rooms list → IsOkOrFault (an_error error)
+  pub counts : OnFault (an_error error)
+      (HasFailed (old_cloud call) (new_cloud call) call.total_before call.total_after)
+      (KeepsCounts (old_cloud call) (new_cloud call) call.total_before call.total_after)
+  pub spared : IsTrue (old_cloud call).told
+      → Spares (own_header call) true (old_cloud call) (new_cloud call) (an_error error)
+  pub kept : IsTrue (old_cloud call).told → (lists : List (List Command))
+      → ImagesNow (old_cloud call) (own_header call) (Contains lists)
+      → ImagesSince (old_cloud call) (new_cloud call) (own_header call) (Contains lists)
+
+-- the status for the error, and the last line
+abbrev pub Reports : CloudNo → OpenErr → ℕ → List ℕ → Type 0
+Reports cloud errors.Fault status line = (status ≡ 5) × (line ≡ ending_text (endings.Shelf cloud))
+Reports cloud (errors.Damaged at byte) status line = (status ≡ 7) × (line ≡ ending_text (endings.Damaged cloud at byte))
+Reports cloud (errors.OtherStore found asked) status line =
+    (status ≡ 7) × (line ≡ ending_text (endings.Other cloud found.format found.shape.n found.shape.k found.cloud))
+Reports cloud (errors.RoomsTooSmall room limit at) status line = (status ≡ 7)
+    × (line ≡ ending_text (endings.Rooms cloud room limit))
+Reports cloud (errors.NotBegun len) status line = ⊥
+Reports cloud errors.NoMemory status line = ⊥
+
+-- All of a text was written.
+pub record IsWhole (out : Output) (text : List ℕ) : Type 0 where
+  pub written : Appends out.written_before out.written_after text
+  pub sink : out.faults_after ≡ out.faults_before
+
+-- The sink failed in a line, behind what stands before it.
+pub record IsCut (status : ℕ) (out : Output) (front line : List ℕ) : Type 0 where
+  pub status_is : status ≡ 4
+  pub part : List ℕ
+  pub rest : List ℕ
+  pub parted : line ≡ part ++ rest
+  pub written : Appends out.written_before out.written_after (front ++ part)
+  pub sink : Rose out.faults_before out.faults_after
+
+-- Memory ran out for a line, and nothing of it was written.
+pub record IsLeftOut (status : ℕ) (out : Output) (front : List ℕ) : Type 0 where
+  pub status_is : status ≡ 6
+  pub whole : IsWhole out front
+
+-- The cloud wasn't opened. The last line says so, and no port was touched.
+pub record IsUnopened (status : ℕ) (call : Call) : Type 0 where
+  pub error : OpenErr
+  pub refuses : Refuses call error
+  pub due : ℕ
+  pub line : List ℕ
+  pub reports : Reports call.cloud error due line
+  pub ends : ((status ≡ due) × IsWhole call.out line) ⊎ (IsCut status call.out [] line ⊎ IsLeftOut status call.out [])
+  pub tells : call.tells_after ≡ call.tells_before
+  pub ports : call.ports_after ≡ call.ports_before
+
+-- ---- connections
+
+-- The line that is due behind these connections, and the lines before it.
+abbrev pub IsLastLine : List ℕ → List Served → List ℕ → List ℕ → Type 0
+IsLastLine address all front line =
+    ((all ≡ []) × (front ≡ []) × (line ≡ ready_text address))
+    ⊎ ((before : List Served) × (last : Served) × (all ≡ before ++ last ∷ []) × (front ≡ serving_text address before)
+    × (line ≡ connection_text (length all) last))
+
+-- As many connections as were asked for were served, and all lines are written.
+pub record IsDone (status : ℕ) (address : List ℕ) (count : ℕ) (out : Output) (all : List Served) (after now : ℕ)
+    : Type 0 where
+  pub status_is : status ≡ 0
+  pub many : length all ≡ count
+  pub whole : IsWhole out (serving_text address all)
+  pub ports : now ≡ after
+
+-- The line that was due wasn't written whole, and nothing was done behind it.
+pub record IsStopped (status : ℕ) (address : List ℕ) (count : ℕ) (out : Output) (all : List Served) (after now : ℕ)
+    : Type 0 where
+  pub few : length all ≤ count
+  pub front : List ℕ
+  pub line : List ℕ
+  pub last : IsLastLine address all front line
+  pub ends : IsCut status out front line ⊎ IsLeftOut status out front
+  pub ports : now ≡ after
+
+-- The ports failed, and no further connection was accepted; or they failed before there was any, and no line is
+-- written.
+pub record IsRefused (status : ℕ) (address : List ℕ) (count : ℕ) (out : Output) (all : List Served) (after now : ℕ)
+    : Type 0 where
+  pub status_is : status ≡ 9
+  pub few : length all < count
+  pub whole : IsWhole out (serving_text address all) ⊎ ((all ≡ []) × IsWhole out [])
+  pub ports : Rose after now
+
+-- How the serving ended behind these connections, the last of which left this count of the ports' faults: by what was
+-- written, and by the count now.
+abbrev pub Ends : ℕ → List ℕ → ℕ → Output → List Served → ℕ → ℕ → Type 0
+Ends status address count out all after now = IsDone status address count out all after now
+    ⊎ (IsStopped status address count out all after now ⊎ IsRefused status address count out all after now)
+
+-- Where the areas of a told cloud stood for a list: the first connection begins with it, and each image now stands for
+-- the list that the last one left, or for it with its pending command, all within the rooms.
+pub record HasServed (call : Call) (all : List Served) (after : ℕ) (list : List Command) : Type 0 where
+  pub left : Peer
+  pub run : ServeRun (ServesOne call.shape (served_by greatest_rooms call.shape call.cloud.0)) call.tells_before
+      call.tells_after
+      (settled_with list (old_cloud call)) call.ports_before all left after
+  pub stands : StandsAs (new_cloud call) (own_header call) left
+  pub within : (settled : List Command) → MaySettleAs left settled → IsWithin greatest_rooms settled
+
+-- The cloud was opened, and connections that ended so were served: over a list by its rules; and whatever the cloud
+-- holds, by replies that some server gives.
+pub record IsOpened (status : ℕ) (call : Call) : Type 0 where
+  pub opens : IsTrue (old_cloud call).told
+      → (commands : ℕ) × Opens (own_header call) greatest_rooms true (reads (old_cloud call).now) (Ok commands)
+  pub all : List Served
+  pub after : ℕ
+  pub replied : ServeRun (RepliesOne call.shape) call.tells_before call.tells_after tt call.ports_before all tt after
+  pub served : IsTrue (old_cloud call).told → (list : List Command)
+      → StandsFor (reads (old_cloud call).now) (own_header call) list
+      → HasServed call all after list
+  pub ends : Ends status call.address call.count call.out all after call.ports_after
+  pub told : call.tells_after.told ≡ call.tells_before.told
+
+abbrev pub IsUnopenedOrServed : ℕ → Call → Type 0
+IsUnopenedOrServed status call = IsUnopened status call ⊎ IsOpened status call
+
+-- The whole promise.
+abbrev pub IsServed : ℕ → Call → Type 0
+IsServed status call = IsUnmade status call ⊎ IsUnopenedOrServed status call

@@ -1,0 +1,99 @@
+-- What connections do, one after another. No public clause cites this module.
+use Rattle.std.specs.Prelude.{◌≡◌, ◌⊎◌, ℕ, ◌+◌, List, [], IsTrue, Result, Ok, Err}
+use Rattle.cd_base.specs.declared.ids.CloudNo.{CloudNo}
+use Rattle.cd_base.specs.declared.rooms.Rooms.{Rooms}
+use Rattle.cd_edges.specs.Disk.{Cloud}
+use Rattle.cd_edges.specs.Ports.{Telling, OthersStay}
+use Rattle.cd_edges.specs.Shelf.{IsCall}
+use Rattle.commit_journal.specs.declared.errors.OpenErr.{OpenErr}
+use Rattle.commit_journal.specs.declared.header.Header.{Header}
+use Rattle.user_dedup.specs.Exec.{Peer}
+use Rattle.cloud_state.specs.State.{IsSameServer}
+use Rattle.cloud_store.specs.Space.{served_by}
+use Rattle.cloud_serving.specs.Serving.{RepliesOne, ServesOne}
+use Rattle.frame_serving.specs.declared.served.Served.{Served}
+use Rattle.frame_serving.specs.Connection.{Responds}
+use Rattle.share_server.specs.Serving.{IsServing}
+use Rattle.share_server.specs.declared.server.Server.{Server}
+use Rattle.serve_command.specs.Runs.{Connection, HasBytes, ServeRun}
+use Rattle.serve_command.specs.Served.{Output, Ends, IsWhole, IsCut, IsLeftOut, Reports}
+use Rattle.serve_command.specs.declared.stop.Stop.{Stop}
+use Rattle.serve_command.specs.declared.stop.Stop.TheVariants as stops
+
+-- a server, the clouds of its shelf with their count of faults in all, and what the ports tell
+pub record Moment : Type 0 where
+  pub server : Server
+  pub clouds : ℕ → Cloud
+  pub total : ℕ
+  pub tells : Telling
+
+abbrev pub moment_of : Server → (ℕ → Cloud) → ℕ → Telling → Moment
+moment_of server clouds total tells = record { server = server; clouds = clouds; total = total; tells = tells }
+
+-- The next port was opened, and has the connection's bytes. No other port changes.
+pub record PassesNext (old new : Telling) (connection : Connection) : Type 0 where
+  pub opened : new.opened ≡ old.opened + 1
+  pub bytes : HasBytes (new.port old.opened) connection
+  pub others : OthersStay old new old.opened
+
+-- One connection was served, from a state to a state.
+pub record OneServed {S : Type 0} (step : S → List ℕ → List ℕ → S → Type 0) (old new : Telling) (first last : S)
+    (ended : Served)
+    : Type 0 where
+  pub requests : List (List ℕ)
+  pub replies : List (List ℕ)
+  pub responds : Responds step first requests replies last
+  pub bytes : IsTrue old.told → PassesNext old new (record { ended = ended; requests = requests; replies = replies })
+
+-- One connection was served by the server of this header in these rooms.
+pub record Goes (header : Header) (rooms : Rooms) (old new : Moment) (ended : Served) : Type 0 where
+  pub same : IsSameServer old.server.state new.server.state
+  pub call : IsCall old.clouds new.clouds header.cloud.0 old.total new.total
+  pub told : new.tells.told ≡ old.tells.told
+  pub replied : OneServed (RepliesOne header.shape) old.tells new.tells tt tt ended
+  pub served : IsTrue (old.clouds header.cloud.0).told → (p : Peer) → IsServing old.server (old.clouds header.cloud.0) p
+      → (q : Peer) × IsServing new.server (new.clouds header.cloud.0) q
+      × OneServed (ServesOne header.shape (served_by rooms header.shape header.cloud.0)) old.tells new.tells p q ended
+
+-- Connections that ended so were served, from a count of the ports' faults to a count.
+pub record Went (header : Header) (rooms : Rooms) (old new : Moment) (before : ℕ) (all : List Served) (after : ℕ)
+    : Type 0 where
+  pub same : IsSameServer old.server.state new.server.state
+  pub call : IsCall old.clouds new.clouds header.cloud.0 old.total new.total
+  pub told : new.tells.told ≡ old.tells.told
+  pub replied : ServeRun (RepliesOne header.shape) old.tells new.tells tt before all tt after
+  pub served : IsTrue (old.clouds header.cloud.0).told → (p : Peer) → IsServing old.server (old.clouds header.cloud.0) p
+      → (q : Peer) × IsServing new.server (new.clouds header.cloud.0) q
+      × ServeRun (ServesOne header.shape (served_by rooms header.shape header.cloud.0)) old.tells new.tells p before
+      all q after
+
+-- A line was written; or the sink failed in it; or memory ran out for it.
+abbrev pub Writes : List ℕ → Output → Result (Unit {0}) Stop → Type 0
+Writes line out (Ok value) = IsWhole out line
+Writes line out (Err stops.SinkFault) = IsCut 4 out [] line
+Writes line out (Err stops.NoMemory) = IsLeftOut 6 out []
+Writes line out (Err stops.PortsFault) = ⊥
+
+-- Of a cloud that isn't opened for the error the last line was written, and the status is the error's; or the line
+-- wasn't.
+pub record Closes (cloud : CloudNo) (error : OpenErr) (out : Output) (status : ℕ) : Type 0 where
+  pub due : ℕ
+  pub line : List ℕ
+  pub reports : Reports cloud error due line
+  pub ends : ((status ≡ due) × IsWhole out line) ⊎ (IsCut status out [] line ⊎ IsLeftOut status out [])
+
+-- the status of a serving that was stopped, or not
+abbrev pub status_by : Result (Unit {0}) Stop → ℕ
+status_by (Ok value) = 0
+status_by (Err stops.SinkFault) = 4
+status_by (Err stops.NoMemory) = 6
+status_by (Err stops.PortsFault) = 9
+
+-- Connections were served, up to the end that the status says.
+pub record ServesAll (status : ℕ) (header : Header) (rooms : Rooms) (old new : Moment) (address : List ℕ) (count : ℕ)
+    (out : Output)
+    (before now : ℕ) : Type 0 where
+  pub all : List Served
+  pub after : ℕ
+  pub went : Went header rooms old new before all after
+  pub ends : Ends status address count out all after now

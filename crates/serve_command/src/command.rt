@@ -1,0 +1,134 @@
+//! Serving a cloud.
+
+ghost use Rattle.std.specs.Prelude.{◌≡◌, ◌⊎◌, ◌<◌};
+ghost use Rattle.cd_base.specs.Limits.{greatest_rooms};
+ghost use Rattle.cd_edges.specs.Shelf.{IsCall};
+ghost use Rattle.share_server.specs.Serving.{IsOf};
+ghost use Rattle.serve_command.specs.Complete.{GoesWell};
+ghost use Rattle.serve_command.specs.Served.{IsServed, IsUnopenedOrServed, output_of};
+
+use crate::connections::serve_all;
+use crate::desk::Desk;
+use crate::refusal::refuse;
+use crate::stop::status_of;
+use cd_base::{CloudNo, NoMemory, Shape};
+use cd_edges::{Ports, Shelf, Sink};
+use std::alloc::Global;
+
+// Opens the cloud of a desk, and serves it. It answers the status.
+fn serve_at<K: Sink, V: Shelf, P: Ports>(
+    alloc: Global,
+    desk: &mut Desk,
+    cloud: CloudNo,
+    address: &str,
+    count: u32,
+    sink: &mut K,
+    shelf: &mut V,
+    ports: &mut P,
+) -> u8
+    requires of { IsOf desk.old.server cloud desk.old.server.state.header.shape greatest_rooms }
+    requires count { 0 < count }
+    ensures served { IsUnopenedOrServed result (record {
+      shape = desk.old.server.state.header.shape;
+      cloud = cloud;
+      address = address.now;
+      count = count;
+      out = output_of (K.written sink.old) (K.written sink.new) (K.faults sink.old) (K.faults sink.new);
+      old = V.cloud_at shelf.old;
+      new = V.cloud_at shelf.new;
+      total_before = V.faults shelf.old;
+      total_after = V.faults shelf.new;
+      tells_before = P.tells ports.old;
+      tells_after = P.tells ports.new;
+      ports_before = P.faults ports.old;
+      ports_after = P.faults ports.new;
+    }) }
+    ensures call { IsCall (V.cloud_at shelf.old) (V.cloud_at shelf.new) cloud.0
+        (V.faults shelf.old) (V.faults shelf.new) }
+{
+    match desk.server.reopen(shelf, true) {
+        Ok(_) => {
+            let served = serve_all(alloc, desk, address, count, sink, shelf, ports);
+            status_of(served)
+        }
+        Err(error) => refuse(alloc, cloud, error, sink),
+    }
+}
+
+/// Serves a cloud of a store of this shape to so many connections, one after another, and answers the status. `cloud`
+/// is below the shape's n, and `count` is at least 1.
+///
+/// The server, in the greatest rooms, and its buffers are made first. The cloud is opened, and begun where it isn't
+/// begun. Then connections to the address are listened for, the line `ready ADDRESS` is written, and each connection
+/// that is accepted is served to its end and closed; behind it stands the line `connection I WORD`, where I counts from
+/// 1 and WORD is `end`, `cut`, `length`, `spent` or `failed`. A connection that failed is followed by the next one.
+///
+/// | Status | Comes | Written |
+/// |---|---|---|
+/// | 0 | `count` connections were served | all lines |
+/// | 4 | the sink's count of faults rose | a front of the lines, or of the last line of 5 and 7 |
+/// | 5 | a device call of the opening failed, and the cloud's count rose | `shelf CLOUD` |
+/// | 6 | memory ran out: at first, and nothing was done; or for a line | the lines before that one |
+/// | 7 | the journal is damaged | `damaged CLOUD AT BYTE` |
+/// | 7 | the journal is another store's or cloud's | `other CLOUD FORMAT N K OWN`, as found |
+/// | 7 | the records hold more than the greatest of a room | `rooms CLOUD ROOM LIMIT` |
+/// | 9 | the ports' count rose: nothing could be listened for | nothing |
+/// | 9 | the ports' count rose: no further connection was accepted | all lines of the connections before |
+///
+/// AT is in bytes, BYTE in two hexadecimal digits. With 5 and 7 no port was touched, and the areas are spared. Nothing
+/// is done behind a line that isn't written whole.
+///
+/// On a told cloud whose areas stand for a list the first connection begins with that list, and each later one with the
+/// list and the pending command that the one before left; each image now stands for what the last one left. Each reply
+/// is the one that the list gives, however the bytes came in pieces. The shelf's other clouds are as they were.
+pub fn serve<K: Sink, V: Shelf, P: Ports>(
+    alloc: Global,
+    shape: Shape,
+    cloud: CloudNo,
+    address: &str,
+    count: u32,
+    sink: &mut K,
+    shelf: &mut V,
+    ports: &mut P,
+) -> u8
+    requires cloud { cloud.0 < shape.n }
+    requires count { 0 < count }
+    ensures served { IsServed result (record {
+      shape = shape;
+      cloud = cloud;
+      address = address.now;
+      count = count;
+      out = output_of (K.written sink.old) (K.written sink.new) (K.faults sink.old) (K.faults sink.new);
+      old = V.cloud_at shelf.old;
+      new = V.cloud_at shelf.new;
+      total_before = V.faults shelf.old;
+      total_after = V.faults shelf.new;
+      tells_before = P.tells ports.old;
+      tells_after = P.tells ports.new;
+      ports_before = P.faults ports.old;
+      ports_after = P.faults ports.new;
+    }) }
+    ensures call { IsCall (V.cloud_at shelf.old) (V.cloud_at shelf.new) cloud.0
+        (V.faults shelf.old) (V.faults shelf.new) }
+    ensures complete { GoesWell (record {
+      shape = shape;
+      cloud = cloud;
+      address = address.now;
+      count = count;
+      out = output_of (K.written sink.old) (K.written sink.new) (K.faults sink.old) (K.faults sink.new);
+      old = V.cloud_at shelf.old;
+      new = V.cloud_at shelf.new;
+      total_before = V.faults shelf.old;
+      total_after = V.faults shelf.new;
+      tells_before = P.tells ports.old;
+      tells_after = P.tells ports.new;
+      ports_before = P.faults ports.old;
+      ports_after = P.faults ports.new;
+    }) → (result ≡ 0) ⊎ (result ≡ 6) }
+{
+    let mut desk = match Desk::make(alloc, shape, cloud) {
+        Ok(desk) => desk,
+        Err(NoMemory) => return 6,
+    };
+    serve_at(alloc, &mut desk, cloud, address, count, sink, shelf, ports)
+}

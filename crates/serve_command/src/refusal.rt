@@ -1,0 +1,59 @@
+//! A cloud that isn't opened.
+
+ghost use Rattle.share_server.specs.Refusals.{MayCome};
+ghost use Rattle.transcript.specs.Endings.{ending_text};
+ghost use Rattle.serve_command.specs.Served.{Reports, output_of};
+ghost use Rattle.serve_command.specs.Steps.{Closes};
+
+use crate::lines::write_line;
+use crate::stop::Stop;
+use cd_base::{Bytes, CloudNo, NoMemory};
+use cd_edges::Sink;
+use share_server::OpenErr;
+use std::alloc::Global;
+use transcript::{Ending, write_ending};
+
+// The status of a cloud that isn't opened for this error, and its last line.
+fn report_of(cloud: CloudNo, error: OpenErr) -> (u8, Ending)
+    requires { MayCome error }
+    ensures { Reports cloud error result.0 (ending_text result.1) }
+{
+    match error {
+        OpenErr::Fault => (5, Ending::Shelf { cloud }),
+        OpenErr::Damaged { at, byte } => (7, Ending::Damaged { cloud, at, byte }),
+        OpenErr::OtherStore { found, .. } => {
+            let other = Ending::Other {
+                cloud,
+                format: found.format,
+                n: found.shape.n,
+                k: found.shape.k,
+                own: found.cloud,
+            };
+            (7, other)
+        }
+        OpenErr::RoomsTooSmall { room, limit, .. } => (7, Ending::Rooms { cloud, room, limit }),
+        OpenErr::NotBegun { .. } => unreachable!(),
+        OpenErr::NoMemory => unreachable!(),
+    }
+}
+
+/// Writes the last line of a cloud that isn't opened for this error, and answers the status: the error's; 4 where the
+/// sink failed in the line, and 6 where memory ran out for it.
+pub fn refuse<K: Sink>(alloc: Global, cloud: CloudNo, error: OpenErr, sink: &mut K) -> u8
+    requires { MayCome error }
+    ensures { Closes cloud error
+        (output_of (K.written sink.old) (K.written sink.new) (K.faults sink.old) (K.faults sink.new)) result }
+{
+    let (status, last) = report_of(cloud, error);
+    let mut line = Bytes::new(alloc);
+    match write_ending(&last, &mut line) {
+        Ok(()) => {}
+        Err(NoMemory) => return 6,
+    }
+    match write_line(sink, line.as_slice()) {
+        Ok(()) => status,
+        Err(Stop::SinkFault) => 4,
+        Err(Stop::NoMemory) => 6,
+        Err(Stop::PortsFault) => 9,
+    }
+}

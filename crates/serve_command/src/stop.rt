@@ -1,0 +1,27 @@
+//! Why serving ends early.
+
+ghost use Rattle.std.specs.Prelude.{◌≡◌};
+ghost use Rattle.serve_command.specs.Steps.{status_by};
+
+/// Why serving ends before all connections were served.
+#[derive(Clone, Copy, Debug, PartialEq, Eq)]
+pub enum Stop {
+    /// The sink failed in a line.
+    SinkFault,
+    /// Memory ran out for a line.
+    NoMemory,
+    /// The ports failed where a connection was to be listened for, or to be accepted.
+    PortsFault,
+}
+
+/// The status of a serving that was stopped, or not.
+pub fn status_of(served: Result<(), Stop>) -> u8
+    ensures { result ≡ status_by served }
+{
+    match served {
+        Ok(()) => 0,
+        Err(Stop::SinkFault) => 4,
+        Err(Stop::NoMemory) => 6,
+        Err(Stop::PortsFault) => 9,
+    }
+}
