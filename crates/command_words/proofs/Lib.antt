@@ -1,0 +1,4 @@
+mod Judged
+mod WordLaws
+mod Readers
+mod Table

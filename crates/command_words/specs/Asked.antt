@@ -1,0 +1,46 @@
+-- What the words of a command ask for, without where they lie in memory.
+use Rattle.std.specs.Prelude.{ℕ, List}
+use Rattle.cd_base.specs.declared.ids.CloudNo.{CloudNo}
+use Rattle.cd_base.specs.declared.ids.UserId.{UserId}
+use Rattle.cd_base.specs.declared.ids.Version.{Version}
+use Rattle.cd_base.specs.declared.shape.Shape.{Shape}
+
+-- a version of a file from the disks of these clouds
+pub record AskedRead : Type 0 where
+  pub directory : List ℕ
+  pub shape : Shape
+  pub user : UserId
+  pub path : List ℕ
+  pub version : Version
+  pub clouds : List ℕ
+
+-- one cloud behind this address, for so many connections
+pub record AskedServe : Type 0 where
+  pub directory : List ℕ
+  pub cloud : CloudNo
+  pub shape : Shape
+  pub address : List ℕ
+  pub count : ℕ
+
+-- a version of a file over the clouds behind these addresses
+pub record AskedFile : Type 0 where
+  pub user : UserId
+  pub path : List ℕ
+  pub version : Version
+  pub addresses : List (List ℕ)
+
+-- the session of so many files of so many pieces that this number gives
+pub record AskedSession : Type 0 where
+  pub seed : ℕ
+  pub files : ℕ
+  pub pieces : ℕ
+  pub directory : List ℕ
+
+-- what is asked for
+pub data Asked : Type 0 where
+  ForReplay : (directory : List ℕ) → Asked
+  ForRead : (words : AskedRead) → Asked
+  ForServe : (words : AskedServe) → Asked
+  ForBackup : (words : AskedFile) → Asked
+  ForRestore : (words : AskedFile) → Asked
+  ForGenerate : (words : AskedSession) → Asked

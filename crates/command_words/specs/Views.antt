@@ -1,0 +1,57 @@
+-- What the words that were read ask for.
+use Rattle.std.specs.Prelude.{map, string_bytes}
+use Rattle.command_words.specs.declared.command.Command.{Command}
+use Rattle.command_words.specs.declared.command.Command.TheVariants as commands
+use Rattle.command_words.specs.declared.command.ReadWords.{ReadWords}
+use Rattle.command_words.specs.declared.command.ServeWords.{ServeWords}
+use Rattle.command_words.specs.declared.command.BackupWords.{BackupWords}
+use Rattle.command_words.specs.declared.command.RestoreWords.{RestoreWords}
+use Rattle.command_words.specs.declared.command.GenerateWords.{GenerateWords}
+use Rattle.command_words.specs.Asked.{AskedRead, AskedServe, AskedFile, AskedSession, Asked, ForReplay, ForRead}
+use Rattle.command_words.specs.Asked.{ForServe, ForBackup, ForRestore, ForGenerate}
+
+abbrev pub asked_read : ReadWords → AskedRead
+asked_read r = record {
+  directory = r.directory.now;
+  shape = r.shape;
+  user = r.user;
+  path = r.path.now;
+  version = r.version;
+  clouds = r.clouds;
+}
+
+abbrev pub asked_serve : ServeWords → AskedServe
+asked_serve s = record {
+  directory = s.directory.now;
+  cloud = s.cloud;
+  shape = s.shape;
+  address = s.address.now;
+  count = s.count;
+}
+
+abbrev pub asked_backup : BackupWords → AskedFile
+asked_backup f = record {
+  user = f.user;
+  path = f.path.now;
+  version = f.version;
+  addresses = map string_bytes f.addresses.now;
+}
+
+abbrev pub asked_restore : RestoreWords → AskedFile
+asked_restore f = record {
+  user = f.user;
+  path = f.path.now;
+  version = f.version;
+  addresses = map string_bytes f.addresses.now;
+}
+
+abbrev pub asked_session : GenerateWords → AskedSession
+asked_session g = record { seed = g.seed; files = g.files; pieces = g.pieces; directory = g.directory.now }
+
+abbrev pub asked_of : Command → Asked
+asked_of (commands.Replay directory) = ForReplay directory.now
+asked_of (commands.Read words) = ForRead (asked_read words)
+asked_of (commands.Serve words) = ForServe (asked_serve words)
+asked_of (commands.Backup words) = ForBackup (asked_backup words)
+asked_of (commands.Restore words) = ForRestore (asked_restore words)
+asked_of (commands.Generate words) = ForGenerate (asked_session words)

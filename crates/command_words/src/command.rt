@@ -1,0 +1,91 @@
+//! What the words of a command ask for.
+
+use cd_base::{CloudNo, Clouds, Shape, UserId, Version};
+
+/// What the words ask for.
+#[derive(Debug, Drop)]
+pub enum Command<'a> {
+    /// The script in the source, over empty clouds in the directory.
+    Replay { directory: &'a str },
+    /// A version of a file from the disks of k clouds.
+    Read(ReadWords<'a>),
+    /// A cloud's store, for connections.
+    Serve(ServeWords<'a>),
+    /// A file for n clouds behind addresses.
+    Backup(BackupWords<'a>),
+    /// A version of a file from k clouds behind addresses.
+    Restore(RestoreWords<'a>),
+    /// A session that a number gives.
+    Generate(GenerateWords<'a>),
+}
+
+/// `read DIR N K USER PATH VERSION CLOUDS`.
+#[derive(Debug, Drop)]
+pub struct ReadWords<'a> {
+    /// Where the clouds lie: any word.
+    pub directory: &'a str,
+    /// The shape of the store.
+    pub shape: Shape,
+    /// Whose file it is.
+    pub user: UserId,
+    /// The file's path: the word's own bytes, 1 to 1,024 of them, none zero.
+    pub path: &'a [u8],
+    /// The version.
+    pub version: Version,
+    /// The clouds that are read: k of them below n.
+    pub clouds: Clouds,
+}
+
+/// `serve DIR CLOUD N K ADDR COUNT`.
+#[derive(Clone, Copy, Debug)]
+pub struct ServeWords<'a> {
+    /// Where the cloud lies: any word.
+    pub directory: &'a str,
+    /// The cloud, below n.
+    pub cloud: CloudNo,
+    /// The shape of the store.
+    pub shape: Shape,
+    /// Where it listens: any word.
+    pub address: &'a str,
+    /// How many connections it serves, at least 1.
+    pub count: u32,
+}
+
+/// `backup USER PATH VERSION ADDR..`.
+#[derive(Clone, Copy, Debug)]
+pub struct BackupWords<'a> {
+    /// Whose file it is.
+    pub user: UserId,
+    /// The file's path: the word's own bytes, 1 to 1,024 of them, none zero.
+    pub path: &'a [u8],
+    /// The version.
+    pub version: Version,
+    /// Where the n clouds listen, in their order: 3 to 16 words.
+    pub addresses: &'a [String],
+}
+
+/// `restore USER PATH VERSION ADDR..`.
+#[derive(Clone, Copy, Debug)]
+pub struct RestoreWords<'a> {
+    /// Whose file it is.
+    pub user: UserId,
+    /// The file's path: the word's own bytes, 1 to 1,024 of them, none zero.
+    pub path: &'a [u8],
+    /// The version.
+    pub version: Version,
+    /// Where k clouds listen, in the order of the clouds: 2 to 16 words.
+    pub addresses: &'a [String],
+}
+
+/// `gen SEED FILES PIECES DIR`.
+#[derive(Clone, Copy, Debug)]
+pub struct GenerateWords<'a> {
+    /// The number that gives the session.
+    pub seed: u64,
+    /// How many files it has, 1 to 1,000.
+    pub files: u32,
+    /// How many pieces a file has, 1 to 8,192, and all files 131,072 at most.
+    pub pieces: u32,
+    /// Where the clouds lie: any word.
+    pub directory: &'a str,
+}

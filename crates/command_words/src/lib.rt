@@ -1,0 +1,14 @@
+//! The words of the program's commands.
+#![tactic(auto)]
+
+mod command;
+mod fields;
+mod laws;
+mod rows;
+
+pub use command::{BackupWords, Command, GenerateWords, ReadWords, RestoreWords, ServeWords};
+pub use laws::law_of_words;
+pub use rows::read_words;
+
+#[cfg(test)]
+mod tests;
