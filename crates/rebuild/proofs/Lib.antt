@@ -1,0 +1,11 @@
+pub mod Finding
+pub mod Listed
+pub mod Names
+pub mod Opens
+pub mod Lanes
+pub mod Sorted
+pub mod Bringing
+pub mod Paging
+pub mod Cutting
+pub mod Turning
+pub mod Landing

@@ -1,0 +1,83 @@
+use Rattle.std.proofs.Common.{◌≡◌, ◌<◌, List, [], ◌++◌, length, Option, Result, Err, refl, sym, ap, ◌∙◌, subst, arith}
+use Rattle.cd_base.specs.declared.shape.Shape.{Shape}
+use Rattle.upload_job.specs.declared.news.LaneNews.{LaneNews}
+use Rattle.upload_job.specs.Upload.{FileVersion}
+use Rattle.upload_job.specs.Lanes.{LaneView, with_state}
+use Rattle.lane_requests.specs.Reached.{IsReached, Begun}
+use Rattle.lane_requests.specs.Runs.{starting, lane_at}
+use Rattle.rebuild.specs.Rebuilding.{lane_of}
+use Rattle.rebuild.proofs.Landing.{target_leads, step_moves, lane_is, lanes_long, ended_moves, memory_moves, lane_still}
+use Rattle.rebuild.proofs.Turning.{no_others}
+use Rattle.user_dedup.specs.Link.{serves}
+use Rattle.lane_steps.specs.Steps.{Heard}
+use Rattle.lane_steps.specs.declared.error.StepErr.{StepErr}
+use Rattle.rebuild.specs.declared.error.RebuildErr.{RebuildErr}
+use Rattle.rebuild.specs.Over.{Leads}
+use Rattle.rebuild.specs.Filling.{BringCaused, BringsTold, EndsBy, failed_as, last_of}
+use Rattle.std.proofs.Common.{Bool}
+use Rattle.rebuild.proofs.target.bring.Goals as goal
+
+abbrev bad : RebuildErr → Result Bool RebuildErr
+bad e = Err e
+
+pub returns-in-Err : goal.returns-in-Err
+returns-in-Err g c =
+    let t = g.L.Link.tells in
+    let target = c.args.target.0 in
+    let link = c.args.link.now in
+    let v : FileVersion = record { user = c.args.user; path = c.args.path.now; number = c.args.version; file = c.args.file.now } in
+    let lane = lane_of c.args.shape target v in
+    record {
+      brings = λ from apart. target_leads t g.L.Link.talk target from link link _ _ _ (no_others t target link)
+          (λ p stands. memory_moves t g.L.Link.talk c.args.shape target from v link c.requires.shape link lane lane [] [] p refl (refl, refl) refl stands);
+    }
+
+pub finish_lane-requires-clause-below : goal.finish_lane-requires-clause-below
+finish_lane-requires-clause-below g c = let e = lanes_long c.args.shape (record { user = c.args.user; path = c.args.path.now; number = c.args.version; file = c.args.file.now }) in let lt = c.requires.within in omega (arith, ap length c.in-Ok.ensures)
+
+pub finish_lane-requires-clause-reached : goal.finish_lane-requires-clause-reached
+finish_lane-requires-clause-reached g c =
+    let v : FileVersion = record { user = c.args.user; path = c.args.path.now; number = c.args.version; file = c.args.file.now } in
+    subst (λ (s : Shape). IsReached s c.in-Ok.job) (sym c.requires.shape)
+    (subst (IsReached c.args.shape) (sym c.in-Ok.ensures) (Begun v c.requires.path c.requires.few (omega arith) (omega arith)))
+
+pub returns-in-Ok-finish_lane : goal.returns-in-Ok-finish_lane
+returns-in-Ok-finish_lane g c =
+    let t = g.L.Link.tells in
+    let talk = g.L.Link.talk in
+    let target = c.args.target.0 in
+    let shape = c.args.shape in
+    let old = c.args.link.now in
+    let new = c.finish_lane.new.link in
+    let v : FileVersion = record { user = c.args.user; path = c.args.path.now; number = c.args.version; file = c.args.file.now } in
+    let is = ap (λ (l : List LaneView). starting (lane_at l target)) c.in-Ok.ensures ∙ lane_is shape v target c.requires.within in
+    let f = c.in-Ok-finish_lane.ensures.finishes in
+    record {
+      brings = λ from apart. target_leads t talk target from old new _ _ _ c.in-Ok-finish_lane.ensures.others
+          (λ p stands. ended_moves t talk shape target from v old c.requires.shape new (starting (lane_at c.in-Ok.job target)) f.1 f.0 f.2 c.ended.result p is f.3 f.4
+          (subst (λ (o : Option LaneNews). EndsBy o c.ended.result) (c.last_news.ensures ∙ ap last_of (c.deref.ensures.value ∙ f.5 ∙ ap (λ (l : List LaneNews). l ++ f.2) c.clear.ensures.items)) c.ended.ensures) stands);
+    }
+
+pub returns : goal.returns
+returns g c =
+    let t = g.L.Link.tells in
+    let talk = g.L.Link.talk in
+    let target = c.args.target.0 in
+    let shape = c.args.shape in
+    let old = c.args.link.now in
+    let new = c.finish_lane.new.link in
+    let v : FileVersion = record { user = c.args.user; path = c.args.path.now; number = c.args.version; file = c.args.file.now } in
+    let is = ap (λ (l : List LaneView). starting (lane_at l target)) c.in-Ok.ensures ∙ lane_is shape v target c.requires.within in
+    let e : StepErr = c.in-Err-finish_lane.e in
+    let f = c.in-Err-finish_lane.ensures.finishes in
+    let below : target < length c.in-Ok.job = (let all = lanes_long shape v in let lt = c.requires.within in omega (arith, ap length c.in-Ok.ensures)) in
+    let here = lane_still (Heard t talk target) c.in-Ok.job target f.1 old f.3 f.0 below f.4 in
+    record {
+      brings = λ from apart.
+          let result : Result Bool RebuildErr = Err c.failed.result in
+          let due : result ≡ Err (failed_as e) = ap (λ (x : RebuildErr). bad x) c.failed.ensures in
+          let clause : Result Bool RebuildErr → Type 0 = λ r. Leads t talk target from old new r (λ before after. BringCaused r (before target) (after target)) (λ turns before at after. BringsTold shape target (serves t old target) v r turns (before target) at (after target)) in
+          subst clause (sym due)
+          (target_leads t talk target from old new (Err (failed_as e)) _ _ c.in-Err-finish_lane.ensures.others
+          (λ p stands. step_moves t talk shape target from v old c.requires.shape f.3 new (with_state c.in-Ok.job target f.1.lane.state) c.finish_lane.new.job (starting (lane_at c.in-Ok.job target)) f.1 f.0 f.2 p e here f.7 is f.4 f.5 stands f.8));
+    }

@@ -1,0 +1,96 @@
+-- The target's lane for one version.
+use Rattle.std.specs.Prelude.{◌≡◌, ℕ, Bool, true, false, List, [], ◌∷◌, ◌++◌, Option, Some, None, Result, Ok, Err, ◌⊎◌}
+use Rattle.cd_edges.specs.Causes.{Rose}
+use Rattle.cd_base.specs.declared.ids.Tag.{Tag}
+use Rattle.cd_base.specs.declared.ids.Version.{Version}
+use Rattle.cd_base.specs.declared.shape.Shape.{Shape}
+use Rattle.messages.specs.declared.request.Request.{Request}
+use Rattle.messages.specs.declared.reply.Reply.{Reply}
+use Rattle.messages.specs.declared.reply.Reply.TheVariants as replies
+use Rattle.user_dedup.specs.declared.command.Command.{Command}
+use Rattle.user_dedup.specs.Dedup.{Outcome}
+use Rattle.user_dedup.specs.Exec.{Peer, Exec, CountsOn}
+use Rattle.upload_job.specs.declared.news.LaneNews.{LaneNews}
+use Rattle.upload_job.specs.declared.news.LaneNews.TheVariants as news
+use Rattle.upload_job.specs.Upload.{FileVersion}
+use Rattle.upload_job.specs.Lane.{LaneState, Done, Refused}
+use Rattle.lane_requests.specs.Runs.{Turn, Progress, LaneRun}
+use Rattle.lane_steps.specs.declared.error.StepErr.{StepErr}
+use Rattle.lane_steps.specs.declared.error.StepErr.TheVariants as step_errors
+use Rattle.rebuild.specs.declared.error.RebuildErr.{RebuildErr}
+use Rattle.rebuild.specs.declared.error.RebuildErr.TheVariants as errors
+use Rattle.rebuild.specs.Found.{Finding}
+use Rattle.rebuild.specs.Rebuilding.{Progressed, lane_ended, lane_of, last_said, BringsAll, ComesBefore, StopsAs}
+
+-- the last of some news
+abbrev pub last_of : List LaneNews → Option LaneNews
+last_of [] = None
+last_of (told ∷ []) = Some told
+last_of (told ∷ next ∷ more) = last_of (next ∷ more)
+
+-- why a lane made no step, as an error of the rebuild
+abbrev pub failed_as : StepErr → RebuildErr
+failed_as step_errors.Lost = errors.TargetLost
+failed_as (step_errors.Strange kind) = errors.TargetStrange kind
+failed_as step_errors.NoMemory = errors.NoMemory
+
+-- what the last news of a lane that ended say
+abbrev pub EndsBy : Option LaneNews → Result Bool RebuildErr → Type 0
+EndsBy (Some news.Committed) r = r ≡ Ok true
+EndsBy (Some news.Exists) r = r ≡ Ok false
+EndsBy (Some (news.Full room used need limit)) r = r ≡ Err (errors.TargetFull room used need limit)
+EndsBy (Some (news.Lacking place)) r = r ≡ Err (errors.TargetLacking place)
+EndsBy (Some news.Fault) r = r ≡ Err errors.TargetFault
+EndsBy (Some (news.Damaged at byte)) r = r ≡ Err (errors.TargetDamaged at byte)
+EndsBy (Some (news.Rotten named found)) r = r ≡ Err (errors.TargetRotten named found)
+EndsBy (Some news.NoMemory) r = r ≡ Err errors.TargetNoMemory
+EndsBy said r = r ≡ Err errors.NoMemory
+
+-- Some of what is still to be brought would be: from a state on, with the turns that there were, and more behind the state that these
+-- led to. The target's own reply, or nothing, would end it.
+pub record GoesOn (shape : Shape) (target : ℕ) (serve : List Command → Request → Outcome) (fs : List Finding) (r : Progressed) (start : Peer) (turns : List (Turn Peer)) (at : Peer) : Type 0 where
+  pub front : List Finding
+  pub left : List Finding
+  pub split : fs ≡ front ++ left
+  pub more : List (Turn Peer)
+  pub last : Progressed
+  pub end : Peer
+  pub brings : BringsAll shape target serve front r start (turns ++ more) last end
+  pub comes : ComesBefore more end at
+  pub counts : CountsOn at end
+  pub ends : ((left ≡ []) × (last.stop ≡ None)) ⊎ ((said : Reply) × (e : RebuildErr) × (last.stop ≡ Some said) × StopsAs said e)
+
+-- the lane of the version was cut behind these turns
+abbrev pub LaneCut : Shape → ℕ → (List Command → Request → Outcome) → FileVersion → Peer → List (Turn Peer) → Peer → Type 0
+LaneCut shape target serve v start turns at =
+    (f : Finding) (fs : List Finding) (r : Progressed) → f.found ≡ Ok v → r.stop ≡ None → GoesOn shape target serve (f ∷ fs) r start turns at
+
+-- the lane of the version ended so
+pub record LaneEnds (shape : Shape) (target : ℕ) (serve : List Command → Request → Outcome) (v : FileVersion) (start : Peer) (turns : List (Turn Peer)) (end : Peer) (Ends : LaneState → Reply → Type 0) : Type 0 where
+  pub last : Progress
+  pub said : Reply
+  pub run : LaneRun (Exec shape true serve) (lane_of shape target v) start turns last end
+  pub said_is : last_said turns ≡ Some said
+  pub ends : Ends last.lane.state said
+
+-- the version is entered, or stands with another recipe
+abbrev pub IsThere : Bool → LaneState → Reply → Type 0
+IsThere true state said = state ≡ Done
+IsThere false state said = (state ≡ Refused) × (said ≡ replies.Exists)
+
+-- the reply stops the rebuild
+abbrev pub StopsBy : RebuildErr → LaneState → Reply → Type 0
+StopsBy e state said = StopsAs said e × ((key : Tag × Version) (r : Progressed) → (lane_ended key state said r).stop ≡ Some said)
+
+-- a told target was brought this version, from one state on to another, behind which the last ask may have been lost
+abbrev pub BringsTold : Shape → ℕ → (List Command → Request → Outcome) → FileVersion → Result Bool RebuildErr → List (Turn Peer) → Peer → Peer → Peer → Type 0
+BringsTold shape target serve v (Ok there) turns start at end = LaneEnds shape target serve v start turns end (IsThere there)
+BringsTold shape target serve v (Err errors.NoMemory) turns start at end = LaneCut shape target serve v start turns at
+BringsTold shape target serve v (Err errors.TargetLost) turns start at end = LaneCut shape target serve v start turns at
+BringsTold shape target serve v (Err e) turns start at end = LaneEnds shape target serve v start turns end (StopsBy e)
+
+-- told or not, its count rose where it failed, and it answers nothing strange
+abbrev pub BringCaused : Result Bool RebuildErr → Peer → Peer → Type 0
+BringCaused (Err errors.TargetFault) start end = Rose start.faults end.faults
+BringCaused (Err (errors.TargetStrange kind)) start end = ⊥
+BringCaused result start end = Unit {0}

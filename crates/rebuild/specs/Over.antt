@@ -1,0 +1,112 @@
+-- What a rebuild does to the clouds of a link, and what its errors say, told or not.
+use Rattle.std.specs.Prelude.{◌≡◌, ℕ, ◌≤◌, ◌⊎◌, Bool, true, false, IsTrue, List, [], ◌∷◌, Result, Err}
+use Rattle.std.specs.List.{Contains}
+use Rattle.cd_edges.specs.Causes.{Rose}
+use Rattle.user_dedup.specs.Exec.{Peer}
+use Rattle.messages.specs.declared.request.Request.{Request}
+use Rattle.user_dedup.specs.Link.{LinkTelling, Exchange, Passes, ReadsFrom, Does, LosesAsk}
+use Rattle.lane_requests.specs.Runs.{Turn}
+use Rattle.lane_steps.specs.Steps.{Talks, Heard, LostAsk}
+use Rattle.restore_job.specs.Asking.{PeersOf, TellsAll, is_loss}
+use Rattle.restore_job.specs.Refusals.{Names}
+use Rattle.restore_job.specs.declared.error.RestoreErr.{RestoreErr}
+use Rattle.restore_job.specs.declared.error.RestoreErr.TheVariants as refusals
+use Rattle.rebuild.specs.declared.error.RebuildErr.{RebuildErr}
+use Rattle.rebuild.specs.declared.error.RebuildErr.TheVariants as errors
+use Rattle.rebuild.specs.Rebuilding.{LeavesBut}
+
+-- ---- the clouds
+
+-- the clouds that are read were asked, for what adds nothing
+abbrev pub Reading : {L : Type 0} → LinkTelling L → List ℕ → L → L → Type 0
+Reading t from old new = (asks : List Exchange) × Passes t (ReadsFrom from) old asks new
+
+-- The link's way, from a state in which the target stands for this peer: the clouds are read, the target has a turn, the clouds are
+-- read again, and so on; and what the target stands for at last.
+abbrev pub TargetAlong : {L : Type 0} → LinkTelling L → Talks L → ℕ → List ℕ → L → Peer → List (Turn Peer) → L → Peer → Type 0
+TargetAlong t talk target from old p [] new last = Reading t from old new × t.stands new target p × (last ≡ p)
+TargetAlong {L} t talk target from old p (u ∷ us) new last =
+    (mid : L) × (next : L) × Reading t from old mid × t.stands mid target p × (u.before ≡ p)
+    × Heard t talk target mid u.request u.reply next
+    × ((q : Peer) × t.stands next target q × Does t target mid p u.request u.reply q × TargetAlong t talk target from next q us new last)
+
+-- Nothing came behind these turns, or where that is the result an ask of the target that was lost.
+abbrev pub ThenLost : {L A : Type 0} → LinkTelling L → ℕ → L → Peer → Result A RebuildErr → L → Peer → Type 0
+ThenLost t target old p (Err errors.TargetLost) new q = (request : Request) × LostAsk t target old request new × LosesAsk t target old p request q
+ThenLost t target old p result new q = (new ≡ old) × (q ≡ p)
+
+-- From all peers that some clouds stood for, the target and the clouds that are read among them, they went on to others
+-- that they stand for now. The target had turns, between which the clouds were read, and was then at some state. The peers before and
+-- after are always so related, and further so, with the turns and that state, where the target and the clouds that are read are told.
+abbrev pub Leads : {L A : Type 0} → LinkTelling L → Talks L → ℕ → List ℕ → L → L → Result A RebuildErr
+    → ((ℕ → Peer) → (ℕ → Peer) → Type 0) → (List (Turn Peer) → (ℕ → Peer) → Peer → (ℕ → Peer) → Type 0) → Type 0
+Leads {L} t talk target from old new result Always Related =
+    (these : ℕ → Bool) → ((cloud : ℕ) → Contains (target ∷ from) cloud → IsTrue (these cloud))
+    → (before : ℕ → Peer) → PeersOf t old these before
+    → (after : ℕ → Peer) × (turns : List (Turn Peer)) × (last : L) × (at : Peer)
+    × PeersOf t new these after × LeavesBut from target before after
+    × TargetAlong t talk target from old (before target) turns last at × ThenLost t target last at result new (after target)
+    × Always before after
+    × (TellsAll t old (target ∷ from) → Related turns before at after)
+
+-- ---- the asks
+
+-- the target was asked, or one of the clouds that are read, for what adds nothing
+abbrev pub AsksFor : ℕ → List ℕ → Exchange → Type 0
+AsksFor target from e = (e.cloud ≡ target) ⊎ ReadsFrom from e
+
+-- A link after the asks of a rebuild: what it tells beside its clouds stays. An ask is lost only where the count of losses
+-- rose, and never where the link tells that it loses nothing, which it then tells still.
+pub record Asked {L : Type 0} (t : LinkTelling L) (target : ℕ) (from : List ℕ) (old new : L) (loss : Bool) : Type 0 where
+  pub asks : List Exchange
+  pub passed : Passes t (AsksFor target from) old asks new
+  pub reaches : t.reaches new ≡ t.reaches old
+  pub shape : t.shape new ≡ t.shape old
+  pub told : t.told new ≡ t.told old
+  pub full : t.full new ≡ t.full old
+  pub later : t.losses old ≤ t.losses new
+  pub lost : loss ≡ true → Rose (t.losses old) (t.losses new)
+  pub lossless : IsTrue (t.lossless old) → (loss ≡ false) × IsTrue (t.lossless new)
+
+-- whether a result is that an ask was lost
+abbrev pub is_lost : {A : Type 0} → Result A RebuildErr → Bool
+is_lost (Err errors.TargetLost) = true
+is_lost (Err (errors.FromRestore e)) = is_loss e
+is_lost result = false
+
+-- ---- the errors
+
+-- a refusal of a cloud that is read is one of these, and no reason to skip
+abbrev pub IsReadRefusal : RestoreErr → Type 0
+IsReadRefusal (refusals.Lost cloud) = Unit {0}
+IsReadRefusal (refusals.CloudFault cloud) = Unit {0}
+IsReadRefusal (refusals.CloudDamaged cloud at byte) = Unit {0}
+IsReadRefusal (refusals.CloudRotten cloud named found) = Unit {0}
+IsReadRefusal (refusals.CloudNoMemory cloud) = Unit {0}
+IsReadRefusal (refusals.Strange cloud kind) = Unit {0}
+IsReadRefusal (refusals.BadShare cloud secret named found) = Unit {0}
+IsReadRefusal e = ⊥
+
+-- and it names one of the clouds that are read
+abbrev pub HandsOn : {A : Type 0} → List ℕ → Result A RebuildErr → Type 0
+HandsOn from (Err (errors.FromRestore e)) = IsReadRefusal e × Names (Contains from) e
+HandsOn from result = Unit {0}
+
+-- What a refusal says of the cloud that it names, told or not: the count of one that answered fault rose; and of a told one
+-- nothing else comes but a lost ask.
+abbrev pub ReadCaused : {L : Type 0} → LinkTelling L → L → RestoreErr → (ℕ → Peer) → (ℕ → Peer) → Type 0
+ReadCaused t link (refusals.CloudFault c) before after = Rose (before c.0).faults (after c.0).faults
+ReadCaused t link (refusals.CloudDamaged c at byte) before after = t.told link c.0 ≡ false
+ReadCaused t link (refusals.CloudRotten c named found) before after = t.told link c.0 ≡ false
+ReadCaused t link (refusals.CloudNoMemory c) before after = t.told link c.0 ≡ false
+ReadCaused t link (refusals.Strange c kind) before after = t.told link c.0 ≡ false
+ReadCaused t link (refusals.BadShare c secret named found) before after = t.told link c.0 ≡ false
+ReadCaused t link e before after = Unit {0}
+
+-- What a result says, told or not: of a cloud that is read as above; the target's count rose where it failed; and a target
+-- that stands for a peer never answers what no server gives.
+abbrev pub Causes : {L A : Type 0} → LinkTelling L → L → ℕ → Result A RebuildErr → (ℕ → Peer) → (ℕ → Peer) → Type 0
+Causes t link target (Err (errors.FromRestore e)) before after = ReadCaused t link e before after
+Causes t link target (Err errors.TargetFault) before after = Rose (before target).faults (after target).faults
+Causes t link target (Err (errors.TargetStrange kind)) before after = ⊥
+Causes t link target result before after = Unit {0}

@@ -1,0 +1,18 @@
+//! Bringing a user's versions back to a cloud that lost them: what k others have of them, entry by entry, and one version
+//! to that cloud.
+#![tactic(auto)]
+
+mod error;
+mod laws;
+mod listing;
+mod naming;
+mod skips;
+mod target;
+mod versions;
+
+pub use error::{RebuildErr, SkipWhy};
+pub use laws::{law_of_found_versions, law_of_pages, law_of_refills};
+pub use listing::fetch_page;
+pub use skips::{Rebuilt, Skip, Skips};
+pub use target::bring;
+pub use versions::{Found, find_version};

@@ -1,0 +1,148 @@
+//! The keys of a user's entries at a cloud, page by page.
+
+ghost use Rattle.std.specs.Prelude.{◌≡◌, ◌≤◌, ◌<◌, ◌^◌, ◌∷◌, [], ℕ, length, IsTrue, IfOk, IfErr, Ok, OnErr, Err};
+ghost use Rattle.cd_base.specs.Reading.{AreBytes};
+ghost use Rattle.messages.specs.ReplyReading.{reply_at};
+ghost use Rattle.messages.specs.Requests.{IsRequest};
+ghost use Rattle.messages.specs.declared.request.Request.{Request};
+ghost use Rattle.messages.specs.declared.request.Request.TheVariants as requests;
+ghost use Rattle.user_dedup.specs.Link.{Asks, IsReading, LeavesOthers};
+ghost use Rattle.user_dedup.specs.Requests.{IsAsked};
+ghost use Rattle.restore_job.specs.Asking.{Asked, Leads, is_lost};
+ghost use Rattle.restore_job.specs.Refusals.{Names};
+ghost use Rattle.rebuild.specs.Steps.{PageFrom, PageIs, PageTold, ReadCauses, RefusesPage};
+
+use cd_base::{Bytes, CloudNo, NoMemory, Shape, Tag, UserId, Version};
+use frames::ReplyBuf;
+use message_fields::Entries;
+use messages::{MsgErr, Reply, Request};
+use restore_job::RestoreErr;
+use std::alloc::Global;
+use user_dedup::{Link, Lost};
+
+// Asks a cloud.
+fn ask<L: Link>(
+    link: &mut L,
+    cloud: CloudNo,
+    request: &[u8],
+    reply: &mut ReplyBuf,
+) -> Result<(), RestoreErr>
+    requires reached { IsTrue (L.tells.reaches link.old cloud.0) }
+    requires some { 1 ≤ length request.now }
+    requires framed { length request.now ≤ 4194304 }
+    requires reading { IsReading request.now }
+    ensures asked { Asked L.tells (cloud.0 ∷ []) link.old link.new (is_lost result) }
+    ensures exec { (r : Request) → IsAsked (L.tells.shape link.old) request.now r → Asks L.tells cloud.0 link.old r reply.new result link.new }
+    ensures others { LeavesOthers L.tells cloud.0 link.old link.new }
+    ensures lost { OnErr result (result ≡ Err (RestoreErr.Lost cloud)) }
+{
+    match link.ask(cloud, request, reply) {
+        Ok(()) => Ok(()),
+        Err(Lost) => Err(RestoreErr::Lost { cloud }),
+    }
+}
+
+// The content of a request for the user's entries above this one, or from the least one on.
+fn page_request(
+    alloc: Global,
+    user: UserId,
+    after: Option<(Tag, Version)>,
+) -> Result<Bytes, NoMemory>
+    ensures asks { IfOk result (λ content. IsRequest content (requests.List user after)) }
+    ensures framed { IfOk result (λ content. (1 ≤ length content) × (length content ≤ 4194304)) }
+{
+    let mut content = Bytes::new(alloc);
+    Request::List { user, after }.write(&mut content)?;
+    Ok(content)
+}
+
+// The kind of a reply, or 0 of an empty one.
+fn kind_of(content: &[u8]) -> u8 {
+    match content {
+        [] => 0,
+        [kind, ..] => *kind,
+    }
+}
+
+// The refusal that a reply is which is no page.
+fn refusal_of(cloud: CloudNo, reply: &Reply, kind: u8) -> RestoreErr
+    ensures { RefusesPage cloud reply.now result }
+{
+    match reply {
+        Reply::Fault => RestoreErr::CloudFault { cloud },
+        Reply::Damaged { at, byte } => RestoreErr::CloudDamaged {
+            cloud,
+            at: *at,
+            byte: *byte,
+        },
+        Reply::Rotten { named, found } => RestoreErr::CloudRotten {
+            cloud,
+            named: *named,
+            found: *found,
+        },
+        Reply::NoMemory => RestoreErr::CloudNoMemory { cloud },
+        Reply::Hello { .. } => RestoreErr::Strange { cloud, kind },
+        Reply::Known { .. } => RestoreErr::Strange { cloud, kind },
+        Reply::Stored { .. } => RestoreErr::Strange { cloud, kind },
+        Reply::Committed => RestoreErr::Strange { cloud, kind },
+        Reply::Exists => RestoreErr::Strange { cloud, kind },
+        Reply::Lacking { .. } => RestoreErr::Strange { cloud, kind },
+        Reply::Recipe { .. } => RestoreErr::Strange { cloud, kind },
+        Reply::Missing => RestoreErr::Strange { cloud, kind },
+        Reply::Shares { .. } => RestoreErr::Strange { cloud, kind },
+        Reply::NotYours { .. } => RestoreErr::Strange { cloud, kind },
+        Reply::Entries { .. } => RestoreErr::Strange { cloud, kind },
+        Reply::Full { .. } => RestoreErr::Strange { cloud, kind },
+        Reply::Malformed { .. } => RestoreErr::Strange { cloud, kind },
+    }
+}
+
+// The page in a reply, or the refusal that it is.
+fn page_in(cloud: CloudNo, reply: Reply, kind: u8) -> Result<Entries, RestoreErr>
+    ensures { PageIs cloud (Ok reply) result }
+{
+    match reply {
+        Reply::Entries { entries } => Ok(entries),
+        other => Err(refusal_of(cloud, &other, kind)),
+    }
+}
+
+// The page that the content of a cloud's reply brings, or the refusal that it is.
+fn page_from(alloc: Global, cloud: CloudNo, content: &[u8]) -> Result<Entries, RestoreErr>
+    requires few { length content.now < 2 ^ 32 }
+    ensures from { PageFrom cloud (reply_at content.now) result }
+    ensures bytes { AreBytes content.now }
+{
+    let kind = kind_of(content);
+    match Reply::read(alloc, content) {
+        Ok(reply) => page_in(cloud, reply, kind),
+        Err(MsgErr::Malformed { .. }) => Err(RestoreErr::Strange { cloud, kind }),
+        Err(MsgErr::NoMemory) => Err(RestoreErr::NoMemory),
+    }
+}
+
+/// Asks a cloud for the user's next page: the keys above this one, or from the least one on, rising, at most 256.
+pub fn fetch_page<L: Link>(
+    alloc: Global,
+    link: &mut L,
+    shape: Shape,
+    user: UserId,
+    cloud: CloudNo,
+    after: Option<(Tag, Version)>,
+    reply: &mut ReplyBuf,
+) -> Result<Entries, RestoreErr>
+    requires shape { L.tells.shape link.old ≡ shape }
+    requires reached { IsTrue (L.tells.reaches link.old cloud.0) }
+    ensures asked { Asked L.tells (cloud.0 ∷ []) link.old link.new (is_lost result) }
+    ensures told { Leads L.tells (cloud.0 ∷ []) link.old link.new (ReadCauses L.tells link.old result) (PageTold shape user cloud after result) }
+    ensures named { IfErr result (Names (λ c. c ≡ cloud.0)) }
+{
+    let request = match page_request(alloc, user, after) {
+        Ok(request) => request,
+        Err(NoMemory) => return Err(RestoreErr::NoMemory),
+    };
+    match ask(link, cloud, request.as_slice(), reply) {
+        Ok(()) => page_from(alloc, cloud, reply.content()),
+        Err(e) => Err(e),
+    }
+}

@@ -1,0 +1,111 @@
+//! The target's lane for one version.
+
+ghost use Rattle.std.specs.Prelude.{◌≡◌, ◌≤◌, ◌<◌, ◌^◌, ℕ, List, length, IsTrue};
+ghost use Rattle.std.specs.List.{Contains};
+ghost use Rattle.cd_base.specs.Limits.{IsPath};
+ghost use Rattle.recipe.specs.Spelling.{file_limit};
+ghost use Rattle.user_dedup.specs.Link.{serves};
+ghost use Rattle.rebuild.specs.Filling.{BringCaused, BringsTold, EndsBy, failed_as, last_of};
+ghost use Rattle.rebuild.specs.Over.{Leads};
+
+use crate::RebuildErr;
+use cd_base::{Bytes, CloudNo, NoMemory, Shape, UserId, Version};
+use frames::ReplyBuf;
+use lane_steps::{StepErr, finish_lane};
+use std::alloc::Global;
+use upload_job::{Job, LaneNews};
+use user_dedup::Link;
+
+// The last of some news.
+fn last_news(told: &[LaneNews]) -> Option<LaneNews>
+    ensures { result ≡ last_of told.now }
+{
+    match told {
+        [] => None,
+        [last] => Some(*last),
+        [_, more @ ..] => last_news(more),
+    }
+}
+
+// What the last news of a lane that ended say: whether the version is entered there, or stands with another recipe.
+fn ended(news: Option<LaneNews>) -> Result<bool, RebuildErr>
+    ensures { EndsBy news result }
+{
+    match news {
+        Some(LaneNews::Committed) => Ok(true),
+        Some(LaneNews::Exists) => Ok(false),
+        Some(
+            LaneNews::Full {
+                room,
+                used,
+                need,
+                limit,
+            },
+        ) => Err(RebuildErr::TargetFull {
+            room,
+            used,
+            need,
+            limit,
+        }),
+        Some(LaneNews::Lacking { place }) => Err(RebuildErr::TargetLacking { place }),
+        Some(LaneNews::Fault) => Err(RebuildErr::TargetFault),
+        Some(LaneNews::Damaged { at, byte }) => Err(RebuildErr::TargetDamaged { at, byte }),
+        Some(LaneNews::Rotten { named, found }) => Err(RebuildErr::TargetRotten { named, found }),
+        Some(LaneNews::NoMemory) => Err(RebuildErr::TargetNoMemory),
+        Some(LaneNews::Known { .. }) => Err(RebuildErr::NoMemory),
+        Some(LaneNews::Stored { .. }) => Err(RebuildErr::NoMemory),
+        None => Err(RebuildErr::NoMemory),
+    }
+}
+
+// Why the lane made no step, as an error of the rebuild.
+fn failed(e: StepErr) -> RebuildErr
+    ensures { result ≡ failed_as e }
+{
+    match e {
+        StepErr::Lost => RebuildErr::TargetLost,
+        StepErr::Strange { kind } => RebuildErr::TargetStrange { kind },
+        StepErr::NoMemory => RebuildErr::NoMemory,
+    }
+}
+
+/// Brings a version of a file of at most 67,108,864 bytes to the target: a job of it is made, and the target's lane goes on
+/// to its end. True where the version is entered there, false where it stands with another recipe.
+///
+/// TargetLost comes only where an ask was lost, and TargetStrange where what came is no reply that a server which keeps to
+/// the rules gives; the other errors but want of memory are the reply that stopped the lane: TargetFull, TargetFault,
+/// TargetDamaged, TargetRotten, TargetNoMemory, and TargetLacking the second time that the target lacks a share. Nothing
+/// is said of what is left in `content`, `reply` and `told`.
+pub fn bring<L: Link>(
+    alloc: Global,
+    link: &mut L,
+    shape: Shape,
+    user: UserId,
+    target: CloudNo,
+    version: Version,
+    path: &[u8],
+    file: &[u8],
+    content: &mut Bytes,
+    reply: &mut ReplyBuf,
+    told: &mut Vec<LaneNews>,
+) -> Result<bool, RebuildErr>
+    requires shape { L.tells.shape link.old ≡ shape }
+    requires reached { IsTrue (L.tells.reaches link.old target.0) }
+    requires within { target.0 < shape.n }
+    requires path { IsPath path.now }
+    requires few { length file.now ≤ file_limit }
+    ensures brings { (from : List ℕ) → ¬ Contains from target.0 → Leads L.tells L.talk target.0 from link.old link.new result
+        (λ before after. BringCaused result (before target.0) (after target.0))
+        (λ turns before at after. BringsTold shape target.0 (serves L.tells link.old target.0)
+        (record { user = user; path = path.now; number = version; file = file.now }) result turns (before target.0) at (after target.0)) }
+{
+    let mut job = match Job::new(alloc, shape, user, path, version, file) {
+        Ok(job) => job,
+        Err(NoMemory) => return Err(RebuildErr::NoMemory),
+    };
+    told.clear();
+    match finish_lane(link, &mut job, target, content, reply, told) {
+        Ok(()) => ended(last_news(told)),
+        Err(e) => Err(failed(e)),
+    }
+}
