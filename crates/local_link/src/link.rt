@@ -38,7 +38,7 @@ impl<'a, V: Shelf> LocalLink<'a, V> {
     ghost use Rattle.std.specs.Prelude.{◌≡◌, ◌≢◌, ◌⊎◌, ◌↔◌, ℕ, false, ◌+◌, ◌-◌, ◌^◌, ◌<◌, ◌≤◌, List, [], length, min, IsTrue, IsOk, IfOk, OnOk, OnErr, IsSomeAnd, Some, Ok, Err, if◌then◌else◌};
     ghost use Rattle.std.specs.List.{Contains};
     ghost use Rattle.cd_edges.specs.Causes.{Rose};
-    ghost use Rattle.cd_edges.specs.Shelf.{IsCall, HasFailed, KeepsCounts, Arms};
+    ghost use Rattle.cd_edges.specs.Shelf.{IsCall, HasFailed, KeepsCounts, Arms, Refreshes};
     ghost use Rattle.commit_journal.specs.declared.journal.Stage.TheVariants.{Shut};
     ghost use Rattle.messages.specs.declared.request.Request.{Request};
     ghost use Rattle.messages.specs.declared.reply.Reply.{Reply};
@@ -248,6 +248,9 @@ impl<'a, V: Shelf> LocalLink<'a, V> {
             (HasFailed (V.cloud_at self.old.shelf.now cloud.0) (V.cloud_at self.new.shelf.now cloud.0) (V.faults self.old.shelf.now) (V.faults self.new.shelf.now)) }
         ensures uncounted { OnOk result
             (KeepsCounts (V.cloud_at self.old.shelf.now cloud.0) (V.cloud_at self.new.shelf.now cloud.0) (V.faults self.old.shelf.now) (V.faults self.new.shelf.now)) }
+
+        // The areas of a told cloud are empty after Ok, which a crash leaves so, and after Failed what they were, each moment too.
+        ensures refreshed { IsTrue ((telling V.cloud_at).told self.old cloud.0) → Refreshes (V.cloud_at self.old.shelf.now cloud.0) (V.cloud_at self.new.shelf.now cloud.0) result }
 
         // Whenever a crash comes it leaves what it might have left before, or empty areas.
         ensures images { IsTrue ((telling V.cloud_at).told self.old cloud.0) → WasBefore (V.cloud_at self.old.shelf.now cloud.0) (V.cloud_at self.new.shelf.now cloud.0) }

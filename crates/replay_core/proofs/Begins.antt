@@ -45,7 +45,7 @@ abbrev pub unopened_of : Setting → (ℕ → Cloud) → Session
 unopened_of s old =
     record { setting = s; opened = false; history = []; between = opening old; begun = None; last = λ cloud. no_commands (old cloud) }
 
-replayed_unopened : Laws → (status : ℕ) (start : Start) (s : Setting) (new : ℕ → Cloud) → (status ≡ 0 → ⊥) → ((cloud : ℕ) → s.told cloud ≡ (start.old cloud).told)
+pub replayed_unopened : Laws → (status : ℕ) (start : Start) (s : Setting) (new : ℕ → Cloud) → (status ≡ 0 → ⊥) → ((cloud : ℕ) → s.told cloud ≡ (start.old cloud).told)
     → PreparesAll s.shape start.old new → Replayed status start.old new (unopened_of s start.old)
 replayed_unopened laws status start s new some told prepares = record {
   told_so = told;

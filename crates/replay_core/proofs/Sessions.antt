@@ -41,17 +41,17 @@ use Rattle.replay_core.proofs.Firsts.{map_told}
 abbrev pub answered : Vault → Event → List Line → List Moment → Vault → Answered
 answered before event answers moments after = record { before = before; event = event; answers = answers; moments = moments; after = after }
 
-turns_more : (s : Setting) (old mid new : Vault) (history : List Answered) (event : Event) (answers : List Line) (moments : List Moment) → Turns s old history mid
+pub turns_more : (s : Setting) (old mid new : Vault) (history : List Answered) (event : Event) (answers : List Line) (moments : List Moment) → Turns s old history mid
     → VStep s mid event answers moments new → Turns s old (history ++ answered mid event answers moments new ∷ []) new
 turns_more s old mid new [] event answers moments same step = (same, subst (λ (v : Vault). VStep s v event answers moments new) same step, refl)
 turns_more s old mid new (a ∷ history) event answers moments turns step = (turns.0, turns.1, turns_more s a.after mid new history event answers moments turns.2 step)
 
-lines_more : (shape : Shape) (jobs : ℕ) (script : List Event) (event : Event) → AreLines shape jobs script → Fits shape (jobs_of jobs script) event → IsTyped event
+pub lines_more : (shape : Shape) (jobs : ℕ) (script : List Event) (event : Event) → AreLines shape jobs script → Fits shape (jobs_of jobs script) event → IsTyped event
     → AreLines shape jobs (script ++ event ∷ [])
 lines_more shape jobs [] event are fits typed = (fits, typed, tt)
 lines_more shape jobs (e ∷ script) event are fits typed = (are.0, are.1, lines_more shape (jobs_after jobs e) script event are.2 fits typed)
 
-jobs_more : (jobs : ℕ) (script : List Event) (event : Event) → jobs_of jobs (script ++ event ∷ []) ≡ jobs_after (jobs_of jobs script) event
+pub jobs_more : (jobs : ℕ) (script : List Event) (event : Event) → jobs_of jobs (script ++ event ∷ []) ≡ jobs_after (jobs_of jobs script) event
 jobs_more jobs [] event = refl
 jobs_more jobs (e ∷ script) event = jobs_more (jobs_after jobs e) script event
 
@@ -64,7 +64,7 @@ pub count_more : (history : List Answered) (a : Answered) → length (history ++
 count_more [] a = refl
 count_more (b ∷ history) a = let e = count_more history a in omega arith
 
-script_more : (history : List Answered) (a : Answered) → script_of (history ++ a ∷ []) ≡ script_of history ++ a.event ∷ []
+pub script_more : (history : List Answered) (a : Answered) → script_of (history ++ a ∷ []) ≡ script_of history ++ a.event ∷ []
 script_more [] a = refl
 script_more (b ∷ history) a = ap (λ (l : List Event). b.event ∷ l) (script_more history a)
 
@@ -176,16 +176,16 @@ module _ {V : Type 0} (clouds : V → ℕ → Cloud) (start : Start) (s : Settin
 
   module _ (new : LocalLink V) (event : Event) (reader_now : Lines) (left_now : Option (List ℕ)) (can : CanBe s.shape (length jobs) event)
       (says : SaysNext s.shape (length jobs) reader left (Some event) reader_now left_now) (leaves : Leaves clouds link new) where
-    lines_on : AreLines s.shape 0 (script_of come.history ++ event ∷ [])
+    pub lines_on : AreLines s.shape 0 (script_of come.history ++ event ∷ [])
     lines_on = lines_more s.shape 0 (script_of come.history) event come.are_lines (subst (λ (n : ℕ). Fits s.shape n event) (sym come.uploads) can.fits) can.typed
 
-    read_on : IfSome start.script (λ script. (place : Place) × Reaches script s.shape s.rooms (script_of come.history ++ event ∷ []) place × IsThere reader_now left_now (jobs_after (length jobs) event) place)
+    pub read_on : IfSome start.script (λ script. (place : Place) × Reaches script s.shape s.rooms (script_of come.history ++ event ∷ []) place × IsThere reader_now left_now (jobs_after (length jobs) event) place)
     read_on = map_told start.script (λ (script : List ℕ). (place : Place) × Reaches script s.shape s.rooms (script_of come.history) place × IsThere reader left (length jobs) place)
         (λ (script : List ℕ). (place : Place) × Reaches script s.shape s.rooms (script_of come.history ++ event ∷ []) place × IsThere reader_now left_now (jobs_after (length jobs) event) place)
         (λ script x. let n = says x.0 x.2 in
         (n.0, (x.1.0, x.1.1, leads_more s.shape x.1.0 (script_of come.history) x.0 n.0 event x.1.2 n.1), n.2)) come.read
 
-    others_on : (cloud : ℕ) → s.shape.n ≤ cloud → clouds new.shelf.now cloud ≡ start.old cloud
+    pub others_on : (cloud : ℕ) → s.shape.n ≤ cloud → clouds new.shelf.now cloud ≡ start.old cloud
     others_on cloud le = leaves.others cloud (subst (λ (sh : Shape). sh.n ≤ cloud) (sym come.is_at.link_at.shape) le) ∙ come.others cloud le
 
     -- a line that was cut
@@ -217,7 +217,7 @@ module _ {V : Type 0} (clouds : V → ℕ → Cloud) (start : Start) (s : Settin
       abbrev pub one : Answered
       one = answered come.at event answers goes.moments goes.after
 
-      images_on : BeginsEmpty start.old → (cloud : ℕ) → cloud < s.shape.n → IsTrue (s.told cloud)
+      pub images_on : BeginsEmpty start.old → (cloud : ℕ) → cloud < s.shape.n → IsTrue (s.told cloud)
           → ImagesSince (start.old cloud) (clouds new.shelf.now cloud) (header_of s.shape cloud) (IsListIn s cloud (moments_of (come.history ++ one ∷ [])) goes.after.peers)
       images_on empty cloud lt told =
           subst (λ (m : List Moment). ImagesSince (start.old cloud) (clouds new.shelf.now cloud) (header_of s.shape cloud) (IsListIn s cloud m goes.after.peers)) (sym (moments_more come.history one))
@@ -230,7 +230,7 @@ module _ {V : Type 0} (clouds : V → ℕ → Cloud) (start : Start) (s : Settin
           (λ image x. (x.0, here s cloud (moments_of come.history) goes.moments goes.after.peers x.0 x.1, x.2))))
 
       -- a line that was answered, so far as it was written
-      pub come_on : (source_now : ℕ) (written_now : Option (List ℕ)) (sink_now : ℕ) → source_now ≡ source → sink_now ≡ sink → Appends written written_now (text_of answers)
+      abbrev pub come_on : (source_now : ℕ) (written_now : Option (List ℕ)) (sink_now : ℕ) → source_now ≡ source → sink_now ≡ sink → Appends written written_now (text_of answers)
           → length jobs_now ≡ jobs_after (length jobs) event
           → HasCome clouds start s new jobs_now reader_now left_now source_now written_now sink_now (events + 1)
       come_on source_now written_now sink_now same_source same_sink wrote count = record {

@@ -17,11 +17,14 @@ use Rattle.session.specs.declared.reading.ScriptErr.{ScriptErr}
 use Rattle.session.specs.declared.reading.ScriptErr.TheVariants as script_errors
 use Rattle.vault.specs.Scripts.{said_at, jobs_after, Place, Says, behind, FailsIn, IsEnd, IsWrong}
 use Rattle.vault.specs.Texts.{text_of}
-use Rattle.script_lines.specs.Does.{CarriesOut}
+use Rattle.script_lines.specs.declared.error.CarryErr.{CarryErr}
+use Rattle.script_lines.specs.declared.error.CarryErr.TheVariants as carry_errors
+use Rattle.script_lines.specs.Does.{CarriesOut, IsCutOff}
+use Rattle.script_lines.specs.Replacing.{IsShelfFault}
 use Rattle.replay_core.specs.declared.end.ReplayEnd.{ReplayEnd}
 use Rattle.replay_core.specs.declared.end.ReplayEnd.TheVariants as ends
 use Rattle.replay_core.specs.Opening.{IsThere, end_of_script, end_without}
-use Rattle.replay_core.specs.Going.{SaysEvent, EndsReading, WritesFront, EndsSink, EndsWriting, Answers, EndsAnswering}
+use Rattle.replay_core.specs.Going.{SaysEvent, EndsReading, WritesFront, EndsSink, EndsWriting, Answers, EndsAnswering, end_of_carry}
 
 -- ---- what is read
 
@@ -146,3 +149,11 @@ module _ {V : Type 0} (clouds : V → ℕ → Cloud) (event : Event) (old : Loca
   ends_answering front text bytes before now was is (Err (ends.NotEmpty cloud area len)) none same does x = absurd x
   ends_answering front text bytes before now was is (Err (ends.Damaged cloud at byte)) none same does x = absurd x
   ends_answering front text bytes before now was is (Err ends.NoMemory) none same does x = absurd x
+
+  -- a line that was cut
+  pub ends_carry : (error : CarryErr) (end : ReplayEnd) (before now : Option (List ℕ)) (was is : ℕ) → end ≡ end_of_carry error → IsCutOff clouds event old jobs new → IsShelfFault clouds event old jobs new error
+      → now ≡ before → is ≡ was → EndsAnswering clouds event old jobs new jobs_now before now was is end
+  ends_carry (carry_errors.ShelfFault cloud) end before now was is e cut fault same still =
+      subst (EndsAnswering clouds event old jobs new jobs_now before now was is) (sym e) (fault, same, still)
+  ends_carry carry_errors.NoMemory end before now was is e cut fault same still =
+      subst (EndsAnswering clouds event old jobs new jobs_now before now was is) (sym e) (cut, same)

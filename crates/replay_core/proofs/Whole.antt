@@ -416,7 +416,17 @@ module _ {V : Type 0} (clouds : V → ℕ → Cloud) (laws : Laws) (start : Star
     ends_answered (ends.Done number) now sink_now x = absurd x
     ends_answered (ends.Script line at found) now sink_now x = absurd x
     ends_answered ends.SourceFault now sink_now x = absurd x
-    ends_answered (ends.ShelfFault cloud) now sink_now x = absurd x
+    ends_answered (ends.ShelfFault cloud) now sink_now x =
+        let fault = x.0.1 s come.at come.is_at in
+        let cut = fault.cut in
+        let begun : Option Begun = Some (record { event = event; moments = cut.moments }) in
+        let h = holds_cut clouds start s link jobs reader left source written sink events come new event reader_now left_now can says leaves part here cut in
+        ends_so laws start s left_now source_now sink_now total (clouds new.shelf.now) image told_new (ends.ShelfFault cloud) now come.history come.at begun cut.last h (λ e. apart 5 0 refl e) (
+          subst (λ (e : Event). Fits s.shape (length jobs) e) x.0.0 can.fits,
+          read_some start.script (λ (script : List ℕ) (place : Place). Reaches script s.shape s.rooms (script_of come.history ++ event_of begun) place) h.read,
+          fault.rose,
+          inr x.0.0,
+        ) (x.2 ∙ come.sink_is) (subst (λ (o : Option (List ℕ)). Appends start.written o (text_so_far s come.history)) (sym x.1) come.printed)
     ends_answered (ends.NotEmpty cloud area len) now sink_now x = absurd x
     ends_answered (ends.Damaged cloud at byte) now sink_now x = absurd x
 

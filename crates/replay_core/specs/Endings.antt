@@ -7,7 +7,9 @@ use Rattle.cd_edges.specs.Disk.{Cloud, reads}
 use Rattle.session.specs.Fault.{Fault}
 use Rattle.cd_base.specs.declared.shape.Shape.{Shape}
 use Rattle.cd_base.specs.declared.rooms.Rooms.{Rooms}
+use Rattle.session.specs.declared.event.Event.TheVariants as events
 use Rattle.vault.specs.Scripts.{Place, Begins, Reaches, IsEnd, IsWrong, IsWrongFirst}
+use Rattle.vault.specs.Steps.{cloud_no}
 use Rattle.vault.specs.Headline.{Session, Begun, script_in}
 
 -- what the outside tells of a call: the source's bytes before and after; the counts of the source, the sink and the
@@ -52,10 +54,11 @@ abbrev pub HasHeader : Call → Session → Type 0
 HasHeader call run = IfSome call.script (λ script. (shape : Shape) (rooms : Rooms) (place : Place)
     → Begins script shape rooms place → (run.setting.shape ≡ shape) × (run.setting.rooms ≡ rooms))
 
--- a line was begun in which the shelf may fail outside an execution and outside an opening: none before replacements
--- come
+-- A line was begun in which the shelf may fail outside an execution and outside an opening: the replacement of this cloud,
+-- whose areas couldn't be made empty.
 abbrev pub MayFailIn : Option Begun → ℕ → Type 0
-MayFailIn begun cloud = ⊥
+MayFailIn None cloud = ⊥
+MayFailIn (Some b) cloud = b.event ≡ events.Replace (cloud_no cloud)
 
 -- the cloud's area reads as nothing
 abbrev pub IsEmptyAt : Cloud → Area → Type 0

@@ -23,8 +23,11 @@ use Rattle.vault.specs.Scripts.{is_carried, jobs_after, jobs_of, AreLines, Place
 use Rattle.vault.specs.Texts.{text_of}
 use Rattle.vault.specs.Vault.{Setting, Vault, opening}
 use Rattle.vault.specs.Run.{Answered, Turns, script_of, moments_of, answers_of, IsListIn}
+use Rattle.script_lines.specs.declared.error.CarryErr.{CarryErr}
+use Rattle.script_lines.specs.declared.error.CarryErr.TheVariants as carry_errors
 use Rattle.script_lines.specs.At.{IsAt}
 use Rattle.script_lines.specs.Does.{Goes, IsCutOff}
+use Rattle.script_lines.specs.Replacing.{IsShelfFault}
 use Rattle.replay_core.specs.declared.end.ReplayEnd.{ReplayEnd}
 use Rattle.replay_core.specs.declared.end.ReplayEnd.TheVariants as ends
 use Rattle.replay_core.specs.Endings.{Call}
@@ -149,6 +152,11 @@ Answers clouds event old jobs new jobs_now OfText =
     (s : Setting) (v : Vault) → IsAt clouds s old jobs v
     → (answers : List Line) × Goes clouds s event old new jobs_now v answers × OfText (text_of answers)
 
+-- the end of a replay whose line was cut by this error
+abbrev pub end_of_carry : CarryErr → ReplayEnd
+end_of_carry (carry_errors.ShelfFault cloud) = ends.ShelfFault cloud
+end_of_carry carry_errors.NoMemory = ends.NoMemory
+
 -- how a replay ends as it answers a line
 abbrev pub EndsAnswering : {V : Type 0} → (V → ℕ → Cloud) → Event → LocalLink V → List (List LaneView) → LocalLink V
     → List (List LaneView) → Option (List ℕ) → Option (List ℕ) → ℕ → ℕ → ReplayEnd → Type 0
@@ -156,4 +164,7 @@ EndsAnswering clouds event old jobs new jobs_now before now faults_before faults
     Answers clouds event old jobs new jobs_now (λ text. WritesFront text before now) × Rose faults_before faults_now
 EndsAnswering clouds event old jobs new jobs_now before now faults_before faults_now ends.NoMemory =
     IsCutOff clouds event old jobs new × (now ≡ before)
+EndsAnswering clouds event old jobs new jobs_now before now faults_before faults_now (ends.ShelfFault cloud) =
+    IsShelfFault clouds event old jobs new (carry_errors.ShelfFault cloud)
+    × (now ≡ before) × (faults_now ≡ faults_before)
 EndsAnswering clouds event old jobs new jobs_now before now faults_before faults_now end = ⊥

@@ -8,4 +8,5 @@ mod script;
 mod writing;
 
 pub use end::ReplayEnd;
+pub use opening::{empty_clouds, open_clouds};
 pub use script::replay;

@@ -8,14 +8,14 @@ ghost use Rattle.vault.specs.Scripts.{is_carried, jobs_after, said_at};
 ghost use Rattle.script_lines.specs.At.{Leaves};
 ghost use Rattle.script_lines.specs.Jobs.{AreReached};
 ghost use Rattle.replay_core.specs.Opening.{end_of_script, end_without};
-ghost use Rattle.replay_core.specs.Going.{CanBe, SaysNext, SaysEvent, EndsReading, Answers, EndsAnswering};
+ghost use Rattle.replay_core.specs.Going.{CanBe, SaysNext, SaysEvent, EndsReading, Answers, EndsAnswering, end_of_carry};
 
 use crate::ReplayEnd;
 use crate::writing::write_text;
 use cd_base::{Bytes, Shape};
 use cd_edges::{Shelf, Sink, Source};
 use local_link::LocalLink;
-use script_lines::{Buffers, Jobs, can_carry_out, carry_out};
+use script_lines::{Buffers, CarryErr, Jobs, can_carry_out, carry_out};
 use session::{Event, LineErr, LineReader, ScriptErr, read_line};
 use std::alloc::Global;
 
@@ -87,6 +87,16 @@ pub fn next_event<S: Source>(
     }
 }
 
+// The end of a replay whose line was cut by this error.
+fn end_of_error(error: CarryErr) -> ReplayEnd
+    ensures { result ≡ end_of_carry error }
+{
+    match error {
+        CarryErr::ShelfFault { cloud } => ReplayEnd::ShelfFault { cloud },
+        CarryErr::NoMemory => ReplayEnd::NoMemory,
+    }
+}
+
 /// Carries a line out, and writes the text of its answers.
 pub fn answer_line<K: Sink, V: Shelf>(
     alloc: Global,
@@ -113,6 +123,6 @@ pub fn answer_line<K: Sink, V: Shelf>(
     text.clear();
     match carry_out(alloc, link, jobs, event, buffers, text) {
         Ok(()) => write_text(sink, text.as_slice()),
-        Err(_) => Err(ReplayEnd::NoMemory),
+        Err(error) => Err(end_of_error(error)),
     }
 }

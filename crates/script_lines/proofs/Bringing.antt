@@ -46,7 +46,7 @@ use Rattle.script_lines.proofs.Lines.{text_more, stored_same, step_leaves}
 -- ---- definitions joined
 
 -- the first moment has these clouds, or there is none and they stay
-abbrev First : (ℕ → Peer) → List Moment → (ℕ → Peer) → Type 0
+abbrev pub First : (ℕ → Peer) → List Moment → (ℕ → Peer) → Type 0
 First old moments new = ((moments ≡ []) × (new ≡ old)) ⊎ ((m : Moment) × (rest : List Moment) × (moments ≡ m ∷ rest) × (m.peers ≡ old))
 
 module _ (s : Setting) (job : ℕ) where
@@ -56,7 +56,7 @@ module _ (s : Setting) (job : ℕ) where
   first_run cloud p old [] last mid rest moments new along (inr x) e = inr (x.0, x.1, e ∙ x.2, x.3 ∙ along.1)
   first_run cloud p old (t ∷ turns) last mid rest moments new along first e = inr (moment_of cloud t, map (moment_of cloud) turns ++ rest, e, along.1)
 
-  first_lanes : (clouds : List ℕ) (old : Vault) (answers : List Line) (moments : List Moment) (new : Vault) → FinishLanes s job clouds old answers moments new → First old.peers moments new.peers
+  pub first_lanes : (clouds : List ℕ) (old : Vault) (answers : List Line) (moments : List Moment) (new : Vault) → FinishLanes s job clouds old answers moments new → First old.peers moments new.peers
   first_lanes [] old answers moments new f = inl (f.1, ap (λ (v : Vault). v.peers) f.2)
   first_lanes (cloud ∷ clouds) old answers moments new f =
       first_run cloud (starting (lane_at (lanes_of old.jobs job) cloud)) old.peers f.0 f.1 f.3.peers f.6 moments new.peers
@@ -76,7 +76,7 @@ module _ (s : Setting) (job : ℕ) where
           (run_along (Executes s cloud) (starting (lane_at (lanes_of old.jobs job) cloud)) old.peers f.0 f.1 f.3 x.0).0
           (again (record { peers = f.3; jobs = with_lanes old.jobs job (with_state (lanes_of old.jobs job) cloud f.1.lane.state) }) x.1.0 last x.1.2) x.1.1
 
-  lanes_join : (xs ys : List ℕ) (old mid new : Vault) (one two : List Line) (before behind : List Moment) → FinishLanes s job xs old one before mid → FinishLanes s job ys mid two behind new
+  pub lanes_join : (xs ys : List ℕ) (old mid new : Vault) (one two : List Line) (before behind : List Moment) → FinishLanes s job xs old one before mid → FinishLanes s job ys mid two behind new
       → FinishLanes s job (xs ++ ys) old (one ++ two) (before ++ behind) new
   lanes_join [] ys old mid new one two before behind f g =
       subst (λ (l : List Line). FinishLanes s job ys old (l ++ two) (before ++ behind) new) (sym f.0)
@@ -143,7 +143,7 @@ module _ (s : Setting) (job : ℕ) where
 
 module _ {V : Type 0} (clouds : V → ℕ → Cloud) (s : Setting) (job : ℕ) where
   -- what a cloud had by the first of two runs it also had where the second was made
-  images_later : (old mid new : LocalLink V) (before behind : List Moment) (between last : ℕ → Peer) → First between behind last → Images clouds s old mid before between → Images clouds s mid new behind last
+  pub images_later : (old mid new : LocalLink V) (before behind : List Moment) (between last : ℕ → Peer) → First between behind last → Images clouds s old mid before between → Images clouds s mid new behind last
       → Images clouds s old new (before ++ behind) last
   images_later old mid new before behind between last first one two cloud lt told =
       joined (clouds old.shelf.now cloud) (clouds mid.shelf.now cloud) (clouds new.shelf.now cloud) (StandsForSome (header_of s.shape cloud) (IsListIn s cloud (before ++ behind) last))

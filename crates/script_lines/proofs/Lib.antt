@@ -6,3 +6,5 @@ pub mod Others
 pub mod Bringing
 pub mod Dropped
 pub mod Uploading
+pub mod Paged
+pub mod Replaced

@@ -1,7 +1,8 @@
 -- What each line does to a vault.
-use Rattle.std.proofs.Common.{◌≡◌, ℕ, ◌<◌, Bool, not, ◌&&◌, List, [], ◌∷◌, ◌++◌, length, Option, Some, None, refl, sym, ap, ◌∙◌, subst, inl, inr, ◌⊎◌, append_assoc}
-use Rattle.std.specs.Prelude.{Result, Ok, Err, OnOk, OnErr}
+use Rattle.std.proofs.Common.{◌≡◌, ℕ, ◌<◌, Bool, true, false, not, ◌&&◌, List, [], ◌∷◌, ◌++◌, length, Option, Some, None, refl, sym, ap, ◌∙◌, subst, inl, inr, ◌⊎◌, append_assoc}
+use Rattle.std.specs.Prelude.{◌↔◌, Result, Ok, Err, IsOk, OnOk, OnErr}
 use Rattle.std.proofs.lemmas.Grind.{flat_map-append}
+use Rattle.cd_base.specs.declared.ids.NoMemory.{NoMemory}
 use Rattle.cd_base.specs.declared.shape.Shape.{Shape}
 use Rattle.cd_edges.specs.Disk.{Cloud}
 use Rattle.messages.specs.declared.request.Request.{Request}
@@ -24,6 +25,7 @@ use Rattle.vault.specs.Vault.{Setting, Vault, lanes_of, with_lanes}
 use Rattle.vault.specs.Steps.{Moment, quiet, cloud_no, step_line, all_done, stored_line, LaneStep}
 use Rattle.vault.specs.Headline.{IsPartOf}
 use Rattle.vault.specs.Texts.{text_of}
+use Rattle.script_lines.specs.declared.error.CarryErr.{CarryErr}
 use Rattle.script_lines.specs.At.{LinkAt, IsAt, Leaves}
 use Rattle.script_lines.specs.Does.{Images, Goes, Cut}
 use Rattle.script_lines.specs.Jobs.{job_lanes, with_job}
@@ -45,6 +47,12 @@ both_ok (Err e) P Q R f p q = tt
 pub on_err : {T E : Type 0} (r : Result T E) (P : Type 0) → P → OnErr r P
 on_err (Ok x) P p = tt
 on_err (Err e) P p = p
+
+-- a line whose only error is want of memory
+pub for_ok : (done : Result (Unit {0}) NoMemory) (result : Result (Unit {0}) CarryErr) (P : Type 0) → IsOk result ↔ IsOk done → OnOk done P → OnOk result P
+for_ok (Ok u) (Ok w) P same p = p
+for_ok (Err e) (Ok w) P same p = absurd (let f : false ≡ true = same.0 refl in cc)
+for_ok done (Err e) P same p = tt
 
 pub text_join : (xs ys : List Line) → text_of (xs ++ ys) ≡ text_of xs ++ text_of ys
 text_join xs ys = flat_map-append line_text xs ys

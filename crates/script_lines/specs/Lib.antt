@@ -5,3 +5,5 @@ pub mod Stepping
 pub mod Finishing
 pub mod Getting
 pub mod Dropping
+pub mod Paging
+pub mod Replacing

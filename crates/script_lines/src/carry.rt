@@ -1,18 +1,20 @@
 //! A line of a script, carried out.
 
-ghost use Rattle.std.specs.Prelude.{◌≡◌, length, IsTrue, OnOk, OnErr};
+ghost use Rattle.std.specs.Prelude.{◌≡◌, ◌↔◌, length, Err, IsOk, IsTrue, IfErr, OnOk, OnErr};
 ghost use Rattle.session.specs.Spelling.{Fits};
 ghost use Rattle.vault.specs.Scripts.{is_carried, jobs_after};
 ghost use Rattle.script_lines.specs.At.{Leaves};
 ghost use Rattle.script_lines.specs.Does.{CarriesOut, IsCutOff};
 ghost use Rattle.script_lines.specs.Jobs.{AreReached};
+ghost use Rattle.script_lines.specs.Replacing.{IsShelfFault};
 
-use crate::Jobs;
 use crate::finish::finish_line;
 use crate::get::get_line;
 use crate::lanes::{drop_line, lose_line, step_line};
-use crate::one::{arm_line, restart_line};
+use crate::listing::list_line;
+use crate::one::{arm_line, replace_line, restart_line};
 use crate::upload::upload_line;
+use crate::{CarryErr, Jobs};
 use cd_base::{Bytes, NoMemory};
 use cd_edges::Shelf;
 use frames::ReplyBuf;
@@ -41,7 +43,7 @@ impl Buffers {
     }
 }
 
-/// Whether `carry_out` takes the line: not `list`, `replace` and `rebuild`.
+/// Whether `carry_out` takes the line: not `rebuild`.
 pub fn can_carry_out(event: &Event) -> bool
     ensures { result ≡ is_carried event.now }
 {
@@ -52,11 +54,22 @@ pub fn can_carry_out(event: &Event) -> bool
         Event::Drop { .. } => true,
         Event::Finish { .. } => true,
         Event::Get { .. } => true,
-        Event::List { .. } => false,
+        Event::List { .. } => true,
         Event::Arm { .. } => true,
         Event::Restart { .. } => true,
-        Event::Replace { .. } => false,
+        Event::Replace { .. } => true,
         Event::Rebuild { .. } => false,
+    }
+}
+
+// The error of a line that wants memory alone.
+fn for_memory(done: Result<(), NoMemory>) -> Result<(), CarryErr>
+    ensures same { IsOk result ↔ IsOk done }
+    ensures memory { OnErr result (result ≡ Err CarryErr.NoMemory) }
+{
+    match done {
+        Ok(()) => Ok(()),
+        Err(NoMemory) => Err(CarryErr::NoMemory),
     }
 }
 
@@ -65,10 +78,13 @@ pub fn can_carry_out(event: &Event) -> bool
 ///
 /// Of every vault at which the link and the jobs are: with Ok the vault went on by the line, with just these answers, and
 /// link and jobs are at the vault that it came to. Whenever a crash comes on the way, each told cloud leaves a list that it
-/// had at some moment of the line. The only error is want of memory: then a part of the line was carried out, up to some
-/// moment of it, and nothing is said of `text`, nor of the jobs but that they took replies in a store of this shape.
+/// had at some moment of the line. With an error a part of the line was carried out, up to some moment of it, and nothing is
+/// said of `text`, nor of the jobs but that they took replies in a store of this shape.
 ///
-/// The lines `list`, `replace` and `rebuild` aren't carried out yet, and may not be passed: `can_carry_out` is the test.
+/// `ShelfFault` comes at the line `replace` alone, where its cloud's areas couldn't be made empty: that cloud's count of
+/// faults rose, and else all clouds are as they were. `NoMemory` may come at each line.
+///
+/// The line `rebuild` isn't carried out yet, and may not be passed: `can_carry_out` is the test.
 pub fn carry_out<V: Shelf>(
     alloc: Global,
     link: &mut LocalLink<'_, V>,
@@ -76,7 +92,7 @@ pub fn carry_out<V: Shelf>(
     event: &Event,
     buffers: &mut Buffers,
     text: &mut Bytes,
-) -> Result<(), NoMemory>
+) -> Result<(), CarryErr>
     requires carried { IsTrue (is_carried event.now) }
     requires fits { Fits link.old.servers.shape (length jobs.old) event.now }
     requires reached { AreReached link.old.servers.shape jobs.old }
@@ -84,6 +100,7 @@ pub fn carry_out<V: Shelf>(
     ensures does { OnOk result (CarriesOut V.cloud_at event.now link.old jobs.old
         link.new jobs.new text.old text.new) }
     ensures cut { OnErr result (IsCutOff V.cloud_at event.now link.old jobs.old link.new) }
+    ensures shelf { IfErr result (IsShelfFault V.cloud_at event.now link.old jobs.old link.new) }
 
     // Always: the shape stays, of which clouds the shelf tells, the clouds that the store doesn't have, and the shelf's
     // reference.
@@ -100,7 +117,7 @@ pub fn carry_out<V: Shelf>(
             path,
             version,
             bytes,
-        } => upload_line(
+        } => for_memory(upload_line(
             alloc,
             link,
             jobs,
@@ -109,8 +126,8 @@ pub fn carry_out<V: Shelf>(
             *version,
             bytes.as_slice(),
             text,
-        ),
-        Event::Step { job, lane } => step_line(
+        )),
+        Event::Step { job, lane } => for_memory(step_line(
             link,
             jobs,
             *job,
@@ -118,11 +135,16 @@ pub fn carry_out<V: Shelf>(
             &mut buffers.content,
             &mut buffers.reply,
             text,
-        ),
-        Event::Lose { job, lane } => {
-            lose_line(link, jobs, *job, *lane, &mut buffers.content, text)
-        }
-        Event::Drop { job, lane } => drop_line(
+        )),
+        Event::Lose { job, lane } => for_memory(lose_line(
+            link,
+            jobs,
+            *job,
+            *lane,
+            &mut buffers.content,
+            text,
+        )),
+        Event::Drop { job, lane } => for_memory(drop_line(
             link,
             jobs,
             *job,
@@ -130,8 +152,8 @@ pub fn carry_out<V: Shelf>(
             &mut buffers.content,
             &mut buffers.reply,
             text,
-        ),
-        Event::Finish { job } => finish_line(
+        )),
+        Event::Finish { job } => for_memory(finish_line(
             link,
             jobs,
             *job,
@@ -139,13 +161,13 @@ pub fn carry_out<V: Shelf>(
             &mut buffers.reply,
             &mut buffers.told,
             text,
-        ),
+        )),
         Event::Get {
             user,
             path,
             version,
             clouds,
-        } => get_line(
+        } => for_memory(get_line(
             alloc,
             link,
             jobs,
@@ -154,11 +176,22 @@ pub fn carry_out<V: Shelf>(
             *version,
             clouds,
             text,
-        ),
-        Event::Arm { cloud, calls, keep } => arm_line(link, jobs, *cloud, *calls, *keep, text),
-        Event::Restart { cloud } => restart_line(link, jobs, *cloud, text),
-        Event::List { .. } => unreachable!(),
-        Event::Replace { .. } => unreachable!(),
+        )),
+        Event::Arm { cloud, calls, keep } => {
+            for_memory(arm_line(link, jobs, *cloud, *calls, *keep, text))
+        }
+        Event::Restart { cloud } => for_memory(restart_line(link, jobs, *cloud, text)),
+        Event::List { user, cloud } => for_memory(list_line(
+            alloc,
+            link,
+            jobs,
+            *user,
+            *cloud,
+            &mut buffers.content,
+            &mut buffers.reply,
+            text,
+        )),
+        Event::Replace { cloud } => replace_line(link, jobs, *cloud, text),
         Event::Rebuild { .. } => unreachable!(),
     }
 }

@@ -134,11 +134,11 @@ pub fn lose_line<V: Shelf>(
     ensures same { (link.new ≡ link.old) × (jobs.new ≡ jobs.old) }
 {
     law_of_parts();
-    let has_request = match jobs.next(job, lane, content) {
+    let asks = match jobs.next(job, lane, content) {
         Ok(more) => more,
         Err(NoMemory) => return Err(NoMemory),
     };
-    put_lost(job, lane, has_request, text)
+    put_lost(job, lane, asks, text)
 }
 
 // Has the cloud execute the request, where there is one, and loses the reply.

@@ -4,16 +4,19 @@
 
 mod carry;
 mod damage;
+mod error;
 mod finish;
 mod get;
 mod jobs;
 mod lanes;
+mod listing;
 mod news;
 mod one;
 mod upload;
 
 pub use carry::{Buffers, can_carry_out, carry_out};
 pub use damage::damage_of;
+pub use error::CarryErr;
 pub use jobs::Jobs;
 
 #[cfg(test)]

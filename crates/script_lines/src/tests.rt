@@ -52,11 +52,11 @@ fn carry(
     }
     match carry_out(alloc, link, jobs, &event, buffers, text) {
         Ok(()) => Ok(()),
-        Err(_) => Err(Fail::new("no memory")),
+        Err(_) => Err(Fail::new("cut off")),
     }
 }
 
-const LINES: [&[u8]; 8] = [
+const LINES: [&[u8]; 11] = [
     b"upload 7 61 1 41",
     b"step 1 0",
     b"lose 1 1",
@@ -65,6 +65,9 @@ const LINES: [&[u8]; 8] = [
     b"finish 1",
     b"restart 2",
     b"get 7 61 1 0,2,3",
+    b"list 7 2",
+    b"replace 1",
+    b"list 7 1",
 ];
 
 // Each cloud is asked which share it has, takes the one that there is, and then the version: two commands.
@@ -73,7 +76,9 @@ step 1 0 stored 1 1\nstep 1 0 committed\n\
 step 1 1 known 0 1\nstep 1 1 stored 1 1\nstep 1 1 committed\n\
 step 1 2 known 0 1\nstep 1 2 stored 1 1\nstep 1 2 committed\n\
 step 1 3 known 0 1\nstep 1 3 stored 1 1\nstep 1 3 committed\n\
-stored 1\nend 1 stored\nrestarted 2 2\ngot 41\n";
+stored 1\nend 1 stored\nrestarted 2 2\ngot 41\n\
+entries 7 2 1\nentry 5d68886a3c18c6681152c8912b098df2772886cc297ca017f379493ac7b5822e 1\n\
+replaced 1\nentries 7 1 0\n";
 
 #[test]
 fn one_file(rt: HostRuntime) -> Result<(), Fail> {

@@ -32,11 +32,11 @@ use Rattle.transcript.specs.declared.line.Line.TheVariants as lines
 use Rattle.transcript.specs.declared.refusal.Refusal.{Refusal}
 use Rattle.transcript.specs.declared.refusal.Refusal.TheVariants as refusals
 use Rattle.vault.specs.Vault.{Setting, Vault, opening}
-use Rattle.vault.specs.Steps.{Moment, IsGetLine, VStep}
+use Rattle.vault.specs.Steps.{Moment, cloud_no, IsGetLine, VStep}
 use Rattle.vault.specs.Run.{Answered, Turns, script_of, moments_of}
-use Rattle.vault.specs.Kept.{upload_of, uploads, Commits, Kept, IsDispersed}
+use Rattle.vault.specs.Kept.{upload_of, uploads, Commits, Ends as Ended, Refills, Kept, IsDispersed}
 use Rattle.vault.specs.Headline.{Session, IsRun, script_in, moments_in, moments_begun, event_of, Clashes, GivesVersion, GivesAcknowledged, DisksKeep}
-use Rattle.vault.proofs.Ranged.{IsRanged, are_ranged, get_chooses, chosen_below}
+use Rattle.vault.proofs.Ranged.{IsRanged, are_ranged, are_choice, line_fits, get_chooses, chosen_below}
 use Rattle.vault.proofs.Growing.{grows_last, stays_in, settles_in, grows_step}
 use Rattle.vault.proofs.Jobs.{brings_turns}
 use Rattle.vault.proofs.Seen.{Seen, seen_turns}
@@ -85,6 +85,22 @@ splits s old [] a ys new t = record { mid = old; front = refl; before = t.0; ste
 splits s old (x ∷ xs) a ys new t =
     let r = splits s x.after xs a ys new t.2 in
     record { mid = r.mid; front = (t.0, t.1, r.front); before = r.before; step = r.step; behind = r.behind }
+
+-- ---- a line among the events
+
+events_has : (xs : List Answered) (a : Answered) (ys : List Answered) → Contains (script_of (xs ++ a ∷ ys)) a.event
+events_has [] a ys = contains_here a.event (script_of ys)
+events_has (x ∷ xs) a ys = contains_later x.event (script_of (xs ++ a ∷ ys)) a.event (events_has xs a ys)
+
+named_some : (shape : Shape) (named : List ℕ) → AreChoice shape named → (cloud : ℕ) × Contains named cloud
+named_some shape [] choice = absurd (let n : 0 ≡ shape.k = choice.count in let m = shape.several in omega arith)
+named_some shape (cloud ∷ named) choice = (cloud, contains_here cloud named)
+
+-- what a script's line is among the lines of a session
+among : (run : Session) (xs ys : List Answered) (a : Answered) → run.history ≡ xs ++ a ∷ ys
+    → Contains (script_in run) a.event
+among run xs ys a e = Contains-append_left (script_of run.history) (event_of run.begun) a.event
+    (subst (λ (l : List Answered). Contains (script_of l) a.event) (sym e) (events_has xs a ys))
 
 -- ---- the run
 
@@ -137,30 +153,43 @@ module _ (clouds : ℕ → Cloud) (run : Session) (is : IsRun clouds run) (apart
 
   -- by what the newest line says
   uploaded_by : (a : Answered) (earlier later : List Answered) (c : ℕ) (v : FileVersion) → run.history ≡ reverse earlier ++ a ∷ later
-      → Commits (script_of (reverse earlier)) c v a.answers ⊎ (⊥ ⊎ (Kept run.setting earlier c v × (⊥ → ⊥))) → (Kept run.setting earlier c v → Contains (uploads (script_in run)) v) → Contains (uploads (script_in run)) v
+      → Commits (script_of (reverse earlier)) c v a.answers
+      ⊎ (Refills run.setting.shape (λ source. Kept run.setting earlier source v) c v a
+      ⊎ (Kept run.setting earlier c v × ¬ Ended c v a.event))
+      → ((source : ℕ) → Kept run.setting earlier source v → Contains (uploads (script_in run)) v)
+      → Contains (uploads (script_in run)) v
   uploaded_by a earlier later c v e (inl x) more = subst (λ (l : List Answered). Contains (uploads (script_of l ++ event_of run.begun)) v) (sym e)
       (uploads_front (reverse earlier) (a ∷ later) (event_of run.begun) v (got_has (uploads (script_of (reverse earlier))) x.1.0 v x.1.2))
-  uploaded_by a earlier later c v e (inr (inl none)) more = absurd none
-  uploaded_by a earlier later c v e (inr (inr x)) more = more x.0
+  uploaded_by a earlier later c v e (inr (inl x)) more =
+      let fits = line_fits run.setting.shape 0 (script_in run) is.lines (events.Rebuild v.user (cloud_no c) x.from)
+      (subst (Contains (script_in run)) x.event_is (among run (reverse earlier) later a e)) in
+      let some = named_some run.setting.shape x.from (are_choice run.setting.shape x.from fits.1.1.0) in
+      more some.0 (x.kept some.0 some.1)
+  uploaded_by a earlier later c v e (inr (inr x)) more = more c x.0
 
   kept_uploaded : (rev later : List Answered) (c : ℕ) (v : FileVersion) → run.history ≡ reverse rev ++ later → Kept run.setting rev c v → Contains (uploads (script_in run)) v
   kept_uploaded [] later c v e k = absurd k
-  kept_uploaded (a ∷ earlier) later c v e k = uploaded_by a earlier later c v (longer a earlier later e) k.1 (kept_uploaded earlier (a ∷ later) c v (longer a earlier later e))
+  kept_uploaded (a ∷ earlier) later c v e k = uploaded_by a earlier later c v (longer a earlier later e) k.1
+      (λ source kept. kept_uploaded earlier (a ∷ later) source v (longer a earlier later e) kept)
 
   kept_by : (a : Answered) (earlier later : List Answered) (c : ℕ) (below : c < run.setting.shape.n) (v : FileVersion) (told : IsTrue (run.setting.told c)) (uploaded : Contains (uploads (script_in run)) v) → run.history ≡ reverse earlier ++ a ∷ later
       → (mid : Vault) → Turns run.setting (opening clouds) (reverse earlier) mid → VStep run.setting mid a.event a.answers a.moments a.after → Turns run.setting a.after later run.between
-      → Commits (script_of (reverse earlier)) c v a.answers ⊎ (⊥ ⊎ (Kept run.setting earlier c v × (⊥ → ⊥))) → (Kept run.setting earlier c v → KeepsThere c v (mid.peers c)) → KeepsThere c v (a.after.peers c)
+      → Commits (script_of (reverse earlier)) c v a.answers
+      ⊎ (Refills run.setting.shape (λ source. Kept run.setting earlier source v) c v a
+      ⊎ (Kept run.setting earlier c v × ¬ Ended c v a.event))
+      → (Kept run.setting earlier c v → KeepsThere c v (mid.peers c)) → KeepsThere c v (a.after.peers c)
   kept_by a earlier later c below v told uploaded e mid front step behind (inl x) more =
       let r = ranged v uploaded in
       let place : x.0 - 1 ≡ x.1.0 = (let q : x.0 ≡ x.1.0 + 1 = x.1.1 in omega arith) in
       commit_step run.setting c told v (record { path = r.path; few = r.few }) (Known c) (apart c below v uploaded) (uploads (script_of (reverse earlier))) x.0
       (ap (slice_get (uploads (script_of (reverse earlier)))) place ∙ x.1.2) mid a.event a.answers a.moments a.after step
       (brings_turns run.setting (reverse earlier) (opening clouds) mid [] front (record { are = tt; those = refl })) x.2 (sees c (reverse earlier) a later e behind)
-  kept_by a earlier later c below v told uploaded e mid front step behind (inr (inl none)) more = absurd none
+  kept_by a earlier later c below v told uploaded e mid front step behind (inr (inl x)) more =
+      absurd (subst (λ (event : Event). VStep run.setting mid event a.answers a.moments a.after) x.event_is step)
   kept_by a earlier later c below v told uploaded e mid front step behind (inr (inr x)) more =
       let r = ranged v uploaded in
       keeps_on run.setting c told v (record { path = r.path; few = r.few }) (Known c) (apart c below v uploaded) (mid.peers c) (a.after.peers c) (more x.0)
-      (grows_step run.setting c told mid a.event a.answers a.moments a.after step)
+      (grows_step run.setting c told v mid a.event a.answers a.moments a.after step x.1)
 
   -- what a told cloud acknowledged, each list that it may settle as keeps
   kept_keeps : (rev later : List Answered) (c : ℕ) → c < run.setting.shape.n → (v : FileVersion) → run.history ≡ reverse rev ++ later → (mid : Vault) → Turns run.setting (opening clouds) (reverse rev) mid → Turns run.setting mid later run.between
@@ -223,14 +252,6 @@ module _ (clouds : ℕ → Cloud) (run : Session) (is : IsRun clouds run) (apart
 
 -- ---- the promises
 
-events_has : (xs : List Answered) (a : Answered) (ys : List Answered) → Contains (script_of (xs ++ a ∷ ys)) a.event
-events_has [] a ys = contains_here a.event (script_of ys)
-events_has (x ∷ xs) a ys = contains_later x.event (script_of (xs ++ a ∷ ys)) a.event (events_has xs a ys)
-
-named_some : (shape : Shape) (named : List ℕ) → AreChoice shape named → (cloud : ℕ) × Contains named cloud
-named_some shape [] choice = absurd (let n : 0 ≡ shape.k = choice.count in let m = shape.several in omega arith)
-named_some shape (cloud ∷ named) choice = (cloud, contains_here cloud named)
-
 pub acknowledged : (clouds : ℕ → Cloud) (run : Session) → IsRun clouds run → GivesAcknowledged run
 acknowledged clouds run is earlier later a named v e get kept apart =
     let ranged = are_ranged run.setting.shape 0 (script_in run) is.lines in
@@ -253,6 +274,6 @@ disks_keep clouds new run is cloud v image list below still apart left settles s
     let keeps = kept_keeps clouds run is apart ranged (reverse run.history) [] cloud below v e run.between
     (subst (λ (l : List Answered). Turns run.setting (opening clouds) l run.between) (sym back) is.answered) refl kept in
     let told = kept_told clouds run is apart ranged (reverse run.history) cloud v kept in
-    let x = grows_last run.setting cloud told run.between run.begun run.last is.begun list settles in
+    let x = grows_last run.setting cloud told v run.between run.begun run.last is.begun still.lasts list settles in
     subst (λ (l : List Command). Keeps run.setting.shape cloud l v.user v.path v.number v.file) (sym x.3)
     (keeps_more run.setting.shape cloud x.0 x.1 v.user v.path v.number v.file (keeps x.0 x.2))

@@ -1,7 +1,9 @@
 -- Cases that compute, for whoever doubts a definition.
-use Rattle.std.proofs.Common.{◌≡◌, ℕ, zero, suc, ◌+◌, ◌<◌, true, false, List, [], ◌∷◌, get_or, Some, None, refl, ap, subst, inl, inr, arith}
+use Rattle.std.proofs.Common.{◌≡◌, ℕ, zero, suc, ◌+◌, ◌<◌, true, false, List, [], ◌∷◌, length, get_or, Some, None, refl, ap, subst, inl, inr, arith}
 use Rattle.std.specs.Prelude.{◌≢◌, IsTrue, All, slice_get, codes, Ok, Err}
+use Rattle.cd_base.specs.declared.ids.Tag.{Tag}
 use Rattle.cd_base.specs.declared.ids.UserId.{UserId}
+use Rattle.cd_base.specs.declared.ids.Version.{Version}
 use Rattle.cd_base.specs.declared.shape.Shape.{Shape}
 use Rattle.cd_edges.specs.Disk.{Cloud}
 use Rattle.messages.specs.declared.request.Request.TheVariants as requests
@@ -19,7 +21,7 @@ use Rattle.transcript.specs.declared.news.News.TheVariants as news
 use Rattle.transcript.specs.declared.refusal.Refusal.TheVariants as refusals
 use Rattle.vault.specs.Scripts.{only_carried, jobs_of}
 use Rattle.vault.specs.Vault.{Setting, Vault, new_job, opening}
-use Rattle.vault.specs.Steps.{Moment, quiet, cloud_no, version_of, lose_lines, all_done, stored_line, LaneStep, VStep}
+use Rattle.vault.specs.Steps.{Moment, quiet, cloud_no, version_of, lose_lines, all_done, stored_line, LaneStep, EndsListing, IsReplaceLine, VStep}
 use Rattle.vault.specs.Run.{Answered}
 use Rattle.vault.specs.Kept.{uploads, IsJobOf, Kept}
 use Rattle.vault.specs.Headline.{Session, IsRun, due, GivesVersion}
@@ -60,10 +62,32 @@ third_job v is =
     let none : slice_get (uploads script) 2 ≡ Some v = subst (λ (n : ℕ). slice_get (uploads script) n ≡ Some v) place is.2 in
     let f : None ≡ Some v = none in cc
 
--- ---- lines that aren't carried out: their first word is wrong
+-- ---- a line that isn't carried out: its first word is wrong
 
-listed_refused : only_carried (codes "list 7 0") (Ok (events.List user (cloud_no 0))) ≡ Err (record { at = 0; found = Some 108 })
-listed_refused = refl
+rebuild_refused : only_carried (codes "rebuild 7 0 1,2,3") (Ok (events.Rebuild user (cloud_no 0) (1 ∷ 2 ∷ 3 ∷ []))) ≡ Err (record { at = 0; found = Some 114 })
+rebuild_refused = refl
+
+-- ---- lists and replacements
+
+-- a full page is no last one
+not_last : (cloud : ℕ) (page : List (Tag × Version)) → length page ≡ 256 → EndsListing cloud (replies.Entries page) (Ok page) → ⊥
+not_last cloud page full ends = let lt : length page < 256 = ends.0 in omega (arith, full, lt)
+
+-- no entry is left out
+none_left_out : (cloud : ℕ) (entry : Tag × Version) → EndsListing cloud (replies.Entries (entry ∷ [])) (Ok []) → ⊥
+none_left_out cloud entry ends = let e : Ok [] ≡ Ok (entry ∷ []) = ends.1 in cc
+
+-- a replaced cloud has no commands, whatever is answered
+replaced_empty : (s : Setting) (old new : Vault) (answers : List Line) (moments : List Moment) → VStep s old (events.Replace (cloud_no 2)) answers moments new → (new.peers 2).list ≡ []
+replaced_empty s old new answers moments step = step.1.goes.list
+
+-- behind a fault it isn't called replaced
+not_replaced : (cloud faults : ℕ) → IsReplaceLine true cloud faults (faults + 1) (lines.Replaced (cloud_no cloud)) → ⊥
+not_replaced cloud faults says = let e : faults + 1 ≡ faults = says.1 in omega (arith, e)
+
+-- a told cloud isn't called damaged
+not_damaged : (cloud faults at byte : ℕ) → IsReplaceLine true cloud faults faults (lines.Damaged (cloud_no cloud) at byte) → ⊥
+not_damaged cloud faults at byte says = let f : true ≡ false = says.1 in cc
 
 -- ---- lanes
 
@@ -111,8 +135,8 @@ unfolding upload
 first_job s clouds job moments new step = let e : lines.Job job ∷ [] ≡ lines.Job 1 ∷ [] = step.0 in cc
 
 -- a line that isn't carried out has no step
-no_listing : (s : Setting) (old new : Vault) (answers : List Line) (moments : List Moment) → VStep s old (events.List user (cloud_no 0)) answers moments new → ⊥
-no_listing s old new answers moments step = step
+no_rebuild : (s : Setting) (old new : Vault) (answers : List Line) (moments : List Moment) (from : List ℕ) → VStep s old (events.Rebuild user (cloud_no 0) from) answers moments new → ⊥
+no_rebuild s old new answers moments from step = step
 
 -- before the clouds are opened no line is due
 unopened : (run : Session) → run.opened ≡ false → run.history ≡ [] → due run ≡ []

@@ -1,10 +1,13 @@
 -- A told cloud's lists grow, line by line.
-use Rattle.std.proofs.Common.{◌≡◌, ℕ, Bool, true, List, [], ◌∷◌, ◌++◌, map, Option, Some, None, Result, Ok, Err, sym, ap, ◌∙◌, subst, inl, inr, ◌⊎◌, append-nil, append_assoc}
-use Rattle.std.specs.Prelude.{IsTrue, IsSomeAnd, MatchOption, option_to_list}
+use Rattle.std.proofs.Common.{◌≡◌, ℕ, Bool, true, List, [], ◌∷◌, ◌++◌, map, Option, Some, None, Result, Ok, Err, sym, ap, ◌∙◌, subst, inl, inr, ◌⊎◌, ◌-◌, length, append-nil, append_assoc}
+use Rattle.std.specs.Prelude.{IsTrue, IsSomeAnd, MatchOption, option_to_list, slice_get}
 use Rattle.std.specs.List.{Contains}
 use Rattle.std.proofs.lemmas.List.Elements.{Contains-append_cases, Contains-append_right}
 use Rattle.std.specs.Bool.{MatchBool}
 use Rattle.std.proofs.lemmas.Bool.{cases_eq}
+use Rattle.cd_base.specs.declared.ids.Tag.{Tag}
+use Rattle.cd_base.specs.declared.ids.UserId.{UserId}
+use Rattle.cd_base.specs.declared.ids.Version.{Version}
 use Rattle.commit_journal.specs.declared.errors.OpenErr.{OpenErr}
 use Rattle.commit_journal.specs.declared.errors.OpenErr.TheVariants as errors
 use Rattle.messages.specs.declared.request.Request.{Request}
@@ -13,16 +16,18 @@ use Rattle.user_dedup.specs.declared.command.Command.{Command}
 use Rattle.user_dedup.specs.Dedup.{Outcome}
 use Rattle.user_dedup.specs.Exec.{Peer, MaySettleAs, Settles, Stays, IsCut, ExecTold, ExecUntold}
 use Rattle.share_server.specs.Serving.{ReopensAs}
+use Rattle.upload_job.specs.Upload.{FileVersion}
 use Rattle.upload_job.specs.Lanes as lanes
 use Rattle.lane_requests.specs.Runs.{Turn, Progress, LaneRun, progress_after}
 use Rattle.session.specs.declared.event.Event.{Event}
 use Rattle.session.specs.declared.event.Event.TheVariants as events
+use Rattle.transcript.specs.declared.refusal.Refusal.{Refusal}
 use Rattle.transcript.specs.declared.line.Line.{Line}
 use Rattle.vault.specs.Vault.{Setting, Vault, Executes, OneGoes, served_at, lanes_of}
 use Rattle.user_dedup.proofs.Owned.{contains_cases, contains_nothing, contains_here}
-use Rattle.vault.specs.Steps.{Moment, Execution, moment_of, LaneStep, DropStep, FinishLanes, ReopensUntold, VStep}
-use Rattle.vault.specs.Run.{Answered, Turns}
-use Rattle.vault.specs.Headline.{Begun, ComesTo, IsPartOf}
+use Rattle.vault.specs.Steps.{Moment, Execution, moment_of, LaneStep, DropStep, FinishLanes, ListRun, ReopensUntold, VStep}
+use Rattle.vault.specs.Kept.{Ends}
+use Rattle.vault.specs.Headline.{Begun, ComesTo, IsPartOf, event_of}
 
 -- each list that the cloud may settle as is one that it might have settled as before, and more
 abbrev pub Grows : Peer → Peer → Type 0
@@ -100,6 +105,15 @@ module _ (s : Setting) (c : ℕ) (told : IsTrue (s.told c)) where
   grows_drop job cloud None old answers moments new x = grows_same (old.peers c) (new.peers c) (ap (λ (v : Vault). v.peers c) x.2)
   grows_drop job cloud (Some request) old answers moments new x = grows_executes cloud old.peers new.peers request x.0 x.1
 
+  grows_list : (user : UserId) (cloud : ℕ) (above : Option (Tag × Version)) (old : ℕ → Peer) (turns : List (Turn (ℕ → Peer))) (listed : Result (List (Tag × Version)) Refusal) (new : ℕ → Peer)
+      → ListRun s user cloud above old turns listed new → Grows (old c) (new c)
+  grows_list user cloud above old [] listed new run = absurd run
+  grows_list user cloud above old (t ∷ turns) listed new run =
+      grows_on (old c) (run.2.0 c) (new c) (grows_executes cloud old run.2.0 t.request t.reply run.2.1) (elim run.2.2 [
+        | inl x ↦ grows_same (run.2.0 c) (new c) (ap (λ (f : ℕ → Peer). f c) x.2)
+        | inr x ↦ grows_list user cloud (slice_get x.0 (length x.0 - 1)) run.2.0 turns x.1 new x.5
+      ])
+
   grows_reopen : (result : Result ℕ OpenErr) (p q : Peer) → ReopensAs true p q result → Grows p q
   grows_reopen (Ok commands) p q r = grows_in p q (settles_in p q r.0)
   grows_reopen (Err errors.Fault) p q r = grows_in p q (stays_in p q r.0)
@@ -109,31 +123,25 @@ module _ (s : Setting) (c : ℕ) (told : IsTrue (s.told c)) where
   grows_reopen (Err (errors.RoomsTooSmall room limit at)) p q r = absurd r
   grows_reopen (Err errors.NoMemory) p q r = absurd r
 
-  pub grows_step : (old : Vault) (event : Event) (answers : List Line) (moments : List Moment) (new : Vault) → VStep s old event answers moments new → Grows (old.peers c) (new.peers c)
-  grows_step old (events.Upload user path version bytes) answers moments new x = grows_same (old.peers c) (new.peers c) (ap (λ (f : ℕ → Peer). f c) x.2)
-  grows_step old (events.Step job lane) answers moments new x = grows_lane job lane.0 (lanes.request_at (lanes_of old.jobs job) lane.0) old answers moments new x
-  grows_step old (events.Lose job lane) answers moments new x = grows_same (old.peers c) (new.peers c) (ap (λ (v : Vault). v.peers c) x.2)
-  grows_step old (events.Drop job lane) answers moments new x = grows_drop job lane.0 (lanes.request_at (lanes_of old.jobs job) lane.0) old answers moments new x
-  grows_step old (events.Finish job) answers moments new x = grows_finish job _ old x.0 moments new x.1
-  grows_step old (events.Get user path version clouds) answers moments new x = grows_in (old.peers c) (new.peers c) (by_read (x.1.read.read c).0)
+  pub grows_step : (v : FileVersion) (old : Vault) (event : Event) (answers : List Line) (moments : List Moment) (new : Vault) → VStep s old event answers moments new → ¬ Ends c v event → Grows (old.peers c) (new.peers c)
+  grows_step v old (events.Upload user path version bytes) answers moments new x lasts = grows_same (old.peers c) (new.peers c) (ap (λ (f : ℕ → Peer). f c) x.2)
+  grows_step v old (events.Step job lane) answers moments new x lasts = grows_lane job lane.0 (lanes.request_at (lanes_of old.jobs job) lane.0) old answers moments new x
+  grows_step v old (events.Lose job lane) answers moments new x lasts = grows_same (old.peers c) (new.peers c) (ap (λ (v : Vault). v.peers c) x.2)
+  grows_step v old (events.Drop job lane) answers moments new x lasts = grows_drop job lane.0 (lanes.request_at (lanes_of old.jobs job) lane.0) old answers moments new x
+  grows_step v old (events.Finish job) answers moments new x lasts = grows_finish job _ old x.0 moments new x.1
+  grows_step v old (events.Get user path version clouds) answers moments new x lasts = grows_in (old.peers c) (new.peers c) (by_read (x.1.read.read c).0)
     where
       by_read : Stays (old.peers c) (new.peers c) ⊎ Settles (old.peers c) (new.peers c) → (list : List Command) → MaySettleAs (new.peers c) list → MaySettleAs (old.peers c) list
       by_read (inl stays) = stays_in (old.peers c) (new.peers c) stays
       by_read (inr settles) = settles_in (old.peers c) (new.peers c) settles
-  grows_step old (events.Arm cloud calls keep) answers moments new x =
+  grows_step v old (events.Arm cloud calls keep) answers moments new x lasts =
       grows_one cloud.0 _ old.peers new.peers x.0 (λ same armed. grows_in (old.peers cloud.0) (new.peers cloud.0) (stays_in (old.peers cloud.0) (new.peers cloud.0) armed.stays))
-  grows_step old (events.Restart cloud) answers moments new x =
+  grows_step v old (events.Restart cloud) answers moments new x lasts =
       grows_one cloud.0 _ old.peers new.peers x.1 (λ same r. grows_reopen r.0 (old.peers cloud.0) (new.peers cloud.0)
       (subst (λ (b : Bool). MatchBool b (ReopensAs true (old.peers cloud.0) (new.peers cloud.0) r.0) (ReopensUntold r.0 (old.peers cloud.0) (new.peers cloud.0))) (subst (λ (n : ℕ). IsTrue (s.told n)) same told) r.2))
-  grows_step old (events.List user cloud) answers moments new x = absurd x
-  grows_step old (events.Replace cloud) answers moments new x = absurd x
-  grows_step old (events.Rebuild user target from) answers moments new x = absurd x
-
-  pub grows_turns : (history : List Answered) (old new : Vault) → Turns s old history new → Grows (old.peers c) (new.peers c)
-  grows_turns [] old new t = grows_same (old.peers c) (new.peers c) (ap (λ (v : Vault). v.peers c) t)
-  grows_turns (a ∷ more) old new t =
-      grows_on (old.peers c) (a.after.peers c) (new.peers c) (grows_step old a.event a.answers a.moments a.after t.1)
-      (grows_turns more a.after new t.2)
+  grows_step v old (events.List user cloud) answers moments new x lasts = grows_list user cloud.0 None old.peers x.0 x.1 new.peers x.2
+  grows_step v old (events.Replace cloud) answers moments new x lasts = grows_one cloud.0 _ old.peers new.peers x.1 (λ same r. absurd (lasts (sym same)))
+  grows_step v old (events.Rebuild user target from) answers moments new x lasts = absurd x
 
   -- ---- at each moment of a line
 
@@ -169,6 +177,17 @@ module _ (s : Setting) (c : ℕ) (told : IsTrue (s.told c)) where
   grows_drop_at job cloud None old answers moments new x = grows_alone old.peers None moments x.1
   grows_drop_at job cloud (Some request) old answers moments new x = grows_alone old.peers _ moments x.2
 
+  grows_list_at : (user : UserId) (cloud : ℕ) (above : Option (Tag × Version)) (old : ℕ → Peer) (turns : List (Turn (ℕ → Peer))) (listed : Result (List (Tag × Version)) Refusal) (new : ℕ → Peer)
+      → ListRun s user cloud above old turns listed new → (m : Moment) → Contains (map (moment_of cloud) turns) m → Grows (old c) (m.peers c)
+  grows_list_at user cloud above old [] listed new run m has = absurd run
+  grows_list_at user cloud above old (t ∷ turns) listed new run m has = elim (contains_cases (moment_of cloud t) (map (moment_of cloud) turns) m has) [
+    | inl same ↦ grows_same (old c) (m.peers c) (ap (λ (n : Moment). n.peers c) (sym same) ∙ ap (λ (f : ℕ → Peer). f c) run.0)
+    | inr later ↦ grows_on (old c) (run.2.0 c) (m.peers c) (grows_executes cloud old run.2.0 t.request t.reply run.2.1) (elim run.2.2 [
+      | inl x ↦ absurd (contains_nothing m (subst (λ (l : List (Turn (ℕ → Peer))). Contains (map (moment_of cloud) l) m) x.1 later))
+      | inr x ↦ grows_list_at user cloud (slice_get x.0 (length x.0 - 1)) run.2.0 turns x.1 new x.5 m later
+    ])
+  ]
+
   pub grows_at : (old : Vault) (event : Event) (answers : List Line) (moments : List Moment) (new : Vault) → VStep s old event answers moments new → (m : Moment) → Contains moments m → Grows (old.peers c) (m.peers c)
   grows_at old (events.Upload user path version bytes) answers moments new x = grows_alone old.peers None moments x.1
   grows_at old (events.Step job lane) answers moments new x = grows_lane_at job lane.0 (lanes.request_at (lanes_of old.jobs job) lane.0) old answers moments new x
@@ -178,16 +197,18 @@ module _ (s : Setting) (c : ℕ) (told : IsTrue (s.told c)) where
   grows_at old (events.Get user path version clouds) answers moments new x = grows_alone old.peers None moments x.3
   grows_at old (events.Arm cloud calls keep) answers moments new x = grows_alone old.peers None moments x.2
   grows_at old (events.Restart cloud) answers moments new x = grows_alone old.peers None moments x.3
-  grows_at old (events.List user cloud) answers moments new x = absurd x
-  grows_at old (events.Replace cloud) answers moments new x = absurd x
+  grows_at old (events.List user cloud) answers moments new x = λ m has.
+      grows_list_at user cloud.0 None old.peers x.0 x.1 new.peers x.2 m (subst (λ (l : List Moment). Contains l m) x.4 has)
+  grows_at old (events.Replace cloud) answers moments new x = grows_alone old.peers None moments x.3
   grows_at old (events.Rebuild user target from) answers moments new x = absurd x
 
-  pub grows_last : (between : Vault) (begun : Option Begun) (last : ℕ → Peer) → MatchOption begun (last ≡ between.peers) (λ b. IsPartOf s between b last) → Grows (between.peers c) (last c)
-  grows_last between None last x = grows_same (between.peers c) (last c) (ap (λ (f : ℕ → Peer). f c) x)
-  grows_last between (Some b) last x = by_rest x.1 x.3 x.4
+  pub grows_last : (v : FileVersion) (between : Vault) (begun : Option Begun) (last : ℕ → Peer) → MatchOption begun (last ≡ between.peers) (λ b. IsPartOf s between b last)
+      → ((event : Event) → Contains (event_of begun) event → ¬ Ends c v event) → Grows (between.peers c) (last c)
+  grows_last v between None last x lasts = grows_same (between.peers c) (last c) (ap (λ (f : ℕ → Peer). f c) x)
+  grows_last v between (Some b) last x lasts = by_rest x.1 x.3 x.4
     where
       by_rest : (rest : List Moment) → VStep s between b.event x.0 (b.moments ++ rest) x.2 → ComesTo rest x.2.peers last → Grows (between.peers c) (last c)
-      by_rest [] step comes = grows_on (between.peers c) (x.2.peers c) (last c) (grows_step between b.event x.0 (b.moments ++ []) x.2 step) (grows_same (x.2.peers c) (last c) (ap (λ (f : ℕ → Peer). f c) comes))
+      by_rest [] step comes = grows_on (between.peers c) (x.2.peers c) (last c) (grows_step v between b.event x.0 (b.moments ++ []) x.2 step (lasts b.event (contains_here b.event []))) (grows_same (x.2.peers c) (last c) (ap (λ (f : ℕ → Peer). f c) comes))
       by_rest (m ∷ rest) step comes =
           grows_on (between.peers c) (m.peers c) (last c) (grows_at between b.event x.0 (b.moments ++ m ∷ rest) x.2 step m (Contains-append_right b.moments (m ∷ rest) m (contains_here m rest)))
           (grows_same (m.peers c) (last c) (ap (λ (f : ℕ → Peer). f c) comes))

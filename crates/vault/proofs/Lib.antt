@@ -8,4 +8,5 @@ pub mod Lines
 pub mod Acknowledged
 pub mod Parts
 pub mod Unmoved
+pub mod Counts
 mod Examples

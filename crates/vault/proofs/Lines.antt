@@ -1,9 +1,12 @@
 -- The line at which a cloud commits a version.
-use Rattle.std.proofs.Common.{◌≡◌, ℕ, zero, suc, ◌+◌, ◌-◌, Bool, true, false, cond, List, [], ◌∷◌, ◌++◌, map, Option, Some, None, refl, sym, ap, ◌∙◌, subst, inl, inr, ◌⊎◌, arith}
+use Rattle.std.proofs.Common.{◌≡◌, ℕ, zero, suc, ◌+◌, ◌-◌, Bool, true, false, cond, List, [], ◌∷◌, ◌++◌, length, map, Option, Some, None, refl, sym, ap, ◌∙◌, subst, inl, inr, ◌⊎◌, arith}
 use Rattle.std.specs.Prelude.{IsTrue, slice_get, not, Result, Ok, Err}
 use Rattle.std.specs.Bool.{MatchBool}
 use Rattle.std.specs.List.{Contains}
 use Rattle.std.proofs.lemmas.List.Elements.{Contains-append_cases, Contains-append_left, Contains-append_right}
+use Rattle.cd_base.specs.declared.ids.Tag.{Tag}
+use Rattle.cd_base.specs.declared.ids.UserId.{UserId}
+use Rattle.cd_base.specs.declared.ids.Version.{Version}
 use Rattle.cd_base.specs.declared.shape.Shape.{Shape}
 use Rattle.caont_rs.specs.Package.{share}
 use Rattle.file_recipe.specs.FileRecipe.{secrets}
@@ -29,11 +32,12 @@ use Rattle.kept_files.specs.Kept.{Keeps}
 use Rattle.kept_files.proofs.Keeping.{keeps_more}
 use Rattle.session.specs.declared.event.Event.{Event}
 use Rattle.session.specs.declared.event.Event.TheVariants as events
+use Rattle.transcript.specs.declared.refusal.Refusal.{Refusal}
 use Rattle.transcript.specs.declared.line.Line.{Line}
 use Rattle.transcript.specs.declared.line.Line.TheVariants as lines
 use Rattle.transcript.specs.declared.news.News.TheVariants as news
 use Rattle.vault.specs.Vault.{Setting, Vault, Executes, served_at, lanes_of}
-use Rattle.vault.specs.Steps.{Moment, moment_of, as_told, cloud_no, step_line, lose_lines, stored_line, all_done, LaneStep, DropStep, FinishLanes, IsGetLine, IsRestartLine, RestartStep, VStep}
+use Rattle.vault.specs.Steps.{Moment, moment_of, as_told, cloud_no, step_line, lose_lines, stored_line, all_done, LaneStep, DropStep, FinishLanes, IsGetLine, entry_line, list_lines, IsRestartLine, RestartStep, IsReplaceLine, VStep}
 use Rattle.vault.proofs.Growing.{Grows, grows_run, grows_finish}
 use Rattle.vault.proofs.Jobs.{AreOf, Brings, job_of, work_at, asks_at, lane_moved}
 use Rattle.vault.proofs.Committed.{IsUpload, executed_keeps}
@@ -85,6 +89,13 @@ mapped f (x ∷ xs) y has = elim (contains_cases (f x) (map f xs) y has) [
   | inl same ↦ (x, contains_here x xs, same)
   | inr later ↦ (let z = mapped f xs y later in (z.0, contains_later x xs z.0 z.1, z.2))
 ]
+
+not_listed : (user : UserId) (cloud : ℕ) (listed : Result (List (Tag × Version)) Refusal) (j c : ℕ) → Contains (list_lines user cloud listed) (lines.Step j (cloud_no c) news.Committed) → ⊥
+not_listed user cloud (Ok entries) j c has = elim (contains_cases _ (map entry_line entries) (lines.Step j (cloud_no c) news.Committed) has) [
+  | inl same ↦ let f : lines.Entries user (cloud_no cloud) (length entries) ≡ lines.Step j (cloud_no c) news.Committed = same in cc
+  | inr later ↦ (let x = mapped entry_line entries (lines.Step j (cloud_no c) news.Committed) later in let f : lines.Entry x.0.0 x.0.1 ≡ lines.Step j (cloud_no c) news.Committed = x.2 in cc)
+]
+not_listed user cloud (Err why) j c has = not_one (lines.Refused why) _ j c refl (λ e. cc) has
 
 -- the strings that the cloud has at these moments and behind them are known
 pub record Sees (Known : List ℕ → Type 0) (c : ℕ) (moments : List Moment) (new : ℕ → Peer) : Type 0 where
@@ -247,6 +258,8 @@ module _ (s : Setting) (c : ℕ) (told : IsTrue (s.told c)) (v : FileVersion) (g
 
         by_line : RestartStep s cloud.0 x.0 (old.peers cloud.0) (new.peers cloud.0) → x.0 ≡ lines.Step j (cloud_no c) news.Committed → ⊥
         by_line r = not_restart r.0 x.0 r.1
-    commit_step old (events.List user cloud) answers moments new x b has sees = absurd x
-    commit_step old (events.Replace cloud) answers moments new x b has sees = absurd x
+    commit_step old (events.List user cloud) answers moments new x b has sees =
+        absurd (not_listed user cloud.0 x.1 j c (subst (λ (l : List Line). Contains l (lines.Step j (cloud_no c) news.Committed)) x.3 has))
+    commit_step old (events.Replace cloud) answers moments new x b has sees =
+        absurd (not_one x.0 answers j c x.2 (λ e. subst (IsReplaceLine (s.told cloud.0) cloud.0 (old.peers cloud.0).faults (new.peers cloud.0).faults) e x.1.goes.says) has)
     commit_step old (events.Rebuild user target from) answers moments new x b has sees = absurd x

@@ -21,8 +21,8 @@ use Rattle.user_dedup.proofs.Owned.{contains_here, contains_nothing}
 use Rattle.upload_job.specs.declared.news.LaneNews.{LaneNews}
 use Rattle.upload_job.specs.declared.news.LaneNews.TheVariants as lane_news
 use Rattle.upload_job.specs.Lane.{LaneState, Asking, Sending, Committing, Done, Refused, news_of}
-use Rattle.upload_job.specs.Lanes.{LaneView, with_state}
-use Rattle.lane_requests.specs.Runs.{Turn, Progress, starting, moved, request_of, progress_after, LaneRun, LaneAlong, Tell, lane_at}
+use Rattle.upload_job.specs.Lanes.{with_state}
+use Rattle.lane_requests.specs.Runs.{Turn, Progress, starting, request_of, progress_after, LaneRun, LaneAlong, Tell, lane_at}
 use Rattle.session.specs.declared.event.Event.{Event}
 use Rattle.session.specs.declared.event.Event.TheVariants as events
 use Rattle.transcript.specs.declared.line.Line.{Line}

@@ -1,9 +1,12 @@
 -- Replies that speak of a user's own commands.
-use Rattle.std.proofs.Common.{◌≡◌, ℕ, Bool, List, [], ◌∷◌, ◌++◌, map, Option, Some, None, sym, ap, subst, inl, inr}
-use Rattle.std.specs.Prelude.{MatchOption, fold}
+use Rattle.std.proofs.Common.{◌≡◌, ℕ, Bool, List, [], ◌∷◌, ◌++◌, ◌-◌, length, map, Option, Some, None, Result, sym, ap, subst, inl, inr}
+use Rattle.std.specs.Prelude.{MatchOption, fold, slice_get}
 use Rattle.std.specs.Bool.{MatchBool}
 use Rattle.std.specs.List.{Contains}
 use Rattle.std.proofs.lemmas.List.Elements.{Contains-append_cases, Contains-append_left}
+use Rattle.cd_base.specs.declared.ids.Tag.{Tag}
+use Rattle.cd_base.specs.declared.ids.UserId.{UserId}
+use Rattle.cd_base.specs.declared.ids.Version.{Version}
 use Rattle.cd_base.specs.declared.shape.Shape.{Shape}
 use Rattle.cd_edges.specs.Disk.{Cloud}
 use Rattle.messages.specs.declared.request.Request.{Request}
@@ -21,9 +24,10 @@ use Rattle.upload_job.specs.Lanes as lanes
 use Rattle.lane_requests.specs.Runs.{Turn, Progress, LaneRun, progress_after}
 use Rattle.session.specs.declared.event.Event.{Event}
 use Rattle.session.specs.declared.event.Event.TheVariants as events
+use Rattle.transcript.specs.declared.refusal.Refusal.{Refusal}
 use Rattle.transcript.specs.declared.line.Line.{Line}
 use Rattle.vault.specs.Vault.{Setting, Vault, Executes, served_at, lanes_of}
-use Rattle.vault.specs.Steps.{Moment, quiet, moment_of, LaneStep, DropStep, FinishLanes, VStep}
+use Rattle.vault.specs.Steps.{Moment, quiet, moment_of, LaneStep, DropStep, FinishLanes, ListRun, VStep}
 use Rattle.vault.specs.Run.{Answered, Turns, moments_of}
 use Rattle.vault.specs.Headline.{Session, Begun, IsRun, IsPartOf, IsOwnReply, own_reply, IsPrivate, moments_begun}
 
@@ -103,6 +107,18 @@ module _ (s : Setting) where
   private_drop job cloud None old answers moments new x m has = private_quiet old.peers moments x.1 m has
   private_drop job cloud (Some request) old answers moments new x m has = private_one _ m (private_exec cloud old.peers new.peers request x.0 x.1) (subst (λ (l : List Moment). Contains l m) x.2 has)
 
+  private_list : (user : UserId) (cloud : ℕ) (above : Option (Tag × Version)) (old : ℕ → Peer) (turns : List (Turn (ℕ → Peer))) (listed : Result (List (Tag × Version)) Refusal) (new : ℕ → Peer)
+      → ListRun s user cloud above old turns listed new → (m : Moment) → Contains (map (moment_of cloud) turns) m → IsPrivate s m
+  private_list user cloud above old [] listed new run m has = absurd run
+  private_list user cloud above old (t ∷ turns) listed new run m has = elim (contains_cases (moment_of cloud t) (map (moment_of cloud) turns) m has) [
+    | inl same ↦ subst (IsPrivate s) same (subst (λ (peers : ℕ → Peer). IsPrivate s (record { peers = peers; event = Some (record { cloud = cloud; request = t.request; reply = t.reply }) })) (sym run.0)
+        (private_exec cloud old run.2.0 t.request t.reply run.2.1))
+    | inr later ↦ elim run.2.2 [
+      | inl x ↦ absurd (contains_nothing m (subst (λ (l : List (Turn (ℕ → Peer))). Contains (map (moment_of cloud) l) m) x.1 later))
+      | inr x ↦ private_list user cloud (slice_get x.0 (length x.0 - 1)) run.2.0 turns x.1 new x.5 m later
+    ]
+  ]
+
   private_step : (old : Vault) (event : Event) (answers : List Line) (moments : List Moment) (new : Vault) → VStep s old event answers moments new → (m : Moment) → Contains moments m → IsPrivate s m
   private_step old (events.Upload user path version bytes) answers moments new x m has = private_quiet old.peers moments x.1 m has
   private_step old (events.Step job lane) answers moments new x m has = private_lane job lane.0 (lanes.request_at (lanes_of old.jobs job) lane.0) old answers moments new x m has
@@ -112,8 +128,9 @@ module _ (s : Setting) where
   private_step old (events.Get user path version clouds) answers moments new x m has = private_quiet old.peers moments x.3 m has
   private_step old (events.Arm cloud calls keep) answers moments new x m has = private_quiet old.peers moments x.2 m has
   private_step old (events.Restart cloud) answers moments new x m has = private_quiet old.peers moments x.3 m has
-  private_step old (events.List user cloud) answers moments new x m has = absurd x
-  private_step old (events.Replace cloud) answers moments new x m has = absurd x
+  private_step old (events.List user cloud) answers moments new x m has =
+      private_list user cloud.0 None old.peers x.0 x.1 new.peers x.2 m (subst (λ (l : List Moment). Contains l m) x.4 has)
+  private_step old (events.Replace cloud) answers moments new x m has = private_quiet old.peers moments x.3 m has
   private_step old (events.Rebuild user target from) answers moments new x m has = absurd x
 
   private_turns : (history : List Answered) (old new : Vault) → Turns s old history new → (m : Moment) → Contains (moments_of history) m → IsPrivate s m

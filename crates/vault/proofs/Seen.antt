@@ -1,8 +1,11 @@
 -- What a cloud has between two lines it has at a moment of the lines behind, or in the end.
-use Rattle.std.proofs.Common.{◌≡◌, ℕ, List, [], ◌∷◌, ◌++◌, map, Option, Some, None, refl, sym, ap, ◌∙◌, subst, inl, inr, ◌⊎◌, append_assoc}
+use Rattle.std.proofs.Common.{◌≡◌, ℕ, List, [], ◌∷◌, ◌++◌, map, Option, Some, None, Result, refl, sym, ap, ◌∙◌, subst, inl, inr, ◌⊎◌, append_assoc}
 use Rattle.std.specs.Prelude.{MatchOption}
 use Rattle.std.specs.List.{Contains}
 use Rattle.std.proofs.lemmas.List.Elements.{Contains-append_left, Contains-append_right}
+use Rattle.cd_base.specs.declared.ids.Tag.{Tag}
+use Rattle.cd_base.specs.declared.ids.UserId.{UserId}
+use Rattle.cd_base.specs.declared.ids.Version.{Version}
 use Rattle.messages.specs.declared.request.Request.{Request}
 use Rattle.user_dedup.specs.Exec.{Peer}
 use Rattle.user_dedup.proofs.Owned.{contains_here}
@@ -11,9 +14,10 @@ use Rattle.upload_job.specs.Lanes as lanes
 use Rattle.lane_requests.specs.Runs.{Turn, Progress, LaneRun}
 use Rattle.session.specs.declared.event.Event.{Event}
 use Rattle.session.specs.declared.event.Event.TheVariants as events
+use Rattle.transcript.specs.declared.refusal.Refusal.{Refusal}
 use Rattle.transcript.specs.declared.line.Line.{Line}
 use Rattle.vault.specs.Vault.{Setting, Vault, Executes, lanes_of}
-use Rattle.vault.specs.Steps.{Moment, quiet, moment_of, LaneStep, DropStep, FinishLanes, VStep}
+use Rattle.vault.specs.Steps.{Moment, quiet, moment_of, LaneStep, DropStep, FinishLanes, ListRun, VStep}
 use Rattle.vault.specs.Run.{Answered, Turns, moments_of}
 use Rattle.vault.specs.Headline.{Begun, ComesTo, IsPartOf, moments_begun}
 
@@ -43,6 +47,11 @@ module _ (s : Setting) where
   first_drop job cloud None old answers moments new x = first_quiet old.peers new.peers moments x.1
   first_drop job cloud (Some request) old answers moments new x = inr (_, [], x.2, refl)
 
+  first_list : (user : UserId) (cloud : ℕ) (above : Option (Tag × Version)) (old : ℕ → Peer) (turns : List (Turn (ℕ → Peer))) (listed : Result (List (Tag × Version)) Refusal) (new : ℕ → Peer) (moments : List Moment)
+      → ListRun s user cloud above old turns listed new → moments ≡ map (moment_of cloud) turns → FirstIs old moments new
+  first_list user cloud above old [] listed new moments run e = absurd run
+  first_list user cloud above old (t ∷ turns) listed new moments run e = inr (moment_of cloud t, map (moment_of cloud) turns, e, run.0)
+
   pub first_step : (old : Vault) (event : Event) (answers : List Line) (moments : List Moment) (new : Vault) → VStep s old event answers moments new → FirstIs old.peers moments new.peers
   first_step old (events.Upload user path version bytes) answers moments new x = first_quiet old.peers new.peers moments x.1
   first_step old (events.Step job lane) answers moments new x = first_lane job lane.0 (lanes.request_at (lanes_of old.jobs job) lane.0) old answers moments new x
@@ -52,8 +61,8 @@ module _ (s : Setting) where
   first_step old (events.Get user path version clouds) answers moments new x = first_quiet old.peers new.peers moments x.3
   first_step old (events.Arm cloud calls keep) answers moments new x = first_quiet old.peers new.peers moments x.2
   first_step old (events.Restart cloud) answers moments new x = first_quiet old.peers new.peers moments x.3
-  first_step old (events.List user cloud) answers moments new x = absurd x
-  first_step old (events.Replace cloud) answers moments new x = absurd x
+  first_step old (events.List user cloud) answers moments new x = first_list user cloud.0 None old.peers x.0 x.1 new.peers moments x.2 x.4
+  first_step old (events.Replace cloud) answers moments new x = first_quiet old.peers new.peers moments x.3
   first_step old (events.Rebuild user target from) answers moments new x = absurd x
 
 -- ---- strings

@@ -1,5 +1,5 @@
 -- A line that was cut before it moved anything goes on by a fault.
-use Rattle.std.proofs.Common.{◌≡◌, ℕ, ◌+◌, ◌-◌, ◌^◌, Bool, true, false, List, [], ◌∷◌, ◌++◌, length, min, Option, Some, None, refl, sym, subst, arith}
+use Rattle.std.proofs.Common.{◌≡◌, ℕ, ◌+◌, ◌-◌, ◌^◌, Bool, true, false, List, [], ◌∷◌, ◌++◌, length, min, Option, Some, None, refl, sym, subst, inl, arith}
 use Rattle.std.specs.Prelude.{IsTrue, Err}
 use Rattle.std.specs.Bool.{MatchBool}
 use Rattle.std.specs.List.{range_with_len}
@@ -9,6 +9,7 @@ use Rattle.cd_base.specs.declared.ids.Version.{Version}
 use Rattle.cd_edges.specs.Causes.{Rose}
 use Rattle.commit_journal.specs.declared.errors.OpenErr.TheVariants as errors
 use Rattle.messages.specs.declared.request.Request.{Request}
+use Rattle.messages.specs.declared.request.Request.TheVariants as requests
 use Rattle.messages.specs.declared.reply.Reply.TheVariants as replies
 use Rattle.user_dedup.specs.Exec.{Peer}
 use Rattle.share_server.specs.Serving.{ReopensAs}
@@ -19,11 +20,13 @@ use Rattle.local_link.specs.Calls.{Armed}
 use Rattle.session.specs.Spelling.{Fits, AreClouds}
 use Rattle.session.specs.declared.event.Event.{Event}
 use Rattle.session.specs.declared.event.Event.TheVariants as events
+use Rattle.transcript.specs.declared.refusal.Refusal.{Refusal}
+use Rattle.transcript.specs.declared.refusal.Refusal.TheVariants as refusals
 use Rattle.transcript.specs.declared.line.Line.{Line}
 use Rattle.transcript.specs.declared.line.Line.TheVariants as lines
 use Rattle.vault.specs.Scripts.{is_carried}
 use Rattle.vault.specs.Vault.{Setting, Vault, new_job, lanes_of, with_lanes, OneGoes}
-use Rattle.vault.specs.Steps.{Execution, quiet, no_step, step_line, stored_line, lose_lines, all_done, asked_by, version_of, LaneStep, DropStep, ReopensUntold, RestartStep}
+use Rattle.vault.specs.Steps.{Execution, executed, quiet, no_step, step_line, stored_line, lose_lines, all_done, asked_by, version_of, LaneStep, DropStep, list_lines, ReopensUntold, RestartStep, ReplaceStep}
 use Rattle.vault.specs.Headline.{IsPartOf}
 use Rattle.vault.proofs.Seen.{first_finish}
 use Rattle.vault.proofs.Parts.{fault_of, put, put_here, put_other, news_fault, fails, finishes, comes, part_of_get}
@@ -34,6 +37,9 @@ IsUnmoved s old event = IsPartOf s old (record { event = event; moments = [] }) 
 
 armed_of : Peer → Peer
 armed_of p = record { list = p.list; pending = p.pending; faults = p.faults; armings = min (p.armings + 1) (2 ^ 64 - 1) }
+
+emptied : Peer → Peer
+emptied p = record { list = []; pending = None; faults = p.faults + 1; armings = p.armings }
 
 module _ (s : Setting) (old : Vault) where
   -- the cloud goes on so, and the others stay
@@ -156,6 +162,65 @@ module _ (s : Setting) (old : Vault) where
   part_of_read jobs user path version [] are = absurd (let n : 0 ≡ s.shape.k = are.count in let m = s.shape.several in omega arith)
   part_of_read jobs user path version (cloud ∷ clouds) are = part_of_get s old user path version cloud clouds
 
+  -- the first page fails
+  part_of_list : (user : UserId) (cloud : CloudNo) → IsUnmoved s old (events.List user cloud)
+  part_of_list user cloud = (
+    list_lines user cloud.0 (Err why),
+    executed old.peers cloud.0 request replies.Fault ∷ [],
+    record { peers = put old.peers cloud.0 (fault_of (old.peers cloud.0)); jobs = old.jobs },
+    (
+      record { before = old.peers; request = request; reply = replies.Fault } ∷ [],
+      Err why,
+      (
+        refl,
+        refl,
+        (
+          put old.peers cloud.0 (fault_of (old.peers cloud.0)),
+          fails s cloud.0 old.peers request,
+          inl ((why, refl, refl), refl, refl),
+        ),
+      ),
+      refl,
+      refl,
+      refl,
+    ),
+    refl,
+  )
+    where
+      why : Refusal
+      why = refusals.Fault cloud
+
+      request : Request
+      request = requests.List user None
+
+  -- the cloud is emptied, and its new store isn't begun
+  part_of_replace : (cloud : CloudNo) → IsUnmoved s old (events.Replace cloud)
+  unfolding emptied
+  part_of_replace cloud = (
+    line ∷ [],
+    quiet old.peers,
+    record { peers = put old.peers cloud.0 (emptied (old.peers cloud.0)); jobs = old.jobs },
+    (
+      line,
+      one_goes cloud.0 (ReplaceStep s cloud.0 line) (emptied (old.peers cloud.0)) (record {
+        list = refl;
+        pending = refl;
+        armings = refl;
+        says = (refl, rose (old.peers cloud.0));
+      }),
+      refl,
+      refl,
+      refl,
+    ),
+    refl,
+  )
+    where
+      line : Line
+      line = lines.Fault cloud
+
+      rose : (p : Peer) → Rose p.faults (emptied p).faults
+      rose p = let r : Rose p.faults (p.faults + 1) = omega arith in r
+
   pub unmoved : (jobs : ℕ) (event : Event) → Fits s.shape jobs event → IsTrue (is_carried event) → IsUnmoved s old event
   unmoved jobs (events.Upload user path version bytes) fits carried = part_of_upload user path version bytes
   unmoved jobs (events.Step job lane) fits carried = part_of_step job lane
@@ -165,6 +230,6 @@ module _ (s : Setting) (old : Vault) where
   unmoved jobs (events.Get user path version clouds) fits carried = part_of_read jobs user path version clouds fits.1
   unmoved jobs (events.Arm cloud calls keep) fits carried = part_of_arm cloud calls keep
   unmoved jobs (events.Restart cloud) fits carried = part_of_restart cloud
-  unmoved jobs (events.List user cloud) fits carried = absurd (let f : false ≡ true = carried in cc)
-  unmoved jobs (events.Replace cloud) fits carried = absurd (let f : false ≡ true = carried in cc)
+  unmoved jobs (events.List user cloud) fits carried = part_of_list user cloud
+  unmoved jobs (events.Replace cloud) fits carried = part_of_replace cloud
   unmoved jobs (events.Rebuild user target from) fits carried = absurd (let f : false ≡ true = carried in cc)

@@ -2,9 +2,8 @@
 use Rattle.std.specs.Prelude.{◌≡◌, ◌⊎◌, ℕ, List, [], ◌∷◌, ◌++◌, map}
 use Rattle.user_dedup.specs.Exec.{Peer}
 use Rattle.upload_job.specs.declared.news.LaneNews.{LaneNews}
-use Rattle.upload_job.specs.Lanes.{LaneView, with_state}
+use Rattle.upload_job.specs.Lanes.{with_state}
 use Rattle.lane_requests.specs.Runs.{Turn, Progress, starting, LaneRun, LaneAlong, Tell, lane_at}
-use Rattle.transcript.specs.declared.line.Line.{Line}
 use Rattle.vault.specs.Vault.{Setting, Vault, Executes, lanes_of, with_lanes}
 use Rattle.vault.specs.Steps.{Moment, moment_of}
 

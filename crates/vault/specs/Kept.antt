@@ -6,9 +6,11 @@ use Rattle.user_dedup.specs.Cloud.{fingerprint}
 use Rattle.user_dedup.specs.Exec.{Peer}
 use Rattle.cloud_store.specs.Contents.{strings_in}
 use Rattle.upload_job.specs.Upload.{FileVersion, shares_for}
+use Rattle.kept_files.specs.Kept.{key_of}
 use Rattle.session.specs.declared.event.Event.{Event}
 use Rattle.session.specs.declared.event.Event.TheVariants as events
 use Rattle.transcript.specs.declared.line.Line.{Line}
+use Rattle.transcript.specs.declared.line.SkipWord.{SkipWord}
 use Rattle.transcript.specs.declared.line.Line.TheVariants as lines
 use Rattle.transcript.specs.declared.news.News.TheVariants as news
 use Rattle.vault.specs.Vault.{Setting}
@@ -41,13 +43,22 @@ abbrev pub Commits : List Event → ℕ → FileVersion → List Line → Type 0
 Commits script cloud v answers =
     (job : ℕ) × IsJobOf script job v × Contains answers (lines.Step job (cloud_no cloud) news.Committed)
 
--- the line ends what the cloud keeps. A replacement will, and so will a deletion
+-- The line ends what the cloud keeps: the cloud is replaced, whatever is answered.
 abbrev pub Ends : ℕ → FileVersion → Event → Type 0
+Ends cloud v (events.Replace replaced) = replaced.0 ≡ cloud
 Ends cloud v event = ⊥
 
--- the answer says that the cloud was rebuilt with the version, from clouds that each had it acknowledged
-abbrev pub Refills : (ℕ → Type 0) → ℕ → FileVersion → Answered → Type 0
-Refills KeptAt cloud v a = ⊥
+-- The answer says that the cloud was rebuilt for the version's user, and that the version wasn't skipped, from clouds that each
+-- had it acknowledged.
+pub record Refills (shape : Shape) (KeptAt : ℕ → Type 0) (cloud : ℕ) (v : FileVersion) (a : Answered) : Type 0 where
+  pub from : List ℕ
+  pub event_is : a.event ≡ events.Rebuild v.user (cloud_no cloud) from
+  pub files : ℕ
+  pub skipped : ℕ
+  pub skips : List Line
+  pub answers_are : a.answers ≡ lines.Rebuilt v.user (cloud_no cloud) files skipped ∷ skips
+  pub brought : (why : SkipWord) → ¬ Contains skips (lines.Skipped (key_of shape v.path v.number).0 v.number why)
+  pub kept : (source : ℕ) → Contains from source → KeptAt source
 
 -- The answered lines, the newest first: the cloud acknowledged the version, and no line since ended that. All clouds that
 -- this goes back to are told.
@@ -55,7 +66,7 @@ abbrev pub Kept : Setting → List Answered → ℕ → FileVersion → Type 0
 Kept s [] cloud v = ⊥
 Kept s (a ∷ earlier) cloud v =
     IsTrue (s.told cloud) × (Commits (script_of (reverse earlier)) cloud v a.answers
-    ⊎ (Refills (λ from. Kept s earlier from v) cloud v a
+    ⊎ (Refills s.shape (λ source. Kept s earlier source v) cloud v a
     ⊎ (Kept s earlier cloud v × ¬ Ends cloud v a.event)))
 
 -- ---- clashes

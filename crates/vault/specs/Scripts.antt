@@ -11,8 +11,6 @@ use Rattle.session.specs.declared.event.Event.TheVariants as events
 
 -- the lines that are carried out
 abbrev pub is_carried : Event → Bool
-is_carried (events.List user cloud) = false
-is_carried (events.Replace cloud) = false
 is_carried (events.Rebuild user target from) = false
 is_carried event = true
 

@@ -1,7 +1,8 @@
 -- What each line of a script does to a vault, and what is answered.
-use Rattle.std.specs.Prelude.{◌≡◌, ℕ, ◌+◌, Bool, true, false, not, ◌&&◌, IsTrue, List, [], ◌∷◌, ◌++◌, length, map, Option, Some, None, IfErr, Result, Ok, Err, if◌then◌else◌}
+use Rattle.std.specs.Prelude.{◌≡◌, ◌⊎◌, ℕ, ◌+◌, ◌-◌, ◌<◌, Bool, true, false, not, ◌&&◌, IsTrue, List, [], ◌∷◌, ◌++◌, length, map, slice_get, Option, Some, None, IfErr, Result, Ok, Err, if◌then◌else◌}
 use Rattle.std.specs.Bool.{MatchBool}
 use Rattle.std.specs.List.{Contains, list_all, range_with_len}
+use Rattle.cd_base.specs.declared.ids.Tag.{Tag}
 use Rattle.cd_base.specs.declared.ids.Version.{Version}
 use Rattle.cd_base.specs.declared.ids.UserId.{UserId}
 use Rattle.cd_base.specs.declared.ids.CloudNo.{CloudNo}
@@ -9,8 +10,11 @@ use Rattle.cd_base.specs.declared.shape.Shape.{Shape}
 use Rattle.cd_edges.specs.Causes.{Rose}
 use Rattle.commit_journal.specs.declared.errors.OpenErr.{OpenErr}
 use Rattle.commit_journal.specs.declared.errors.OpenErr.TheVariants as errors
+use Rattle.message_fields.specs.Keys.{key_limit}
 use Rattle.messages.specs.declared.request.Request.{Request}
+use Rattle.messages.specs.declared.request.Request.TheVariants as requests
 use Rattle.messages.specs.declared.reply.Reply.{Reply}
+use Rattle.messages.specs.declared.reply.Reply.TheVariants as replies
 use Rattle.user_dedup.specs.Exec.{Peer, Stays, CountsOn}
 use Rattle.user_dedup.specs.Link.{LinkTelling}
 use Rattle.share_server.specs.Serving.{ReopensAs}
@@ -191,6 +195,46 @@ pub record GetStep (s : Setting) (user : UserId) (path : List ℕ) (version : Ve
   pub told : ((cloud : ℕ) → Contains clouds cloud → IsTrue (s.told cloud))
       → Restores s.shape user (key_of s.shape path version) clouds result [] file old new
 
+-- ---- a listing
+
+-- why a cloud lists no further
+abbrev pub list_refusal : ℕ → Reply → Option Refusal
+list_refusal cloud replies.Fault = Some (refusals.Fault (cloud_no cloud))
+list_refusal cloud (replies.Damaged at byte) = Some (refusals.Damaged (cloud_no cloud) at byte)
+list_refusal cloud (replies.Rotten named found) = Some (refusals.Rotten (cloud_no cloud) named found)
+list_refusal cloud replies.NoMemory = Some (refusals.NoMemory (cloud_no cloud))
+list_refusal cloud reply = None
+
+-- the reply ends a listing with these entries, as a page that isn't full, or with this refusal
+abbrev pub EndsListing : ℕ → Reply → Result (List (Tag × Version)) Refusal → Type 0
+EndsListing cloud (replies.Entries page) listed = (length page < key_limit) × (listed ≡ Ok page)
+EndsListing cloud reply listed = (why : Refusal) × (list_refusal cloud reply ≡ Some why) × (listed ≡ Err why)
+
+-- behind a page: its entries and those of the pages behind it, or the refusal that came
+abbrev pub behind_page : List (Tag × Version) → Result (List (Tag × Version)) Refusal → Result (List (Tag × Version)) Refusal
+behind_page page (Ok entries) = Ok (page ++ entries)
+behind_page page (Err why) = Err why
+
+-- The cloud is asked for the user's entries above this one, a page at a time, each a request of its own. A page that isn't full
+-- is the last one; behind a full one the entries above its last one are asked for.
+abbrev pub ListRun : Setting → UserId → ℕ → Option (Tag × Version) → (ℕ → Peer) → List (Turn (ℕ → Peer))
+    → Result (List (Tag × Version)) Refusal → (ℕ → Peer) → Type 0
+ListRun s user cloud above old [] listed new = ⊥
+ListRun s user cloud above old (t ∷ turns) listed new =
+    (t.before ≡ old) × (t.request ≡ requests.List user above)
+    × ((mid : ℕ → Peer) × Executes s cloud old t.request t.reply mid
+    × ((EndsListing cloud t.reply listed × (turns ≡ []) × (new ≡ mid))
+    ⊎ ((page : List (Tag × Version)) × (rest : Result (List (Tag × Version)) Refusal)
+    × (t.reply ≡ replies.Entries page) × (length page ≡ key_limit) × (listed ≡ behind_page page rest)
+    × ListRun s user cloud (slice_get page (length page - 1)) mid turns rest new)))
+
+abbrev pub entry_line : Tag × Version → Line
+entry_line entry = lines.Entry entry.0 entry.1
+
+abbrev pub list_lines : UserId → ℕ → Result (List (Tag × Version)) Refusal → List Line
+list_lines user cloud (Ok entries) = lines.Entries user (cloud_no cloud) (length entries) ∷ map entry_line entries
+list_lines user cloud (Err why) = lines.Refused why ∷ []
+
 -- ---- lines on one cloud
 
 -- the line of an opening that ended so
@@ -214,6 +258,21 @@ abbrev pub RestartStep : Setting → ℕ → Line → Peer → Peer → Type 0
 RestartStep s cloud line old new =
     (result : Result ℕ OpenErr) × IsRestartLine cloud result line
     × MatchBool (s.told cloud) (ReopensAs true old new result) (ReopensUntold result old new)
+
+-- what is said of the new store of a replaced cloud, and what became of the cloud's count of faults: the store was begun; or a
+-- device failed; or a damage was found, only where nothing is told
+abbrev pub IsReplaceLine : Bool → ℕ → ℕ → ℕ → Line → Type 0
+IsReplaceLine told cloud before after (lines.Replaced c) = (c ≡ cloud_no cloud) × (after ≡ before)
+IsReplaceLine told cloud before after (lines.Fault c) = (c ≡ cloud_no cloud) × Rose before after
+IsReplaceLine told cloud before after (lines.Damaged c at byte) = (c ≡ cloud_no cloud) × (told ≡ false) × (after ≡ before)
+IsReplaceLine told cloud before after line = ⊥
+
+-- Whatever is said, the cloud has no commands, and nothing is pending.
+pub record ReplaceStep (s : Setting) (cloud : ℕ) (line : Line) (old new : Peer) : Type 0 where
+  pub list : new.list ≡ []
+  pub pending : new.pending ≡ None
+  pub armings : new.armings ≡ old.armings
+  pub says : IsReplaceLine (s.told cloud) cloud old.faults new.faults line
 
 -- ---- every line
 
@@ -247,7 +306,12 @@ VStep s old (events.Arm cloud calls keep) answers moments new =
 VStep s old (events.Restart cloud) answers moments new =
     (line : Line) × OneGoes cloud.0 (RestartStep s cloud.0 line) old.peers new.peers
     × (answers ≡ line ∷ []) × (moments ≡ quiet old.peers) × (new.jobs ≡ old.jobs)
+VStep s old (events.List user cloud) answers moments new =
+    (turns : List (Turn (ℕ → Peer))) × (listed : Result (List (Tag × Version)) Refusal)
+    × ListRun s user cloud.0 None old.peers turns listed new.peers
+    × (answers ≡ list_lines user cloud.0 listed) × (moments ≡ map (moment_of cloud.0) turns) × (new.jobs ≡ old.jobs)
+VStep s old (events.Replace cloud) answers moments new =
+    (line : Line) × OneGoes cloud.0 (ReplaceStep s cloud.0 line) old.peers new.peers
+    × (answers ≡ line ∷ []) × (moments ≡ quiet old.peers) × (new.jobs ≡ old.jobs)
 -- not carried out
-VStep s old (events.List user cloud) answers moments new = ⊥
-VStep s old (events.Replace cloud) answers moments new = ⊥
 VStep s old (events.Rebuild user target from) answers moments new = ⊥

@@ -1,7 +1,8 @@
 //! What follows of a session that was carried out, whatever carried it out. The calls do nothing.
 
-ghost use Rattle.std.specs.Prelude.{◌≡◌, ℕ, IsTrue, List, [], ◌∷◌, ◌++◌};
+ghost use Rattle.std.specs.Prelude.{◌≡◌, ◌<◌, ◌≤◌, ◌-◌, ◌^◌, ℕ, IsTrue, List, [], ◌∷◌, ◌++◌, Some};
 ghost use Rattle.std.specs.List.{range_with_len};
+ghost use Rattle.cd_base.specs.declared.ids.CloudNo.{CloudNo};
 ghost use Rattle.cd_base.specs.declared.ids.UserId.{UserId};
 ghost use Rattle.cd_base.specs.declared.ids.Version.{Version};
 ghost use Rattle.cd_base.specs.declared.shape.Shape.{Shape};
@@ -65,4 +66,15 @@ pub fn law_of_parts()
         → IsPartOf s old (record { event = events.Get user path version (cloud ∷ clouds); moments = [] }) old.peers }
     ensures unmoved { (s : Setting) (old : Vault) (jobs : ℕ) (event : Event) → Fits s.shape jobs event → IsTrue (is_carried event)
         → IsPartOf s old (record { event = event; moments = [] }) old.peers }
+{}
+
+/// No line lets a cloud's count of faults fall, but for one at its last value.
+pub fn law_of_counts()
+    ensures step { (least : ℕ) → least < 2 ^ 64 - 1 → (s : Setting) (cloud : ℕ) (old : Vault) (event : Event)
+        (answers : List Line) (moments : List Moment) (new : Vault) → VStep s old event answers moments new
+        → least ≤ (old.peers cloud).faults → least ≤ (new.peers cloud).faults }
+    // Nor does a session whose last line was begun as a replacement.
+    ensures replaced { (least : ℕ) → least < 2 ^ 64 - 1 → (clouds : ℕ → Cloud) (run : Session) (begun : Begun)
+        (replaced : CloudNo) (cloud : ℕ) → IsRun clouds run → run.begun ≡ Some begun
+        → begun.event ≡ events.Replace replaced → least ≤ (clouds cloud).faults → least ≤ (run.last cloud).faults }
 {}

@@ -1,0 +1,40 @@
+-- A replacement over the servers of this process.
+use Rattle.std.specs.Prelude.{◌≡◌, ℕ, List, [], Result, Ok, Err}
+use Rattle.cd_base.specs.declared.ids.CloudNo.{CloudNo}
+use Rattle.cd_edges.specs.Causes.{Rose}
+use Rattle.cd_edges.specs.Disk.{Cloud}
+use Rattle.commit_journal.specs.declared.errors.OpenErr.{OpenErr}
+use Rattle.upload_job.specs.Lanes.{LaneView}
+use Rattle.local_link.specs.declared.link.LocalLink.{LocalLink}
+use Rattle.session.specs.declared.event.Event.{Event}
+use Rattle.session.specs.declared.event.Event.TheVariants as events
+use Rattle.transcript.specs.declared.line.Line.{Line}
+use Rattle.transcript.specs.declared.line.Line.TheVariants as lines
+use Rattle.vault.specs.Vault.{Setting, Vault}
+use Rattle.vault.specs.Steps.{cloud_no}
+use Rattle.script_lines.specs.declared.error.CarryErr.{CarryErr}
+use Rattle.script_lines.specs.declared.error.CarryErr.TheVariants as carry_errors
+use Rattle.script_lines.specs.At.{IsAt}
+use Rattle.script_lines.specs.Does.{Cut}
+use Rattle.script_lines.specs.Stepping.{IsOpening}
+
+-- the line of a new store whose first opening ended so: where it didn't begin the store, that of an opening
+abbrev pub IsNewStore : ℕ → Result ℕ OpenErr → Line → Type 0
+IsNewStore cloud (Ok commands) line = line ≡ lines.Replaced (cloud_no cloud)
+IsNewStore cloud (Err error) line = IsOpening cloud (Err error) line
+
+-- The cloud's areas couldn't be made empty: all clouds are as they were, but that its count rose.
+pub record FailsFresh {V : Type 0} (clouds : V → ℕ → Cloud) (s : Setting) (event : Event) (cloud : CloudNo)
+    (old new : LocalLink V) (v : Vault) : Type 0 where
+  pub cut : Cut clouds s event old new v
+  pub moments_are : cut.moments ≡ []
+  pub last_is : cut.last ≡ v.peers
+  pub rose : Rose (cut.last cloud.0).faults (clouds new.shelf.now cloud.0).faults
+
+-- An error for the shelf comes at a replacement alone, and names its cloud.
+abbrev pub IsShelfFault : {V : Type 0} → (V → ℕ → Cloud) → Event → LocalLink V → List (List LaneView) → LocalLink V
+    → CarryErr → Type 0
+IsShelfFault clouds event old old_jobs new (carry_errors.ShelfFault cloud) =
+    (event ≡ events.Replace cloud)
+    × ((s : Setting) (v : Vault) → IsAt clouds s old old_jobs v → FailsFresh clouds s event cloud old new v)
+IsShelfFault clouds event old old_jobs new carry_errors.NoMemory = Unit {0}
