@@ -1,0 +1,15 @@
+mod Draws
+mod Generations
+mod Ranges
+mod Files
+mod Examples
+mod Pieces
+mod Tallies
+mod Lanes
+mod Script
+mod Along
+mod Gets
+mod Stops
+mod Ends
+mod Growing
+mod Clouds

@@ -1,0 +1,5 @@
+pub mod Drawn
+pub mod Lines
+pub mod Numbers
+pub mod Generates
+pub mod Progress

@@ -1,0 +1,15 @@
+//! A session of many backups, made from a seed, and its summary.
+#![tactic(auto)]
+
+mod carrying;
+mod counting;
+mod drawing;
+mod generating;
+mod numbers;
+mod summary;
+
+pub use generating::generate;
+pub use numbers::Numbers;
+
+#[cfg(test)]
+mod tests;
