@@ -10,10 +10,12 @@ use Rattle.session.specs.Fault.{Fault}
 use Rattle.session.specs.Lines.{after_line}
 use Rattle.session.specs.declared.event.Event.{Event}
 use Rattle.vault.specs.Scripts.{Place, Begins, Leads, Reaches, Says, IsEnd, IsWrong, IsWrongFirst, FailsIn, FailsFirst, said_at, behind}
+use Rattle.vault.specs.Steps.{cloud_no}
 use Rattle.vault.specs.Vault.{Vault, opening}
 use Rattle.vault.specs.Run.{Answered, Turns}
 use Rattle.vault.specs.Headline.{Session, Begun, IsRun, IsPartOf, script_in}
-use Rattle.replay_core.specs.Endings.{Call, EndingLine, HasCause, HasRead, HasReadSome, IsDue, IsOfScript, IsOfShelf, IsOfStore, IsFirstFilled, IsWrongAt}
+use Rattle.vault.proofs.Counts.{counts_last}
+use Rattle.replay_core.specs.Endings.{Call, EndingLine, HasCause, HasRead, HasReadSome, IsDue, IsOfScript, IsOfShelf, IsOfStore, IsFirstFilled, IsWrongAt, MayFailIn}
 use Rattle.replay_core.specs.Endings as due_lines
 use Rattle.cd_top.specs.Complete.{IsStill, GoesWell}
 use Rattle.cd_top.specs.Replay.{IsReplayed}
@@ -109,6 +111,20 @@ module _ (call : Call) (run : Session) (well : GoesWell call) where
   below : run.setting.shape ≡ well.shape → (cloud : ℕ) → cloud < run.setting.shape.n → cloud < well.shape.n
   below same cloud lt = subst (λ (s : Shape). cloud < s.n) same lt
 
+  -- a replacement whose areas couldn't be made empty left a count that rose
+  not_replaced : IsRun call.old run → (cloud : ℕ) → cloud < well.shape.n → (begun : Option Begun) → run.begun ≡ begun → MayFailIn begun cloud → Rose (run.last cloud).faults (call.new cloud).faults → ⊥
+  not_replaced carried cloud lt None has may rose = may
+  not_replaced carried cloud lt (Some b) has may rose =
+      let still = well.counts cloud lt in
+      past (call.old cloud).faults (run.last cloud).faults (call.new cloud).faults still
+      (counts_last (call.old cloud).faults still.1 run.setting cloud call.old run b (cloud_no cloud) carried refl has may (same_le (call.old cloud).faults)) rose
+    where
+      same_le : (n : ℕ) → n ≤ n
+      same_le n = omega arith
+
+      past : (before last now : ℕ) → IsStill before now → before ≤ last → Rose last now → ⊥
+      past before last now still le rose = omega (arith, still.0, still.1, le, rose)
+
   not_of_shelf : (line : EndingLine) → IsRun call.old run → run.setting.shape ≡ well.shape → IsDue call run line → IsOfShelf line → ⊥
   not_of_shelf due_lines.NoEnding carried same is of = of
   not_of_shelf (due_lines.DoneEnding events) carried same is of = of
@@ -116,7 +132,7 @@ module _ (call : Call) (run : Session) (well : GoesWell call) where
   not_of_shelf (due_lines.ShelfEnding cloud) carried same is of = elim is.3 [
     | inl closed ↦ not_risen (call.old cloud).faults (call.new cloud).faults (well.counts cloud (below same cloud is.0))
         (subst (λ (n : ℕ). Rose n (call.new cloud).faults) (counts_unopened carried closed cloud) is.2)
-    | inr never ↦ never
+    | inr may ↦ not_replaced carried cloud (below same cloud is.0) run.begun refl may is.2
   ]
   not_of_shelf (due_lines.StoreEnding cloud area len) carried same is of = of
   not_of_shelf (due_lines.DamagedEnding cloud at byte) carried same is of = of

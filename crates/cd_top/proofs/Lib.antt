@@ -1,5 +1,7 @@
 pub mod Texts
 pub mod Closing
 pub mod Unopened
-pub mod WordsRead
 pub mod Completing
+mod ReadClosing
+mod Dispatching
+mod Placing

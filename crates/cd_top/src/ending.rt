@@ -13,9 +13,9 @@ use replay_core::ReplayEnd;
 use std::alloc::Global;
 use transcript::{Ending, write_ending};
 
-// Why a last line isn't written.
+/// Why a last line isn't written.
 #[derive(Clone, Copy)]
-enum LastErr {
+pub enum LastErr {
     SinkFault,
     NoMemory,
 }
@@ -66,8 +66,8 @@ fn last_line(end: &ReplayEnd) -> Option<Ending>
     }
 }
 
-// Writes a last line.
-fn write_last<K: Sink>(alloc: Global, last: &Ending, sink: &mut K) -> Result<(), LastErr>
+/// Writes a last line. SinkFault: the sink's count rose, and a front of the line was written. NoMemory: nothing was.
+pub fn write_last<K: Sink>(alloc: Global, last: &Ending, sink: &mut K) -> Result<(), LastErr>
     ensures { WritesLast (text_of_ending last.now) result (K.written sink.old) (K.written sink.new)
         (K.faults sink.old) (K.faults sink.new) }
 {

@@ -1,7 +1,10 @@
 //! The program's call: it runs the words that are given to cdstore.
 #![tactic(auto)]
 
+mod clients;
 mod ending;
+mod read;
+mod serve;
 mod top;
 
 pub use top::run;

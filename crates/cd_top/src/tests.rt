@@ -6,6 +6,7 @@ use crate::run;
 use cd_base::CloudNo;
 use cd_edges::{Area, Shelf};
 use cd_fakes::{MemShelf, MemSink, MemSource};
+use mem_ports::MemPorts;
 use std::alloc::Global;
 use std::test::Fail;
 
@@ -17,7 +18,7 @@ struct Row {
     areas: Option<[u64; 3]>,
 }
 
-const ROWS: [Row; 14] = [
+const ROWS: [Row; 16] = [
     // empty file
     Row {
         script: "cdstore 1 4 3 9000 9000 9000 90 90 90\nupload 7 61 1 -\nstep 1 0\nstep 1 1\nstep 1 2\nstep 1 3\nget 7 61 1 0,1,2\n",
@@ -111,9 +112,23 @@ const ROWS: [Row; 14] = [
     },
     // a line that isn't carried out yet
     Row {
-        script: "cdstore 1 4 3 9000 9000 9000 90 90 90\nreplace 0\n",
+        script: "cdstore 1 4 3 9000 9000 9000 90 90 90\nrebuild 7 3 0,1,2\n",
         text: "open 4 3\nscript 2 0 72\n",
         status: 2,
+        areas: None,
+    },
+    // listing
+    Row {
+        script: "cdstore 1 4 3 9000 9000 9000 90 90 90\nupload 7 61 1 41\nfinish 1\nget 7 61 1 1,2,3\nlist 7 0\n",
+        text: "open 4 3\njob 1\nstep 1 0 known 0 1\nstep 1 0 stored 1 1\nstep 1 0 committed\nstep 1 1 known 0 1\nstep 1 1 stored 1 1\nstep 1 1 committed\nstep 1 2 known 0 1\nstep 1 2 stored 1 1\nstep 1 2 committed\nstep 1 3 known 0 1\nstep 1 3 stored 1 1\nstep 1 3 committed\nstored 1\nend 1 stored\ngot 41\nentries 7 0 1\nentry 5d68886a3c18c6681152c8912b098df2772886cc297ca017f379493ac7b5822e 1\ndone 4\n",
+        status: 0,
+        areas: None,
+    },
+    // a cloud that is replaced
+    Row {
+        script: "cdstore 1 4 3 9000 9000 9000 90 90 90\nupload 7 61 1 41\nfinish 1\nreplace 0\nget 7 61 1 0,1,2\nlist 7 0\nget 7 61 1 1,2,3\n",
+        text: "open 4 3\njob 1\nstep 1 0 known 0 1\nstep 1 0 stored 1 1\nstep 1 0 committed\nstep 1 1 known 0 1\nstep 1 1 stored 1 1\nstep 1 1 committed\nstep 1 2 known 0 1\nstep 1 2 stored 1 1\nstep 1 2 committed\nstep 1 3 known 0 1\nstep 1 3 stored 1 1\nstep 1 3 committed\nstored 1\nend 1 stored\nreplaced 0\nrefused missing 0\nentries 7 0 0\ngot 41\ndone 6\n",
+        status: 0,
         areas: None,
     },
 ];
@@ -136,7 +151,8 @@ fn ended(
     }
     let mut source = MemSource::of(alloc, script, most, fails)?;
     let mut sink = MemSink::of(alloc, 4096, most, &[])?;
-    let status = run(alloc, &names, &mut source, &mut sink, shelf);
+    let mut ports = MemPorts::of(alloc, 0, 1, &[])?;
+    let status = run(alloc, &names, &mut source, &mut sink, shelf, &mut ports);
     let mut text = Vec::new(alloc);
     text.extend_from_slice(sink.written())?;
     Ok((status, text))
@@ -277,5 +293,24 @@ fn a_get_asks_the_disks(rt: HostRuntime) -> Result<(), Fail> {
         seen = seen || status == 0 && text.ends_with(want);
     }
     assert!(rt; seen);
+    Ok(())
+}
+
+// Where the call that makes the areas of a replaced cloud empty fails, the session ends there; where one of the opening behind it
+// does, the line says so.
+#[test]
+fn a_failed_replacement_is_5(rt: HostRuntime) -> Result<(), Fail> {
+    let mut ended = false;
+    let mut answered = false;
+    for call in 1..60 {
+        let mut clouds = shelf(rt.alloc(), &[(CloudNo(2), call)])?;
+        let script = "cdstore 1 4 3 9000 9000 9000 90 90 90\nreplace 2\n";
+        let (status, text) = session(rt.alloc(), script, &mut clouds)?;
+        let text = text.as_slice();
+        ended = ended || status == 5 && text == b"open 4 3\nshelf 2\n".as_slice();
+        answered = answered || status == 0 && text == b"open 4 3\nfault 2\ndone 1\n".as_slice();
+    }
+    assert!(rt; ended);
+    assert!(rt; answered);
     Ok(())
 }

@@ -1,24 +1,29 @@
 //! The top call.
 
-ghost use Rattle.std.specs.Prelude.{◌≡◌, ◌≢◌, ◌≤◌, ◌↔◌, ◌⊎◌, ℕ, List, IsTrue, map, string_bytes};
+ghost use Rattle.std.specs.Prelude.{◌≡◌, ◌≢◌, ◌≤◌, ◌⊎◌, ℕ, List, map, string_bytes};
+ghost use Rattle.command_words.specs.Asked.{AskedFile, AskedRead, AskedServe, ForBackup, ForRead, ForRestore, ForServe};
+ghost use Rattle.command_words.specs.Commands.{IsCommand};
+ghost use Rattle.command_words.specs.Views.{asked_of};
 ghost use Rattle.replay_core.specs.Endings.{Call};
 ghost use Rattle.cd_top.specs.Complete.{GoesWell};
+ghost use Rattle.backup_command.specs.Reading.{input_of};
+ghost use Rattle.backup_command.specs.Writing.{output_of as output_by};
+ghost use Rattle.serve_command.specs.Served.{output_of};
+ghost use Rattle.cd_top.specs.Clients.{BacksUp, Restores, lines_of};
+ghost use Rattle.cd_top.specs.Dispatch.{AreBuilt, IsFit, Promises};
+ghost use Rattle.cd_top.specs.Serve.{Serves, serving};
+ghost use Rattle.cd_top.specs.Read.{Around, IsRead};
 ghost use Rattle.cd_top.specs.Replay.{IsReplay, IsReplayed};
 
+use crate::clients::{backup_to, restore_from};
 use crate::ending::finish;
-use cd_edges::{Failed, Shelf, Sink, Source};
+use crate::read::read_in;
+use crate::serve::serve_in;
+use cd_base::NoMemory;
+use cd_edges::{Failed, Ports, Shelf, Sink, Source};
+use command_words::{Command, law_of_words, read_words};
 use replay_core::replay;
 use std::alloc::Global;
-
-// Whether the words are those of a replay: `replay DIR`.
-fn is_replay(words: &[String]) -> bool
-    ensures { IsTrue result ↔ IsReplay (map string_bytes words.now) }
-{
-    match words {
-        [command, _directory] => command.as_str() == "replay",
-        _ => false,
-    }
-}
 
 // Runs the script in the source over the clouds in the directory.
 fn replay_in<S: Source, K: Sink, V: Shelf>(
@@ -49,38 +54,117 @@ fn replay_in<S: Source, K: Sink, V: Shelf>(
     finish(alloc, &end, sink)
 }
 
-/// Runs the program's words over a source, a sink and a shelf, and answers the status. The words are those after the
-/// program's name; the table of them has `replay DIR`, which runs the script in the source over empty clouds in DIR, and
-/// writes its transcript.
+// Carries out what is asked for, each command by a call of its own.
+fn carry_out<S: Source, K: Sink, V: Shelf, P: Ports>(
+    alloc: Global,
+    command: &Command<'_>,
+    source: &mut S,
+    sink: &mut K,
+    shelf: &mut V,
+    ports: &mut P,
+) -> u8
+    requires { IsFit (asked_of command.now) }
+    ensures { Promises (asked_of command.now) (record {
+      replayed = (ports.new ≡ ports.old) × IsReplayed result (record {
+        script = S.left source.old;
+        left = S.left source.new;
+        source_before = S.faults source.old;
+        source_after = S.faults source.new;
+        sink_before = K.faults sink.old;
+        sink_after = K.faults sink.new;
+        total_before = V.faults shelf.old;
+        total_after = V.faults shelf.new;
+        old = V.cloud_at shelf.old;
+        new = V.cloud_at shelf.new;
+      }) (K.written sink.old) (K.written sink.new);
+      read = λ asked. (source.new ≡ source.old) × (ports.new ≡ ports.old) × IsRead result (record {
+        sink_before = K.faults sink.old;
+        sink_after = K.faults sink.new;
+        total_before = V.faults shelf.old;
+        total_after = V.faults shelf.new;
+        old = V.cloud_at shelf.old;
+        new = V.cloud_at shelf.new;
+      }) asked (K.written sink.old) (K.written sink.new);
+      served = λ asked. (source.new ≡ source.old) × Serves result (serving asked
+          (output_of (K.written sink.old) (K.written sink.new) (K.faults sink.old) (K.faults sink.new))
+          (V.cloud_at shelf.old) (V.cloud_at shelf.new) (V.faults shelf.old) (V.faults shelf.new)
+          (P.tells ports.old) (P.tells ports.new) (P.faults ports.old) (P.faults ports.new));
+      backed_up = λ asked. (shelf.new ≡ shelf.old) × BacksUp result asked
+          (lines_of (P.tells ports.old) (P.tells ports.new) (P.faults ports.old) (P.faults ports.new))
+          (input_of (S.left source.old) (S.faults source.old) (S.faults source.new))
+          (output_by (K.written sink.old) (K.written sink.new) (K.faults sink.old) (K.faults sink.new));
+      restored = λ asked. (source.new ≡ source.old) × (shelf.new ≡ shelf.old) × Restores result asked
+          (lines_of (P.tells ports.old) (P.tells ports.new) (P.faults ports.old) (P.faults ports.new))
+          (K.written sink.old) (K.written sink.new) (K.faults sink.old) (K.faults sink.new);
+      idle = (result ≡ 1) × (source.new ≡ source.old) × (sink.new ≡ sink.old) × (shelf.new ≡ shelf.old)
+          × (ports.new ≡ ports.old);
+    }) }
+{
+    match command {
+        Command::Replay { directory } => replay_in(alloc, directory, source, sink, shelf),
+        Command::Read(asked) => read_in(alloc, asked, sink, shelf),
+        Command::Serve(asked) => serve_in(alloc, asked, sink, shelf, ports),
+        Command::Backup(asked) => backup_to(alloc, asked, source, sink, ports),
+        Command::Restore(asked) => restore_from(alloc, asked, sink, ports),
+        Command::Generate(_) => 1,
+    }
+}
+
+/// Runs the program's words over a source, a sink, a shelf and ports, and answers the status. The words are those after the
+/// program's name.
+///
+/// | Words | |
+/// |---|---|
+/// | `replay DIR` | runs the script in the source over empty clouds in DIR, and writes its transcript |
+/// | `read DIR N K USER PATH VERSION CLOUDS` | writes a version of a file, from the disks of K clouds of DIR alone |
+/// | `serve DIR CLOUD N K ADDR COUNT` | serves COUNT connections to a cloud in DIR, which is begun if it is new |
+/// | `backup USER PATH VERSION ADDR..` | stores the source's bytes on the n clouds behind the addresses |
+/// | `restore USER PATH VERSION ADDR..` | writes a version of a file, from the k clouds behind the addresses |
+///
+/// The last row of the table (`command_words`), `gen`, isn't carried out yet: it is answered as words that are none.
 ///
 /// | Status | Comes | Last line |
 /// |---|---|---|
 /// | 0 | the script was read to its end and each line answered | `done E` |
-/// | 1 | exactly where the words are none of the table; nothing is done then | none |
+/// | 0 | the file was written, or is stored on all clouds; COUNT connections were served | none, `end 1 stored`, `connection COUNT WORD` |
+/// | 1 | exactly where the words are none of the above; nothing is done then | none |
 /// | 2 | a line that was reached is wrong, or a limit is passed; all before it are answered | `script LINE PLACE BYTE` |
 /// | 3 | only where the source's count of faults rose | none |
 /// | 4 | only where the sink's count of faults rose | none |
 /// | 5 | only where the shelf's count rose outside a request and a `restart` | `shelf CLOUD`; none where DIR failed |
 /// | 6 | memory ran out | none |
-/// | 7 | an area of a cloud wasn't empty | `store CLOUD AREA LEN` |
-/// | 7 | the first opening found damage, of a cloud that isn't told | `damaged CLOUD AT BYTE` |
+/// | 7 | replay: an area of a cloud wasn't empty | `store CLOUD AREA LEN` |
+/// | 7 | replay: the first opening found damage, of a cloud that isn't told | `damaged CLOUD AT BYTE` |
+/// | 7 | read: a cloud has no store | `notbegun CLOUD LEN` |
+/// | 7 | read: a cloud's journal is damaged | `damaged CLOUD AT BYTE` |
+/// | 7 | read: a cloud is of another store, or another cloud of it | `other CLOUD FORMAT N K OWN`, as found |
+/// | 7 | read: a cloud has more than the greatest rooms | `rooms CLOUD ROOM LIMIT` |
+/// | 7 | serve: as for a read, but that a store that isn't there is begun | likewise |
+/// | 8 | read, restore: the clouds gave no file; backup, restore: a cloud isn't as asked | `refused ..` |
+/// | 8 | backup: not every cloud has entered the version | `end 1 open` |
+/// | 9 | only where the ports' count of faults rose | none |
 ///
 /// LINE counts from 1, PLACE from 0; BYTE is the byte there in two hexadecimal digits, or `end`. AREA is `journal`, `shares`
 /// or `recipes`, and LEN and AT are in bytes.
 ///
 /// With 3, 4 and 6 a front of the text was written, and else all of it.
-pub fn run<S: Source, K: Sink, V: Shelf>(
+pub fn run<S: Source, K: Sink, V: Shelf, P: Ports>(
     alloc: Global,
     words: &[String],
     source: &mut S,
     sink: &mut K,
     shelf: &mut V,
+    ports: &mut P,
 ) -> u8
-    ensures numbers { result ≤ 7 }
-    // 1 comes exactly where the words are none of the table. Nothing is done then.
-    ensures usage { IsReplay (map string_bytes words.now) → result ≢ 1 }
-    ensures unused { ¬ IsReplay (map string_bytes words.now)
-        → (result ≡ 1) × (source.new ≡ source.old) × (sink.new ≡ sink.old) × (shelf.new ≡ shelf.old) }
+    ensures numbers { result ≤ 9 }
+    ensures replay_numbers { IsReplay (map string_bytes words.now) → result ≤ 7 }
+    // 1 comes exactly where the words are none that are carried out. Nothing is done then.
+    ensures usage { AreBuilt (map string_bytes words.now) → result ≢ 1 }
+    ensures unused { ¬ AreBuilt (map string_bytes words.now)
+        → (result ≡ 1) × (source.new ≡ source.old) × (sink.new ≡ sink.old) × (shelf.new ≡ shelf.old)
+        × (ports.new ≡ ports.old) }
+    // A replay and a read connect to nothing.
+    ensures unconnected { IsReplay (map string_bytes words.now) → ports.new ≡ ports.old }
     // What is written is a session's text, the disks and the replies are that session's, and the status has its cause.
     ensures headline { IsReplay (map string_bytes words.now) → IsReplayed result (record {
       script = S.left source.old;
@@ -107,10 +191,42 @@ pub fn run<S: Source, K: Sink, V: Shelf>(
       old = V.cloud_at shelf.old;
       new = V.cloud_at shelf.new;
     }) → (result ≡ 0) ⊎ (result ≡ 6) }
+    // What is written is what the named clouds' disks give, or why they give nothing, and the status has its cause. The
+    // source isn't touched.
+    ensures read { (asked : AskedRead) → IsCommand (map string_bytes words.now) (ForRead asked)
+        → (source.new ≡ source.old) × (ports.new ≡ ports.old) × IsRead result (record {
+          sink_before = K.faults sink.old;
+          sink_after = K.faults sink.new;
+          total_before = V.faults shelf.old;
+          total_after = V.faults shelf.new;
+          old = V.cloud_at shelf.old;
+          new = V.cloud_at shelf.new;
+        }) asked (K.written sink.old) (K.written sink.new) }
+    // The cloud is served: its list goes on by the requests that came, and each line says how a connection ended. The
+    // source isn't touched.
+    ensures serve { (asked : AskedServe) → IsCommand (map string_bytes words.now) (ForServe asked)
+        → (source.new ≡ source.old) × Serves result (serving asked
+        (output_of (K.written sink.old) (K.written sink.new) (K.faults sink.old) (K.faults sink.new))
+        (V.cloud_at shelf.old) (V.cloud_at shelf.new) (V.faults shelf.old) (V.faults shelf.new)
+        (P.tells ports.old) (P.tells ports.new) (P.faults ports.old) (P.faults ports.new)) }
+    // What is sent on each port is what its cloud's lane asks, what is written is what came, and 0 comes exactly where
+    // each cloud has entered the version. The shelf isn't touched.
+    ensures backup { (asked : AskedFile) → IsCommand (map string_bytes words.now) (ForBackup asked)
+        → (shelf.new ≡ shelf.old) × BacksUp result asked
+        (lines_of (P.tells ports.old) (P.tells ports.new) (P.faults ports.old) (P.faults ports.new))
+        (input_of (S.left source.old) (S.faults source.old) (S.faults source.new))
+        (output_by (K.written sink.old) (K.written sink.new) (K.faults sink.old) (K.faults sink.new)) }
+    // What is written follows from what came on the ports, or says why nothing does. Source and shelf aren't touched.
+    ensures restore { (asked : AskedFile) → IsCommand (map string_bytes words.now) (ForRestore asked)
+        → (source.new ≡ source.old) × (shelf.new ≡ shelf.old) × Restores result asked
+        (lines_of (P.tells ports.old) (P.tells ports.new) (P.faults ports.old) (P.faults ports.new))
+        (K.written sink.old) (K.written sink.new) (K.faults sink.old) (K.faults sink.new) }
 {
-    if !is_replay(words) {
-        return 1;
-    }
-    let directory = words[1].as_str();
-    replay_in(alloc, directory, source, sink, shelf)
+    law_of_words();
+    let command = match read_words(alloc, words) {
+        Ok(Some(command)) => command,
+        Ok(None) => return 1,
+        Err(NoMemory) => return 6,
+    };
+    carry_out(alloc, &command, source, sink, shelf, ports)
 }

@@ -1,34 +1,44 @@
 //! cdstore keeps each file on n clouds so that any k of them give it back.
 //!
 //! The program is thin: it answers `--help` and `--version` by itself, and else hands its words, its standard input, its
-//! standard output and the folders of the disk to `cd_top::run`, and ends with the status that this answers.
+//! standard output, the folders of the disk and the system's sockets to `cd_top::run`, and ends with the status that this
+//! answers.
 #![tactic(auto)]
 
 use cd_top::run;
-use real_edges::{DirShelf, StdSink, StdSource};
+use real_edges::{DirShelf, StdSink, StdSource, TcpPorts};
 use std::env;
 use std::io::ErrorKind;
 use std::process::ExitCode;
+use std::time::Duration;
 
 const HELP: &str = "\
-usage: cdstore replay DIR
+usage: cdstore serve DIR CLOUD N K ADDR COUNT           serve a cloud in DIR, begun if new, for COUNT connections
+       cdstore backup USER PATH VERSION ADDR..          store standard input on the n clouds at these addresses
+       cdstore restore USER PATH VERSION ADDR..         write the version from the k clouds at these addresses
+       cdstore read DIR N K USER PATH VERSION CLOUDS    write the version from the folders of k clouds, such as 0,2,3
+       cdstore replay DIR                               run the script on standard input over empty clouds in DIR
 
-  replay DIR   run the session script on standard input over empty clouds in DIR, and write its transcript
-
-A script's first line is `cdstore 1 N K`, N clouds of which any K give a file back, or, with the most that each cloud
-may hold, `cdstore 1 N K SHARES RECIPES JOURNAL FPS OWNERS FILES`. The others are
+N clouds, of which any K give a file back; addresses in the order of the clouds. A script's first line is
+`cdstore 1 N K`, or, with the most that each cloud may hold,
+`cdstore 1 N K SHARES RECIPES JOURNAL FPS OWNERS FILES`. The others are
   upload USER PATH VERSION BYTES   begin a job, numbered from 1; PATH and BYTES in hexadecimal, - for no bytes
   step JOB CLOUD                   make one request of the job to the cloud
   lose JOB CLOUD                   the same, but the request is lost
   drop JOB CLOUD                   the same, but the reply is lost
   finish JOB                       make all requests that are left, cloud by cloud
   get USER PATH VERSION CLOUDS     read the file back from K clouds, such as 1,2,3
+  list USER CLOUD                  say which versions the user has there
   arm CLOUD CALL KEEP              cut a write or sync of the cloud, the next one being 1; a cut write keeps KEEP bytes
   restart CLOUD                    open the cloud again
+  replace CLOUD                    put an empty cloud in its place
 
-status: 0 done, 1 wrong words, 2 a wrong line, 3 input failed, 4 output failed, 5 a disk failed, 6 out of memory,
-        7 a cloud isn't empty or is damaged
+status: 0 done, 1 wrong words, 2 a wrong line or too long a file, 3 input failed, 4 output failed, 5 a disk failed,
+        6 out of memory, 7 a cloud can't be opened, 8 refused, 9 a connection failed
 ";
+
+// How many seconds the other side of a connection may be silent.
+const PATIENCE: u64 = 600;
 
 const VERSION: &str = "cdstore 0.1.0\n";
 
@@ -61,7 +71,15 @@ fn main(rt: HostRuntime) -> ExitCode {
     let mut source = StdSource::new(rt.stdin());
     let mut sink = StdSink::new(rt.stdout());
     let mut shelf = DirShelf::new(rt);
-    ExitCode::from(run(rt.alloc(), &words, &mut source, &mut sink, &mut shelf))
+    let mut ports = TcpPorts::new(rt.alloc(), &rt).with_patience(Duration::from_secs(PATIENCE));
+    ExitCode::from(run(
+        rt.alloc(),
+        &words,
+        &mut source,
+        &mut sink,
+        &mut shelf,
+        &mut ports,
+    ))
 }
 
 // Prints a text, and answers 0, or 4 where that failed.

@@ -1,8 +1,67 @@
+use Rattle.command_words.specs.Asked.{ForReplay, ForRead, ForServe, ForBackup, ForRestore}
 use Rattle.cd_top.proofs.Completing.{completes}
+use Rattle.cd_top.proofs.Dispatching.{is_replayed, is_read, is_served, is_backed_up, is_restored}
 use Rattle.cd_top.proofs.top.run.Goals as goal
 
-pub returns-clause-unused : goal.returns-clause-unused
-returns-clause-unused g c = λ other. absurd (other (c.is_replay.ensures.0 c.if-not-is_replay.false))
+pub returns-in-Ok-None-clause-headline : goal.returns-in-Ok-None-clause-headline
+returns-in-Ok-None-clause-headline g c = λ replay.
+    absurd ((rw c.in-Ok-None.field-0-is at c.in-Ok-None.ensures.none) (ForReplay replay.0) replay.1)
+
+pub returns-in-Ok-None-clause-complete : goal.returns-in-Ok-None-clause-complete
+returns-in-Ok-None-clause-complete g c = λ replay well.
+    absurd ((rw c.in-Ok-None.field-0-is at c.in-Ok-None.ensures.none) (ForReplay replay.0) replay.1)
+
+pub returns-in-Ok-None-clause-read : goal.returns-in-Ok-None-clause-read
+returns-in-Ok-None-clause-read g c = λ asked is.
+    absurd ((rw c.in-Ok-None.field-0-is at c.in-Ok-None.ensures.none) (ForRead asked) is)
+
+pub returns-in-Ok-None-clause-serve : goal.returns-in-Ok-None-clause-serve
+returns-in-Ok-None-clause-serve g c = λ asked is.
+    absurd ((rw c.in-Ok-None.field-0-is at c.in-Ok-None.ensures.none) (ForServe asked) is)
+
+pub returns-in-Ok-None-clause-backup : goal.returns-in-Ok-None-clause-backup
+returns-in-Ok-None-clause-backup g c = λ asked is.
+    absurd ((rw c.in-Ok-None.field-0-is at c.in-Ok-None.ensures.none) (ForBackup asked) is)
+
+pub returns-in-Ok-None-clause-restore : goal.returns-in-Ok-None-clause-restore
+returns-in-Ok-None-clause-restore g c = λ asked is.
+    absurd ((rw c.in-Ok-None.field-0-is at c.in-Ok-None.ensures.none) (ForRestore asked) is)
+
+pub returns-in-Err-clause-unused : goal.returns-in-Err-clause-unused
+returns-in-Err-clause-unused g c = λ other.
+    absurd (other (ForRead c.in-Err.ensures.memory.0, c.in-Err.ensures.memory.1, tt))
 
 pub returns-clause-complete : goal.returns-clause-complete
-returns-clause-complete g c = λ replays well. completes _ _ _ _ c.replay_in.ensures well
+returns-clause-complete g c = λ replay well.
+    completes _ _ _ _ (is_replayed c.law_of_words.ensures.one _ _
+    (rw c.in-Ok-Some.field-0-is at c.in-Ok-Some.ensures.some) _ c.carry_out.ensures replay).1 well
+
+pub returns-clause-headline : goal.returns-clause-headline
+returns-clause-headline g c = λ replay.
+    (is_replayed c.law_of_words.ensures.one _ _
+    (rw c.in-Ok-Some.field-0-is at c.in-Ok-Some.ensures.some) _ c.carry_out.ensures replay).1
+
+pub returns-clause-unconnected : goal.returns-clause-unconnected
+returns-clause-unconnected g c = λ replay.
+    (is_replayed c.law_of_words.ensures.one _ _
+    (rw c.in-Ok-Some.field-0-is at c.in-Ok-Some.ensures.some) _ c.carry_out.ensures replay).0
+
+pub returns-clause-read : goal.returns-clause-read
+returns-clause-read g c = λ asked other.
+    is_read c.law_of_words.ensures.one _ _
+    (rw c.in-Ok-Some.field-0-is at c.in-Ok-Some.ensures.some) _ c.carry_out.ensures asked other
+
+pub returns-clause-serve : goal.returns-clause-serve
+returns-clause-serve g c = λ asked other.
+    is_served c.law_of_words.ensures.one _ _
+    (rw c.in-Ok-Some.field-0-is at c.in-Ok-Some.ensures.some) _ c.carry_out.ensures asked other
+
+pub returns-clause-backup : goal.returns-clause-backup
+returns-clause-backup g c = λ asked other.
+    is_backed_up c.law_of_words.ensures.one _ _
+    (rw c.in-Ok-Some.field-0-is at c.in-Ok-Some.ensures.some) _ c.carry_out.ensures asked other
+
+pub returns-clause-restore : goal.returns-clause-restore
+returns-clause-restore g c = λ asked other.
+    is_restored c.law_of_words.ensures.one _ _
+    (rw c.in-Ok-Some.field-0-is at c.in-Ok-Some.ensures.some) _ c.carry_out.ensures asked other

@@ -1,0 +1,32 @@
+-- From what one command promises to what the words promise.
+use Rattle.std.proofs.Common.{◌≡◌, ℕ, List, length, map, refl, sym, subst}
+use Rattle.command_words.specs.Asked.{AskedRead, AskedServe, AskedFile, Asked, ForReplay, ForRead, ForServe, ForBackup, ForRestore}
+use Rattle.command_words.specs.Commands.{IsCommand}
+use Rattle.cd_top.specs.Dispatch.{Each, Promises}
+use Rattle.cd_top.specs.Replay.{IsReplay}
+
+abbrev pub Law : Type 0
+Law = (words : List (List ℕ)) (a b : Asked) → IsCommand words a → IsCommand words b → a ≡ b
+
+module _ (one : Law) (words : List (List ℕ)) (asked : Asked) (is : IsCommand words asked)
+    (each : Each) (promises : Promises asked each) where
+  promised : (other : Asked) → IsCommand words other → Promises other each
+  promised other has = subst (λ a. Promises a each) (one words asked other is has) promises
+
+  pub is_replayed : IsReplay words → each.replayed
+  is_replayed replay = promised (ForReplay replay.0) replay.1
+
+  pub is_read : (r : AskedRead) → IsCommand words (ForRead r) → each.read r
+  is_read r other = promised (ForRead r) other
+
+  pub is_served : (s : AskedServe) → IsCommand words (ForServe s) → each.served s
+  is_served s other = promised (ForServe s) other
+
+  pub is_backed_up : (f : AskedFile) → IsCommand words (ForBackup f) → each.backed_up f
+  is_backed_up f other = promised (ForBackup f) other
+
+  pub is_restored : (f : AskedFile) → IsCommand words (ForRestore f) → each.restored f
+  is_restored f other = promised (ForRestore f) other
+
+pub promised_as : (asked other : Asked) → asked ≡ other → (each : Each) → Promises other each → Promises asked each
+promised_as asked other is each promised = subst (λ a. Promises a each) (sym is) promised

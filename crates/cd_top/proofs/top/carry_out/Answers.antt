@@ -1,0 +1,16 @@
+use Rattle.std.proofs.Common.{refl, ap}
+use Rattle.command_words.specs.Views.{asked_of}
+use Rattle.cd_top.proofs.Dispatching.{promised_as}
+use Rattle.cd_top.proofs.top.carry_out.Goals as goal
+
+pub returns-in-Read : goal.returns-in-Read
+returns-in-Read g c = promised_as _ _ (ap asked_of c.in-Read.is) _ (refl, refl, c.read_in.ensures)
+
+pub returns-in-Serve : goal.returns-in-Serve
+returns-in-Serve g c = promised_as _ _ (ap asked_of c.in-Serve.is) _ (refl, c.serve_in.ensures)
+
+pub returns-in-Backup : goal.returns-in-Backup
+returns-in-Backup g c = promised_as _ _ (ap asked_of c.in-Backup.is) _ (refl, c.backup_to.ensures)
+
+pub returns-in-Restore : goal.returns-in-Restore
+returns-in-Restore g c = promised_as _ _ (ap asked_of c.in-Restore.is) _ (refl, refl, c.restore_from.ensures)

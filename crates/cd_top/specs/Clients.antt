@@ -1,0 +1,62 @@
+-- What the words of a client promise: `backup USER PATH VERSION ADDR..` and `restore USER PATH VERSION ADDR..`.
+use Rattle.std.specs.Prelude.{◌≡◌, ℕ, IsTrue, Option, List, length}
+use Rattle.cd_edges.specs.Ports.{Telling}
+use Rattle.command_words.specs.Asked.{AskedFile}
+use Rattle.backup_command.specs.BackedUp as backing
+use Rattle.backup_command.specs.BackedUp.{IsBackedUp}
+use Rattle.backup_command.specs.Reading.{Input}
+use Rattle.backup_command.specs.Writing.{Output}
+use Rattle.restore_command.specs.Calls as restoring
+use Rattle.restore_command.specs.Ends.{IsFetched}
+
+-- what the ports tell before and after, and how often they had failed and have failed
+pub record Lines : Type 0 where
+  pub before : Telling
+  pub after : Telling
+  pub faults_before : ℕ
+  pub faults_after : ℕ
+
+abbrev pub lines_of : Telling → Telling → ℕ → ℕ → Lines
+lines_of before after faults now =
+    record { before = before; after = after; faults_before = faults; faults_after = now }
+
+-- what is asked to be backed up, over these ports
+abbrev pub backup_of : AskedFile → Lines → backing.Call
+backup_of f l = record {
+  user = f.user;
+  path = f.path;
+  version = f.version;
+  addresses = length f.addresses;
+  before = l.before;
+  after = l.after;
+  faults_before = l.faults_before;
+  faults_after = l.faults_after;
+}
+
+-- The file in the source was backed up: what was read, sent, received and written, by the way it ended. Ports that were
+-- open before are as they were.
+pub record BacksUp (status : ℕ) (f : AskedFile) (l : Lines) (input : Input) (out : Output) : Type 0 where
+  pub backed_up : IsBackedUp status (backup_of f l) input out
+  pub others : IsTrue l.before.told → backing.OnlyDialled l.before l.after
+  pub told : l.after.told ≡ l.before.told
+
+-- what is asked to be restored, over these ports
+abbrev pub restore_of : AskedFile → Lines → restoring.Call
+restore_of f l = record {
+  user = f.user;
+  path = f.path;
+  version = f.version;
+  addresses = length f.addresses;
+  before = l.before;
+  after = l.after;
+  faults_before = l.faults_before;
+  faults_after = l.faults_after;
+}
+
+-- A version was restored: what was sent, received and written, by the way it ended. Ports that were open before are as
+-- they were.
+pub record Restores (status : ℕ) (f : AskedFile) (l : Lines) (before after : Option (List ℕ)) (faults now : ℕ)
+    : Type 0 where
+  pub fetched : IsFetched status (restore_of f l) before after faults now
+  pub others : IsTrue l.before.told → restoring.OnlyDialled l.before l.after
+  pub told : l.after.told ≡ l.before.told

@@ -1,0 +1,48 @@
+-- What the words `serve DIR CLOUD N K ADDR COUNT` promise.
+use Rattle.std.specs.Prelude.{◌≡◌, ◌⊎◌, ℕ}
+use Rattle.cd_edges.specs.Causes.{Rose}
+use Rattle.cd_edges.specs.Disk.{Cloud}
+use Rattle.cd_edges.specs.Ports.{Telling}
+use Rattle.cd_edges.specs.Shelf.{IsCall}
+use Rattle.command_words.specs.Asked.{AskedServe}
+use Rattle.serve_command.specs.Complete.{GoesWell}
+use Rattle.serve_command.specs.Served.{Call, IsServed, Output}
+
+-- what is asked for, amid what the outside tells: the sink, the clouds and their count of faults in all, and the ports
+-- with theirs
+abbrev pub serving : AskedServe → Output → (ℕ → Cloud) → (ℕ → Cloud) → ℕ → ℕ → Telling → Telling → ℕ → ℕ → Call
+serving s out old new total total_after tells tells_after ports ports_after = record {
+  shape = s.shape;
+  cloud = s.cloud;
+  address = s.address;
+  count = s.count;
+  out = out;
+  old = old;
+  new = new;
+  total_before = total;
+  total_after = total_after;
+  tells_before = tells;
+  tells_after = tells_after;
+  ports_before = ports;
+  ports_after = ports_after;
+}
+
+-- Nothing was written, no cloud changed, and no port was touched.
+pub record IsUnbegun (call : Call) : Type 0 where
+  pub written : call.out.written_after ≡ call.out.written_before
+  pub sink : call.out.faults_after ≡ call.out.faults_before
+  pub clouds : (cloud : ℕ) → call.new cloud ≡ call.old cloud
+  pub tells : call.tells_after ≡ call.tells_before
+  pub ports : call.ports_after ≡ call.ports_before
+
+-- The cloud was served: its connections, its list, what was written, and the cause of the status. No other cloud was
+-- touched. Where nothing fails, all connections were served, or memory ran out.
+pub record HasServed (status : ℕ) (call : Call) : Type 0 where
+  pub served : IsServed status call
+  pub alone : IsCall call.old call.new call.cloud.0 call.total_before call.total_after
+  pub complete : GoesWell call → (status ≡ 0) ⊎ (status ≡ 6)
+
+-- The whole promise: DIR failed, or the cloud was served.
+pub data Serves (status : ℕ) (call : Call) : Type 0 where
+  NoPlace : status ≡ 5 → IsUnbegun call → Rose call.total_before call.total_after → Serves status call
+  InPlace : HasServed status call → Serves status call

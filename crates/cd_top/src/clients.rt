@@ -1,0 +1,65 @@
+//! Backing up to clouds behind addresses, and restoring from them.
+
+ghost use Rattle.std.specs.Prelude.{◌≡◌};
+ghost use Rattle.command_words.specs.Commands.{FitsFile};
+ghost use Rattle.command_words.specs.Views.{asked_backup, asked_restore};
+ghost use Rattle.backup_command.specs.Reading.{input_of};
+ghost use Rattle.backup_command.specs.Writing.{output_of};
+ghost use Rattle.cd_top.specs.Clients.{BacksUp, Restores, lines_of};
+
+use backup_command::backup;
+use cd_edges::{Ports, Sink, Source};
+use command_words::{BackupWords, RestoreWords};
+use restore_command::restore;
+use std::alloc::Global;
+
+/// Backs the source's bytes up as the version that is asked for, to the clouds behind the addresses, and answers the
+/// status.
+pub fn backup_to<S: Source, K: Sink, P: Ports>(
+    alloc: Global,
+    asked: &BackupWords<'_>,
+    source: &mut S,
+    sink: &mut K,
+    ports: &mut P,
+) -> u8
+    requires { FitsFile 3 (asked_backup asked.now) }
+    ensures { BacksUp result (asked_backup asked.now)
+        (lines_of (P.tells ports.old) (P.tells ports.new) (P.faults ports.old) (P.faults ports.new))
+        (input_of (S.left source.old) (S.faults source.old) (S.faults source.new))
+        (output_of (K.written sink.old) (K.written sink.new) (K.faults sink.old) (K.faults sink.new)) }
+{
+    backup(
+        alloc,
+        asked.user,
+        asked.path,
+        asked.version,
+        asked.addresses,
+        source,
+        sink,
+        ports,
+    )
+}
+
+/// Restores the version that is asked for from the clouds behind the addresses, writes its bytes or why there are none,
+/// and answers the status.
+pub fn restore_from<K: Sink, P: Ports>(
+    alloc: Global,
+    asked: &RestoreWords<'_>,
+    sink: &mut K,
+    ports: &mut P,
+) -> u8
+    requires { FitsFile 2 (asked_restore asked.now) }
+    ensures { Restores result (asked_restore asked.now)
+        (lines_of (P.tells ports.old) (P.tells ports.new) (P.faults ports.old) (P.faults ports.new))
+        (K.written sink.old) (K.written sink.new) (K.faults sink.old) (K.faults sink.new) }
+{
+    restore(
+        alloc,
+        asked.user,
+        asked.path,
+        asked.version,
+        asked.addresses,
+        sink,
+        ports,
+    )
+}
