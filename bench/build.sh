@@ -39,3 +39,23 @@ build() {
     }
     program="$work/crates/$name/out/$name"
 }
+
+# Leaves the program cdstore in $cdstore: the one that CDSTORE names, or else the one that lies in crates/cdstore/out, which is proved
+# and built first where there is none. And it leaves in $hashes the program of hashes.rt.txt.
+programs() {
+    build hashes cd_base hex
+    hashes="$program"
+    cdstore="${CDSTORE:-$top/crates/cdstore/out/cdstore}"
+    [ -x "$cdstore" ] || (cd "$top/crates/cdstore" && rt run -- --version) > "$work/log" 2>&1 || {
+        tail -50 "$work/log"
+        exit 1
+    }
+    echo "the program: $cdstore"
+    export PYTHONPATH="$top/bench" PYTHONDONTWRITEBYTECODE=1
+}
+
+# A file of 64 MiB of noise, $work/sent, and its text, $work/digits.
+noise() {
+    head -c 67108864 /dev/urandom > "$work/sent"
+    python3 -c 'import sys; sys.stdout.write(sys.stdin.buffer.read().hex())' < "$work/sent" > "$work/digits"
+}

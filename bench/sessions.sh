@@ -1,34 +1,64 @@
 #!/usr/bin/env bash
-# Builds the program and times a whole session of one upload of 64 MiB to four clouds in a directory and one get of it from
-# three of them, with the memory that it takes at most, beside the SHA-256 of as many bytes by the library that the program uses.
+# Runs sessions of the program over four clouds in a directory: an upload of 64 MiB alone, the same with a get of it from three of them, and
+# some 10,000 steps of uploads of two bytes, over a folder in memory where there is one (/dev/shm).
 #
-# An upload needs two hashes of the file (the key and the package), one of its four thirds by the client and one by the servers; a
-# get two of the file, and one of each share by the server that reads it and by the client: 8.67 times the file's SHA-256 in all.
+# An upload needs two hashes of the file (the key and the package), one of its four thirds by the client and one by the servers: 4.67
+# times the file's SHA-256. A get needs two of the file, and one of each share by the server that reads it and by the client: 4. What
+# the digits of the script and the transcript need, by the kit's `hex` alone, is taken from the program's time first. The rooms are just
+# large enough, so that the servers' tables are small.
 . "$(dirname "$0")/build.sh"
-size=67108864
-head -c "$size" /dev/urandom | od -An -v -tx1 | tr -d ' \n' > "$work/sent"
+programs
+noise
 {
-    printf 'cdstore 1 4 3\nupload 7 66 1 '
-    cat "$work/sent"
-    printf '\nfinish 1\nget 7 66 1 1,2,3\n'
-} > "$work/script"
-
-build sessions cd_base
-hashed="$("$program" | cut -d ' ' -f 1)"
-
-cd "$top/crates/cdstore"
-echo 'cdstore 1 4 3' | rt run -- replay "$work/none" > "$work/log" 2>&1 || { cat "$work/log"; exit 1; }
-program="$top/crates/cdstore/out/cdstore"
-python3 - "$program" "$work/script" "$work/transcript" "$hashed" "$size" "$work/clouds" <<'PY'
-import resource, subprocess, sys, time
-program, script, transcript, hashed, size, clouds = sys.argv[1:]
-begun = time.time()
-with open(script) as source, open(transcript, "w") as sink:
-    subprocess.run([program, "replay", clouds], stdin=source, stdout=sink, check=True)
-took = (time.time() - begun) * 1e6
-peak = resource.getrusage(resource.RUSAGE_CHILDREN).ru_maxrss * 1024
-hashed, size = float(hashed), int(size)
-print(f"one upload and one get of 64 MiB: {took / 1e6:.2f} s, {size / took:.1f} MB/s; SHA-256 of the file once: {hashed / 1e6:.2f} s")
-print(f"{took / hashed:.2f} times the file's SHA-256, {took / (hashed * 26 / 3):.2f} times the hashes of the session; {peak / size:.2f} bytes of memory a byte of the file")
+    printf 'cdstore 1 4 3 26000000 400000 1000000 8000 8000 1\nupload 7 66 1 '
+    cat "$work/digits"
+    printf '\nfinish 1\n'
+} > "$work/upload"
+{
+    cat "$work/upload"
+    echo 'get 7 66 1 1,2,3'
+} > "$work/both"
+echo 'cdstore 1 4 3 26000000 400000 1000000 8000 8000 1' > "$work/none"
+jobs=834
+{
+    echo 'cdstore 1 4 3 1000000 1000000 1000000 1000 1000 1000'
+    for job in $(seq "$jobs"); do
+        printf 'upload 7 61 %d %04x\n' "$job" "$job"
+        for cloud in 0 1 2 3; do printf "step $job $cloud\nstep $job $cloud\nstep $job $cloud\n"; done
+    done
+} > "$work/small"
+store="$work"
+[ ! -w /dev/shm ] || {
+    store="$(mktemp -d -p /dev/shm)"
+    trap 'rm -rf "$work" "$store"' EXIT
+}
+python3 - "$hashes" "$cdstore" "$work" "$store" "$jobs" <<'PY'
+import shutil, subprocess, sys
+from measure import MIB_64, hashes, run
+program, work, store, jobs = sys.argv[2], sys.argv[3], sys.argv[4], int(sys.argv[5])
+hash, decode, encode = hashes(sys.argv[1])
+print(f"64 MiB: SHA-256 {hash:.2f} s ({MIB_64 / hash / 1e6:.0f} MB/s), digits read {decode:.2f} s, written {encode:.2f} s")
+with open(f"{work}/sent", "rb") as sent:
+    print(subprocess.run("sha256sum", stdin=sent, capture_output=True, text=True).stdout.split()[0][:16], end=": ")
+print(f"the same by sha256sum {run(['sha256sum', f'{work}/sent'])[0]:.2f} s")
+for name, passes, digits in [("none", 0, 0), ("upload", 14 / 3, decode), ("both", 26 / 3, decode + encode)]:
+    used, took, peak = run([program, "replay", f"{work}/clouds"], f"{work}/{name}", f"{work}/transcript")
+    shutil.rmtree(f"{work}/clouds")
+    line = f"{name}: {used:.2f} s of the processor in {took:.2f} s, {peak / MIB_64:.2f} bytes of memory a byte"
+    if passes:
+        line += f"; without digits {(used - digits) / (passes * hash):.2f} times its {passes:.2f} hashes"
+    print(line)
+with open(f"{work}/transcript") as lines, open(f"{work}/digits") as digits:
+    wanted = digits.read()
+    if not any(line == f"got {wanted}\n" for line in lines):
+        raise SystemExit("the get gave something else")
+begun, _, _ = run([program, "replay", f"{store}/none"], f"{work}/none")
+used, took, _ = run([program, "replay", f"{store}/small"], f"{work}/small", f"{work}/transcript")
+with open(f"{work}/transcript") as lines:
+    steps = sum(line.startswith("step ") for line in lines)
+if steps != 12 * jobs:
+    raise SystemExit(f"there were {steps} steps")
+syncs = 24 * jobs
+print(f"{steps} steps in {store}: {(used - begun) / steps * 1e6:.1f} microseconds of the processor a step, {took / steps * 1e6:.1f} in all; "
+      f"they make {syncs} syncs (three a Put and a Commit, none a Query)")
 PY
-sed -n 's/^got //p' "$work/transcript" | tr -d '\n' | cmp - "$work/sent"

@@ -1,0 +1,34 @@
+#!/usr/bin/env bash
+# Backs up 64 MiB to four `serve` processes over the loopback and restores them from the last three: the processor seconds of all processes
+# beside the hashes that they make, 4.67 and 4 of the file. What the servers use before they listen (their tables) is left out, and printed.
+. "$(dirname "$0")/build.sh"
+programs
+head -c 67108864 /dev/urandom > "$work/sent"
+python3 - "$hashes" "$cdstore" "$work" <<'PY'
+import sys
+from measure import Cloud, MIB_64, hashes, run, same, spent
+program, work = sys.argv[2], sys.argv[3]
+hash, _, _ = hashes(sys.argv[1])
+clouds = []
+try:
+    for cloud in range(4):
+        clouds.append(Cloud(program, f"{work}/provider{cloud}", cloud, 1 if cloud == 0 else 2))
+    begun = sum(cloud.begun for cloud in clouds)
+    addresses = [cloud.addr for cloud in clouds]
+    backup, backup_took, backup_peak = run([program, "backup", 7, "f", 1, *addresses], f"{work}/sent", f"{work}/lines")
+    first, _ = clouds[0].end()
+    served = first + sum(spent(cloud.process) - cloud.begun for cloud in clouds[1:])
+    restore, restore_took, restore_peak = run([program, "restore", 7, "f", 1, *addresses[1:]], sink=f"{work}/back")
+    rest = [cloud.end() for cloud in clouds[1:]]
+    given = first + sum(used for used, _ in rest) - served
+finally:
+    for cloud in clouds:
+        cloud.kill()
+if not same(f"{work}/sent", f"{work}/back"):
+    raise SystemExit("the restore gave something else")
+print(f"backup: {backup:.2f} s by the client and {served:.2f} s by the servers, in {backup_took:.2f} s; restore: {restore:.2f} s and {given:.2f} s, "
+      f"in {restore_took:.2f} s; the servers' openings {begun:.2f} s; SHA-256 once {hash:.2f} s")
+print(f"backup {(backup + served) / (14 / 3 * hash):.2f} times its 4.67 hashes, restore {(restore + given) / (4 * hash):.2f} times its 4, "
+      f"both {(backup + served + restore + given) / (26 / 3 * hash):.2f} times")
+print(f"memory a byte: backup {backup_peak / MIB_64:.2f}, restore {restore_peak / MIB_64:.2f}; a server {max(peak for _, peak in rest) / 1e6:.0f} MB")
+PY
