@@ -1,9 +1,6 @@
 #!/usr/bin/env bash
 # Puts a file of 4 MiB of noise on four clouds in a folder, reads it back from each choice of three of them, and compares.
-set -eu
-top="$(cd "$(dirname "$0")/.." && pwd)"
-work="$(mktemp -d)"
-trap 'rm -rf "$work"' EXIT
+. "$(dirname "$0")/program.sh"
 
 head -c 4194304 /dev/urandom | od -An -v -tx1 | tr -d ' \n' > "$work/sent"
 {
@@ -13,8 +10,7 @@ head -c 4194304 /dev/urandom | od -An -v -tx1 | tr -d ' \n' > "$work/sent"
     for clouds in 0,1,2 0,1,3 0,2,3 1,2,3; do echo "get 7 6e6f697365 1 $clouds"; done
 } > "$work/script"
 
-cd "$top/crates/cdstore"
-rt run -- replay "$work/clouds" < "$work/script" > "$work/transcript" 2> "$work/log" || { cat "$work/log"; exit 1; }
+cdstore replay "$work/clouds" < "$work/script" > "$work/transcript" 2> "$work/log" || { cat "$work/log"; exit 1; }
 {
     for _ in 1 2 3 4; do printf 'got '; cat "$work/sent"; printf '\n'; done
     echo 'done 6'

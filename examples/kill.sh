@@ -1,6 +1,6 @@
 #!/usr/bin/env bash
 # Kills the program by `kill -9`, between and inside the lines of a session over four clouds in a folder, and looks at what it left:
-# kill.sh [KILLS].
+# kill.sh [KILLS]. It takes the program that CDSTORE names, or else builds one in a folder of its own.
 #
 # Each journal is then the journal of a session that wasn't killed, up to a place: either it ends there, or the gate there, which that
 # session opened, is still closed. And a new replay over the folder begins with what stands there: it names the first area that has
@@ -8,17 +8,20 @@
 set -eu
 kills="${1:-200}"
 . "$(dirname "$0")/../bench/build.sh"
-cd "$work"
-take cdstore
-cp "$top/HANDLES" HANDLES
-cd crates/cdstore
+if [ -n "${CDSTORE:-}" ]; then
+    program="$CDSTORE"
+else
+    take cdstore
+    cp "$top/HANDLES" "$work/HANDLES"
+    (cd "$work/crates/cdstore" && rt run -- --version) > "$work/log" 2>&1 || { cat "$work/log"; exit 1; }
+    program="$work/crates/cdstore/out/cdstore"
+fi
 printf 'cdstore 1 3 2 90000 90000 90000 900 900 900\n' > "$work/script"
 for job in $(seq 1 40); do
     bytes="$(head -c 3000 /dev/zero | od -An -v -tx1 | tr -d ' \n')$(printf '%06x' "$job")"
     printf 'upload %d 61 %d %s\nstep %d 0\nstep %d 1\nfinish %d\n' "$((job % 3))" "$job" "$bytes" "$job" "$job" "$job"
 done >> "$work/script"
-rt run -- replay "$work/whole" < "$work/script" > "$work/transcript" 2> "$work/log" || { cat "$work/log"; exit 1; }
-program="$PWD/out/cdstore"
+"$program" replay "$work/whole" < "$work/script" > "$work/transcript"
 
 dead=0
 for kill in $(seq 1 "$kills"); do

@@ -1,0 +1,30 @@
+#!/usr/bin/env bash
+# Runs the examples over the program that was built, and ends with status 1 where one of them fails. Where the program or a tool that they
+# need isn't there, it says so, runs nothing and ends with status 0.
+top="$(cd "$(dirname "$0")/.." && pwd)"
+export CDSTORE="${CDSTORE:-$top/crates/cdstore/out/cdstore}"
+[ -x "$CDSTORE" ] || {
+    echo "examples: not run, since there is no program at $CDSTORE"
+    exit 0
+}
+for tool in awk cmp diff find head mktemp od sed seq sha256sum sort stat tail timeout tr; do
+    command -v "$tool" > /dev/null || {
+        echo "examples: not run, since there is no $tool"
+        exit 0
+    }
+done
+
+log="$(mktemp)"
+trap 'rm -f "$log"' EXIT
+status=0
+for example in "round_trip.sh" "any_three.sh" "session.sh" "kill.sh 20" "four_clouds.sh" "folder.sh"; do
+    # shellcheck disable=SC2086
+    if timeout 300 "$top/examples/"$example > "$log" 2>&1; then
+        echo "examples: $example ran"
+    else
+        echo "examples: $example FAILED with status $?"
+        tail -n 20 "$log"
+        status=1
+    fi
+done
+exit "$status"

@@ -1,0 +1,77 @@
+# shellcheck shell=bash
+# What examples over processes share: the program, a folder of their own, and the servers of four clouds. A script begins with
+#
+#     . "$(dirname "$0")/clouds.sh"
+#
+# The program is $CDSTORE, or else the one that was built in crates/cdstore. Cloud C lies below $work/providerC. However the script ends,
+# its servers are ended and $work is removed.
+set -eu
+top="$(cd "$(dirname "${BASH_SOURCE[0]}")/.." && pwd)"
+program="${CDSTORE:-$top/crates/cdstore/out/cdstore}"
+[ -x "$program" ] || {
+    echo "there is no program at $program: build it by 'rt run' in crates/cdstore, or name one by CDSTORE" >&2
+    exit 1
+}
+work="$(mktemp -d)"
+servers=()
+address=()
+
+leave() {
+    trap - EXIT
+    for cloud in "${!servers[@]}"; do
+        kill -9 "${servers[cloud]}" 2> /dev/null || true
+    done
+    wait 2> /dev/null
+    rm -rf "$work"
+}
+trap leave EXIT
+trap 'exit 1' HUP INT TERM
+
+fail() {
+    echo "$*" >&2
+    exit 1
+}
+
+# Starts a cloud's server for so many connections: start CLOUD COUNT. It then listens at ${address[CLOUD]}, a port of the loopback that it
+# could bind: whether a port is free only the bind itself can tell, so another one is tried where it fails.
+start() {
+    local cloud="$1" count="$2" said="$work/said$1" line='' status
+    for _ in 1 2 3 4 5 6 7 8 9 10; do
+        address[cloud]="127.0.0.1:$((20000 + RANDOM % 12000))"
+        : > "$said"
+        "$program" serve "$work/provider$cloud" "$cloud" 4 3 "${address[cloud]}" "$count" > "$said" &
+        servers[cloud]=$!
+        until read -r line < "$said" || ! kill -0 "${servers[cloud]}" 2> /dev/null; do
+            sleep 0.02
+        done
+        [ "$line" != "ready ${address[cloud]}" ] || return 0
+        status=0
+        wait "${servers[cloud]}" || status=$?
+        unset "servers[cloud]"
+        [ "$status" = 9 ] || fail "cloud $cloud ended with status $status: $line"
+    done
+    fail "cloud $cloud found no free port"
+}
+
+# Takes a cloud away, at once and without a word.
+lose() {
+    kill -9 "${servers[$1]}"
+    wait "${servers[$1]}" 2> /dev/null || true
+    unset "servers[$1]"
+}
+
+# Sees each server end by itself with status 0, as it does behind its last connection.
+all_end() {
+    local cloud status
+    for cloud in "${!servers[@]}"; do
+        for _ in $(seq 200); do
+            kill -0 "${servers[cloud]}" 2> /dev/null || break
+            sleep 0.05
+        done
+        ! kill -0 "${servers[cloud]}" 2> /dev/null || fail "cloud $cloud waits for more connections than there were"
+        status=0
+        wait "${servers[cloud]}" || status=$?
+        [ "$status" = 0 ] || fail "cloud $cloud ended with status $status"
+        unset "servers[cloud]"
+    done
+}
