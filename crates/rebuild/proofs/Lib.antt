@@ -9,3 +9,7 @@ pub mod Paging
 pub mod Cutting
 pub mod Turning
 pub mod Landing
+pub mod Stable
+pub mod Joining
+pub mod Staying
+pub mod Going

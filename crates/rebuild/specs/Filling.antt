@@ -90,7 +90,12 @@ BringsTold shape target serve v (Err errors.TargetLost) turns start at end = Lan
 BringsTold shape target serve v (Err e) turns start at end = LaneEnds shape target serve v start turns end (StopsBy e)
 
 -- told or not, its count rose where it failed, and it answers nothing strange
-abbrev pub BringCaused : Result Bool RebuildErr → Peer → Peer → Type 0
+abbrev pub BringCaused : {A : Type 0} → Result A RebuildErr → Peer → Peer → Type 0
 BringCaused (Err errors.TargetFault) start end = Rose start.faults end.faults
 BringCaused (Err (errors.TargetStrange kind)) start end = ⊥
 BringCaused result start end = Unit {0}
+
+-- it is none that a cloud which is read made
+abbrev pub OfTarget : {A : Type 0} → Result A RebuildErr → Type 0
+OfTarget (Err (errors.FromRestore e)) = ⊥
+OfTarget result = Unit {0}

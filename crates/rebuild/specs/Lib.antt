@@ -5,3 +5,5 @@ pub mod Over
 pub mod Kept
 pub mod Steps
 pub mod Filling
+pub mod Entering
+pub mod Several

@@ -2,7 +2,9 @@
 //! to that cloud.
 #![tactic(auto)]
 
+mod entries;
 mod error;
+mod keys;
 mod laws;
 mod listing;
 mod naming;
@@ -10,7 +12,9 @@ mod skips;
 mod target;
 mod versions;
 
+pub use entries::rebuild_entry;
 pub use error::{RebuildErr, SkipWhy};
+pub use keys::rebuild_keys;
 pub use laws::{law_of_found_versions, law_of_pages, law_of_refills};
 pub use listing::fetch_page;
 pub use skips::{Rebuilt, Skip, Skips};

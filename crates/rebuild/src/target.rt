@@ -4,9 +4,10 @@ ghost use Rattle.std.specs.Prelude.{◌≡◌, ◌≤◌, ◌<◌, ◌^◌, ℕ,
 ghost use Rattle.std.specs.List.{Contains};
 ghost use Rattle.cd_base.specs.Limits.{IsPath};
 ghost use Rattle.recipe.specs.Spelling.{file_limit};
-ghost use Rattle.user_dedup.specs.Link.{serves};
-ghost use Rattle.rebuild.specs.Filling.{BringCaused, BringsTold, EndsBy, failed_as, last_of};
-ghost use Rattle.rebuild.specs.Over.{Leads};
+ghost use Rattle.user_dedup.specs.Link.{LeavesOthers, serves};
+ghost use Rattle.rebuild.specs.Entering.{TellsStill};
+ghost use Rattle.rebuild.specs.Filling.{BringCaused, BringsTold, EndsBy, OfTarget, failed_as, last_of};
+ghost use Rattle.rebuild.specs.Over.{Leads, is_lost};
 
 use crate::RebuildErr;
 use cd_base::{Bytes, CloudNo, NoMemory, Shape, UserId, Version};
@@ -98,6 +99,9 @@ pub fn bring<L: Link>(
         (λ before after. BringCaused result (before target.0) (after target.0))
         (λ turns before at after. BringsTold shape target.0 (serves L.tells link.old target.0)
         (record { user = user; path = path.now; number = version; file = file.now }) result turns (before target.0) at (after target.0)) }
+    ensures own { OfTarget result }
+    ensures others { LeavesOthers L.tells target.0 link.old link.new }
+    ensures still { TellsStill L.tells link.old link.new (is_lost result) }
 {
     let mut job = match Job::new(alloc, shape, user, path, version, file) {
         Ok(job) => job,

@@ -12,25 +12,24 @@ use Rattle.user_dedup.specs.Link.{serves}
 use Rattle.lane_steps.specs.Steps.{Heard}
 use Rattle.lane_steps.specs.declared.error.StepErr.{StepErr}
 use Rattle.rebuild.specs.declared.error.RebuildErr.{RebuildErr}
-use Rattle.rebuild.specs.Over.{Leads}
-use Rattle.rebuild.specs.Filling.{BringCaused, BringsTold, EndsBy, failed_as, last_of}
+use Rattle.rebuild.specs.Over.{Leads, is_lost}
+use Rattle.rebuild.specs.Filling.{BringCaused, BringsTold, EndsBy, OfTarget, failed_as, last_of}
+use Rattle.rebuild.proofs.Joining.{ends_own, failed_own, failed_found, still_none, still_by}
 use Rattle.std.proofs.Common.{Bool}
 use Rattle.rebuild.proofs.target.bring.Goals as goal
 
 abbrev bad : RebuildErr → Result Bool RebuildErr
 bad e = Err e
 
-pub returns-in-Err : goal.returns-in-Err
-returns-in-Err g c =
+pub returns-in-Err-clause-brings : goal.returns-in-Err-clause-brings
+returns-in-Err-clause-brings g c =
     let t = g.L.Link.tells in
     let target = c.args.target.0 in
     let link = c.args.link.now in
     let v : FileVersion = record { user = c.args.user; path = c.args.path.now; number = c.args.version; file = c.args.file.now } in
     let lane = lane_of c.args.shape target v in
-    record {
-      brings = λ from apart. target_leads t g.L.Link.talk target from link link _ _ _ (no_others t target link)
-          (λ p stands. memory_moves t g.L.Link.talk c.args.shape target from v link c.requires.shape link lane lane [] [] p refl (refl, refl) refl stands);
-    }
+    λ from apart. target_leads t g.L.Link.talk target from link link _ _ _ (no_others t target link)
+    (λ p stands. memory_moves t g.L.Link.talk c.args.shape target from v link c.requires.shape link lane lane [] [] p refl (refl, refl) refl stands)
 
 pub finish_lane-requires-clause-below : goal.finish_lane-requires-clause-below
 finish_lane-requires-clause-below g c = let e = lanes_long c.args.shape (record { user = c.args.user; path = c.args.path.now; number = c.args.version; file = c.args.file.now }) in let lt = c.requires.within in omega (arith, ap length c.in-Ok.ensures)
@@ -41,8 +40,8 @@ finish_lane-requires-clause-reached g c =
     subst (λ (s : Shape). IsReached s c.in-Ok.job) (sym c.requires.shape)
     (subst (IsReached c.args.shape) (sym c.in-Ok.ensures) (Begun v c.requires.path c.requires.few (omega arith) (omega arith)))
 
-pub returns-in-Ok-finish_lane : goal.returns-in-Ok-finish_lane
-returns-in-Ok-finish_lane g c =
+pub returns-in-Ok-finish_lane-clause-brings : goal.returns-in-Ok-finish_lane-clause-brings
+returns-in-Ok-finish_lane-clause-brings g c =
     let t = g.L.Link.tells in
     let talk = g.L.Link.talk in
     let target = c.args.target.0 in
@@ -52,14 +51,12 @@ returns-in-Ok-finish_lane g c =
     let v : FileVersion = record { user = c.args.user; path = c.args.path.now; number = c.args.version; file = c.args.file.now } in
     let is = ap (λ (l : List LaneView). starting (lane_at l target)) c.in-Ok.ensures ∙ lane_is shape v target c.requires.within in
     let f = c.in-Ok-finish_lane.ensures.finishes in
-    record {
-      brings = λ from apart. target_leads t talk target from old new _ _ _ c.in-Ok-finish_lane.ensures.others
-          (λ p stands. ended_moves t talk shape target from v old c.requires.shape new (starting (lane_at c.in-Ok.job target)) f.1 f.0 f.2 c.ended.result p is f.3 f.4
-          (subst (λ (o : Option LaneNews). EndsBy o c.ended.result) (c.last_news.ensures ∙ ap last_of (c.deref.ensures.value ∙ f.5 ∙ ap (λ (l : List LaneNews). l ++ f.2) c.clear.ensures.items)) c.ended.ensures) stands);
-    }
+    λ from apart. target_leads t talk target from old new _ _ _ c.in-Ok-finish_lane.ensures.others
+    (λ p stands. ended_moves t talk shape target from v old c.requires.shape new (starting (lane_at c.in-Ok.job target)) f.1 f.0 f.2 c.ended.result p is f.3 f.4
+    (subst (λ (o : Option LaneNews). EndsBy o c.ended.result) (c.last_news.ensures ∙ ap last_of (c.deref.ensures.value ∙ f.5 ∙ ap (λ (l : List LaneNews). l ++ f.2) c.clear.ensures.items)) c.ended.ensures) stands)
 
-pub returns : goal.returns
-returns g c =
+pub returns-clause-brings : goal.returns-clause-brings
+returns-clause-brings g c =
     let t = g.L.Link.tells in
     let talk = g.L.Link.talk in
     let target = c.args.target.0 in
@@ -72,12 +69,43 @@ returns g c =
     let f = c.in-Err-finish_lane.ensures.finishes in
     let below : target < length c.in-Ok.job = (let all = lanes_long shape v in let lt = c.requires.within in omega (arith, ap length c.in-Ok.ensures)) in
     let here = lane_still (Heard t talk target) c.in-Ok.job target f.1 old f.3 f.0 below f.4 in
-    record {
-      brings = λ from apart.
-          let result : Result Bool RebuildErr = Err c.failed.result in
-          let due : result ≡ Err (failed_as e) = ap (λ (x : RebuildErr). bad x) c.failed.ensures in
-          let clause : Result Bool RebuildErr → Type 0 = λ r. Leads t talk target from old new r (λ before after. BringCaused r (before target) (after target)) (λ turns before at after. BringsTold shape target (serves t old target) v r turns (before target) at (after target)) in
-          subst clause (sym due)
-          (target_leads t talk target from old new (Err (failed_as e)) _ _ c.in-Err-finish_lane.ensures.others
-          (λ p stands. step_moves t talk shape target from v old c.requires.shape f.3 new (with_state c.in-Ok.job target f.1.lane.state) c.finish_lane.new.job (starting (lane_at c.in-Ok.job target)) f.1 f.0 f.2 p e here f.7 is f.4 f.5 stands f.8));
-    }
+    λ from apart.
+    let result : Result Bool RebuildErr = Err c.failed.result in
+    let due : result ≡ Err (failed_as e) = ap (λ (x : RebuildErr). bad x) c.failed.ensures in
+    let clause : Result Bool RebuildErr → Type 0 = λ r. Leads t talk target from old new r (λ before after. BringCaused r (before target) (after target)) (λ turns before at after. BringsTold shape target (serves t old target) v r turns (before target) at (after target)) in
+    subst clause (sym due)
+    (target_leads t talk target from old new (Err (failed_as e)) _ _ c.in-Err-finish_lane.ensures.others
+    (λ p stands. step_moves t talk shape target from v old c.requires.shape f.3 new (with_state c.in-Ok.job target f.1.lane.state) c.finish_lane.new.job (starting (lane_at c.in-Ok.job target)) f.1 f.0 f.2 p e here f.7 is f.4 f.5 stands f.8))
+
+pub returns-in-Err-clause-own : goal.returns-in-Err-clause-own
+returns-in-Err-clause-own g c = tt
+
+pub returns-in-Err-clause-others : goal.returns-in-Err-clause-others
+returns-in-Err-clause-others g c = no_others g.L.Link.tells c.args.target.0 c.args.link.now
+
+pub returns-in-Err-clause-still : goal.returns-in-Err-clause-still
+returns-in-Err-clause-still g c = still_none g.L.Link.tells c.args.link.now
+
+pub returns-in-Ok-finish_lane-clause-own : goal.returns-in-Ok-finish_lane-clause-own
+returns-in-Ok-finish_lane-clause-own g c = (ends_own _ c.ended.result c.ended.ensures).0
+
+pub returns-in-Ok-finish_lane-clause-others : goal.returns-in-Ok-finish_lane-clause-others
+returns-in-Ok-finish_lane-clause-others g c = c.in-Ok-finish_lane.ensures.others
+
+pub returns-in-Ok-finish_lane-clause-still : goal.returns-in-Ok-finish_lane-clause-still
+returns-in-Ok-finish_lane-clause-still g c =
+    let e = c.in-Ok-finish_lane.ensures in
+    still_by g.L.Link.tells c.args.target.0 c.args.link.now c.finish_lane.new.link _ e.others e.later
+    (λ h. ((ends_own _ c.ended.result c.ended.ensures).1, (e.lossless h).1))
+
+pub returns-clause-own : goal.returns-clause-own
+returns-clause-own g c = subst (λ (x : RebuildErr). OfTarget (bad x)) (sym c.failed.ensures) (failed_own c.in-Err-finish_lane.e)
+
+pub returns-clause-others : goal.returns-clause-others
+returns-clause-others g c = c.in-Err-finish_lane.ensures.others
+
+pub returns-clause-still : goal.returns-clause-still
+returns-clause-still g c =
+    let e = c.in-Err-finish_lane.ensures in
+    still_by g.L.Link.tells c.args.target.0 c.args.link.now c.finish_lane.new.link _ e.others e.later
+    (λ h. (ap (λ (x : RebuildErr). is_lost (bad x)) c.failed.ensures ∙ failed_found c.in-Err-finish_lane.e (e.lossless h).0, (e.lossless h).1))

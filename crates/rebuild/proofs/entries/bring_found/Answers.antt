@@ -1,0 +1,71 @@
+use Rattle.std.proofs.Common.{◌∙◌, Bool, [], Option, Some, Result, Ok, Err, sym, ap, subst}
+use Rattle.cd_base.specs.declared.ids.Tag.{Tag}
+use Rattle.cd_base.specs.declared.ids.Version.{Version}
+use Rattle.user_dedup.proofs.Owned.{contains_nothing}
+use Rattle.rebuild.specs.Steps.{found_of}
+use Rattle.rebuild.specs.declared.error.SkipWhy.{SkipWhy}
+use Rattle.rebuild.specs.declared.error.RebuildErr.{RebuildErr}
+use Rattle.user_dedup.specs.Link.{serves}
+use Rattle.upload_job.specs.Upload.{FileVersion}
+use Rattle.rebuild.specs.Over.{Leads}
+use Rattle.rebuild.specs.Entering.{EntryBrought, entered_as}
+use Rattle.rebuild.specs.Filling.{BringCaused}
+use Rattle.rebuild.proofs.Joining.{skipped_leads, leads_as, then_err, entered_told, refused_told, bring_caused_as, version_is}
+use Rattle.rebuild.proofs.entries.bring_found.Goals as goal
+
+abbrev came : Bool → Result Bool RebuildErr
+came entered = Ok entered
+
+abbrev refused : RebuildErr → Result Bool RebuildErr
+refused e = Err e
+
+abbrev ok : Option SkipWhy → Result (Option SkipWhy) RebuildErr
+ok skip = Ok skip
+
+pub returns-in-Ok-clause-brings : goal.returns-in-Ok-clause-brings
+returns-in-Ok-clause-brings g c tag =
+    let t = g.L.Link.tells in
+    let talk = g.L.Link.talk in
+    let target = c.args.target.0 in
+    let old = c.args.link.now in
+    let new = c.bring.new.link in
+    let serve = serves t old target in
+    let key : Tag × Version = (tag, c.args.version) in
+    let v : FileVersion = record { user = c.args.user; path = c.as_slice.result.now; number = c.args.version; file = c.as_slice-in-Version.result.now } in
+    let clause : Result FileVersion SkipWhy → Option SkipWhy → Type 0 = λ f s. Leads t talk target [] old new (ok s) (λ before after. BringCaused (ok s) (before target) (after target))
+    (λ turns before at after. EntryBrought c.args.shape target serve key f (ok s) turns (before target) at (after target)) in
+    subst (λ (f : Result FileVersion SkipWhy). clause f c.skip_of.result) (sym (ap (found_of c.args.user key) c.in-Version.is ∙ version_is c.args.user c.args.version _ _ _ _ c.as_slice.ensures c.as_slice-in-Version.ensures))
+    (subst (λ (s : Option SkipWhy). clause (Ok v) s) (sym c.skip_of.ensures)
+    (leads_as t talk target [] old new (came c.in-Ok.entered) (ok (entered_as c.in-Ok.entered)) _ _ _ _ (c.in-Ok.ensures.brings [] (λ has. contains_nothing target has)) (λ last p q x. x) (λ a b x. tt)
+    (λ turns a at b x. entered_told c.args.shape target serve key v c.in-Ok.entered turns (a target) at (b target) x)))
+
+pub returns-in-Err-clause-brings : goal.returns-in-Err-clause-brings
+returns-in-Err-clause-brings g c tag =
+    let t = g.L.Link.tells in
+    let talk = g.L.Link.talk in
+    let target = c.args.target.0 in
+    let old = c.args.link.now in
+    let new = c.bring.new.link in
+    let serve = serves t old target in
+    let key : Tag × Version = (tag, c.args.version) in
+    let e : RebuildErr = c.in-Err.e in
+    let r : Result (Option SkipWhy) RebuildErr = Err e in
+    let v : FileVersion = record { user = c.args.user; path = c.as_slice.result.now; number = c.args.version; file = c.as_slice-in-Version.result.now } in
+    let clause : Result FileVersion SkipWhy → Type 0 = λ f. Leads t talk target [] old new r (λ before after. BringCaused r (before target) (after target))
+    (λ turns before at after. EntryBrought c.args.shape target serve key f r turns (before target) at (after target)) in
+    subst clause (sym (ap (found_of c.args.user key) c.in-Version.is ∙ version_is c.args.user c.args.version _ _ _ _ c.as_slice.ensures c.as_slice-in-Version.ensures))
+    (leads_as t talk target [] old new (refused e) r _ _ _ _ (c.in-Err.ensures.brings [] (λ has. contains_nothing target has)) (λ last p q x. then_err Bool (Option SkipWhy) t target last new p q e x) (λ a b x. bring_caused_as Bool (Option SkipWhy) e (a target) (b target) x)
+    (λ turns a at b x. refused_told c.args.shape target serve key v e turns (a target) at (b target) x))
+
+pub returns-in-Skipped-clause-brings : goal.returns-in-Skipped-clause-brings
+returns-in-Skipped-clause-brings g c tag =
+    let t = g.L.Link.tells in
+    let talk = g.L.Link.talk in
+    let target = c.args.target.0 in
+    let link = c.args.link.now in
+    let serve = serves t link target in
+    let key : Tag × Version = (tag, c.args.version) in
+    let r : Result (Option SkipWhy) RebuildErr = Ok (Some c.in-Skipped.why) in
+    let clause : Result FileVersion SkipWhy → Type 0 = λ f. Leads t talk target [] link link r (λ before after. BringCaused r (before target) (after target))
+    (λ turns before at after. EntryBrought c.args.shape target serve key f r turns (before target) at (after target)) in
+    subst clause (sym (ap (found_of c.args.user key) c.in-Skipped.is)) (skipped_leads t talk target link c.args.shape serve key c.in-Skipped.why)

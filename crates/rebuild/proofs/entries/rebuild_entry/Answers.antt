@@ -1,0 +1,61 @@
+use Rattle.std.proofs.Common.{[], List, Option, Result, Err, sym, subst}
+use Rattle.cd_base.specs.Numbers.{numbers_of}
+use Rattle.cd_base.specs.declared.ids.Tag.{Tag}
+use Rattle.cd_base.specs.declared.ids.Version.{Version}
+use Rattle.messages.specs.declared.request.Request.{Request}
+use Rattle.user_dedup.proofs.Owned.{contains_later}
+use Rattle.user_dedup.specs.Dedup.{Outcome}
+use Rattle.user_dedup.specs.Link.{serves}
+use Rattle.user_dedup.specs.declared.command.Command.{Command}
+use Rattle.rebuild.specs.declared.error.RebuildErr.{RebuildErr}
+use Rattle.rebuild.specs.declared.error.SkipWhy.{SkipWhy}
+use Rattle.rebuild.specs.Entering.{EntryBrought, EntryTold, stopped_as}
+use Rattle.rebuild.specs.Filling.{BringCaused}
+use Rattle.rebuild.specs.Over.{Causes, Leads}
+use Rattle.rebuild.specs.Steps.{found_of}
+use Rattle.rebuild.proofs.Joining.{read_then, read_stops, then_stopped, stopped_caused, stopped_told, own_caused, found_brought, serves_same}
+use Rattle.rebuild.proofs.entries.rebuild_entry.Goals as goal
+
+abbrev bad : RebuildErr → Result (Option SkipWhy) RebuildErr
+bad e = Err e
+
+pub find_version-requires-clause-reached : goal.find_version-requires-clause-reached
+find_version-requires-clause-reached g c cloud has = c.requires.reached cloud (contains_later c.args.target.0 (numbers_of c.args.clouds.now) cloud has)
+
+pub returns-in-Ok-clause-rebuilt : goal.returns-in-Ok-clause-rebuilt
+returns-in-Ok-clause-rebuilt g c =
+    let t = g.L.Link.tells in
+    let talk = g.L.Link.talk in
+    let target = c.args.target.0 in
+    let from = numbers_of c.args.clouds.now in
+    let old = c.args.link.now in
+    let mid = c.find_version.new.link in
+    let new = c.bring_found.new.link in
+    let key : Tag × Version = (c.args.tag, c.args.version) in
+    let r : Result (Option SkipWhy) RebuildErr = c.bring_found.result in
+    let asked = c.in-Ok.ensures.asked in
+    let own = c.bring_found.ensures.own in
+    let apart = c.requires.apart in
+    let second = subst (λ (serve : List Command → Request → Outcome). Leads t talk target [] mid new r (λ before after. BringCaused r (before target) (after target))
+    (λ turns before at after. EntryBrought c.args.shape target serve key (found_of c.args.user key c.in-Ok.found) r turns (before target) at (after target))) (serves_same t target old mid asked.shape asked.full)
+    (c.bring_found.ensures.brings c.args.tag) in
+    read_then t talk target from old mid new r _ _ _ _ _ _ apart (asked.asks, asked.passed) asked.told c.in-Ok.ensures.told second
+    (λ a b d one leaves x y. own_caused t old target r (b target) a d own (one.others target apart) y)
+    (λ turns a b at d one leaves x y. found_brought c.args.shape c.args.user target (serves t old target) from key c.in-Ok.found r turns a b at d apart own one leaves x y)
+
+pub returns-in-Err-clause-rebuilt : goal.returns-in-Err-clause-rebuilt
+returns-in-Err-clause-rebuilt g c =
+    let t = g.L.Link.tells in
+    let talk = g.L.Link.talk in
+    let target = c.args.target.0 in
+    let from = numbers_of c.args.clouds.now in
+    let old = c.args.link.now in
+    let new = c.find_version.new.link in
+    let serve = serves t old target in
+    let key : Tag × Version = (c.args.tag, c.args.version) in
+    let e = c.in-Err.e in
+    let asked = c.in-Err.ensures.asked in
+    let apart = c.requires.apart in
+    subst (λ (x : RebuildErr). Leads t talk target from old new (bad x) (Causes t old target (bad x)) (EntryTold c.args.shape c.args.user target serve from key (bad x))) (sym c.stopped.ensures)
+    (read_stops t talk target from old new (bad (stopped_as e)) _ _ _ _ apart (asked.asks, asked.passed) c.in-Err.ensures.told (λ p q same. then_stopped (Option SkipWhy) t target new p q e same)
+    (λ a b one x. stopped_caused (Option SkipWhy) t old target e a b x) (λ a b one x. stopped_told c.args.shape c.args.user target serve from key e a b (one.others target apart) x))

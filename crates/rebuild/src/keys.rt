@@ -1,0 +1,105 @@
+//! Some entries of the first cloud, one after another.
+
+ghost use Rattle.std.specs.Prelude.{◌≡◌, ◌<◌, ◌+◌, ◌∷◌, [], ℕ, IsTrue, MatchOption, OnOk};
+ghost use Rattle.std.specs.List.{Contains};
+ghost use Rattle.cd_base.specs.Numbers.{numbers_of};
+ghost use Rattle.reed_solomon.specs.Dispersal.{AreChoice};
+ghost use Rattle.user_dedup.specs.Link.{serves};
+ghost use Rattle.rebuild.specs.Entering.{TellsStill, noted};
+ghost use Rattle.rebuild.specs.Over.{Causes, HandsOn, Leads, is_lost};
+ghost use Rattle.rebuild.specs.Several.{KeysTold, progress_of};
+
+use crate::{RebuildErr, Rebuilt, Skip, SkipWhy, rebuild_entry};
+use cd_base::{Bytes, CloudNo, NoMemory, Shape, Tag, UserId, Version};
+use frames::ReplyBuf;
+use std::alloc::Global;
+use upload_job::LaneNews;
+use user_dedup::Link;
+
+// Counts a version more.
+fn count(files: &mut u32) -> Result<(), NoMemory>
+    ensures { OnOk result (files.new ≡ files.old + 1) }
+{
+    match files.checked_add(1) {
+        Some(more) => {
+            *files = more;
+            Ok(())
+        }
+        None => Err(NoMemory),
+    }
+}
+
+// Notes what became of an entry.
+fn note(
+    rebuilt: &mut Rebuilt,
+    tag: Tag,
+    version: Version,
+    skip: Option<SkipWhy>,
+) -> Result<(), NoMemory>
+    ensures { OnOk result (progress_of rebuilt.new ≡ noted (tag, version) skip (progress_of rebuilt.old)) }
+{
+    match skip {
+        None => count(&mut rebuilt.files),
+        Some(why) => rebuilt.skipped.push(Skip { tag, version, why }),
+    }
+}
+
+// The first key and the others.
+fn next_key(keys: &[(Tag, Version)]) -> Option<(Tag, Version, &[(Tag, Version)])>
+    ensures { MatchOption result (keys.now ≡ []) (λ x. keys.now ≡ (x.0, x.1) ∷ x.2.now) }
+{
+    match keys {
+        [] => None,
+        [key, more @ ..] => Some((key.0, key.1, more)),
+    }
+}
+
+/// Brings the target what k clouds, of which it is none, have under these keys, one after another, as `rebuild_entry` does,
+/// and notes each version that is entered there or skipped.
+///
+/// An error is that of the entry that stopped it; NoMemory comes also where the versions entered are more than a u32
+/// counts. Nothing is said then of what is noted. Nothing is said of what is left in `content`, `reply` and `told`.
+pub fn rebuild_keys<L: Link>(
+    alloc: Global,
+    link: &mut L,
+    shape: Shape,
+    user: UserId,
+    target: CloudNo,
+    keys: &[(Tag, Version)],
+    clouds: &[CloudNo],
+    content: &mut Bytes,
+    reply: &mut ReplyBuf,
+    told: &mut Vec<LaneNews>,
+    rebuilt: &mut Rebuilt,
+) -> Result<(), RebuildErr>
+    requires shape { L.tells.shape link.old ≡ shape }
+    requires reached { (cloud : ℕ) → Contains (target.0 ∷ numbers_of clouds.now) cloud
+        → IsTrue (L.tells.reaches link.old cloud) }
+    requires choice { AreChoice shape (numbers_of clouds.now) }
+    requires within { target.0 < shape.n }
+    requires apart { ¬ Contains (numbers_of clouds.now) target.0 }
+    ensures rebuilt { Leads L.tells L.talk target.0 (numbers_of clouds.now) link.old link.new result
+        (Causes L.tells link.old target.0 result)
+        (KeysTold shape user target.0 (serves L.tells link.old target.0) (numbers_of clouds.now) keys.now
+        (progress_of rebuilt.old) (progress_of rebuilt.new) result) }
+    ensures hands_on { HandsOn (numbers_of clouds.now) result }
+    ensures still { TellsStill L.tells link.old link.new (is_lost result) }
+{
+    match next_key(keys) {
+        Some((tag, version, more)) => {
+            match rebuild_entry(
+                alloc, link, shape, user, target, tag, version, clouds, content, reply, told,
+            ) {
+                Ok(skip) => match note(rebuilt, tag, version, skip) {
+                    Ok(()) => rebuild_keys(
+                        alloc, link, shape, user, target, more, clouds, content, reply, told,
+                        rebuilt,
+                    ),
+                    Err(NoMemory) => Err(RebuildErr::NoMemory),
+                },
+                Err(e) => Err(e),
+            }
+        }
+        None => Ok(()),
+    }
+}
