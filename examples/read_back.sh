@@ -1,6 +1,6 @@
 #!/usr/bin/env bash
 # Puts a real file on four clouds in a folder by `replay`, deletes the folder of each cloud in turn, and reads the file from the other
-# three by `read`, which compares nothing with what was before: read_back.sh [FILE]. A file may have 67,108,864 bytes.
+# three by `read`, from the disks alone: read_back.sh [FILE]. A file may have 67,108,864 bytes.
 . "$(dirname "$0")/program.sh"
 file="$(cd "$(dirname "${1:-$top/README.md}")" && pwd)/$(basename "${1:-$top/README.md}")"
 {
