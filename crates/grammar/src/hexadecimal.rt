@@ -37,7 +37,7 @@ fn decode_block(text: &[u8], out: &mut [u8]) -> bool
 pub fn decode(alloc: Global, text: &[u8]) -> Result<Option<Bytes>, NoMemory>
     ensures { IfOk result (λ bytes. bytes ≡ unhex text.now) }
 {
-    let mut bytes = Bytes::new(alloc);
+    let mut bytes = Bytes::with_capacity(alloc, text.len() / 2)?;
     let mut block = [0; BLOCK];
     let mut rest = text;
     while rest.len() >= 2 {

@@ -1,5 +1,6 @@
 -- Ports that are dialled one after another.
-use Rattle.std.proofs.Common.{◌≡◌, ◌≢◌, ℕ, ◌<◌, List, [], ◌∷◌, ◌++◌, refl, sym, ◌∙◌, ap, subst, arith}
+use Rattle.std.proofs.Common.{◌≡◌, ◌≢◌, ℕ, ◌<◌, List, [], ◌∷◌, ◌++◌, inl, inr, refl, sym, ◌∙◌, ap, subst, arith}
+use Rattle.std.proofs.lemmas.Bool.{cases_eq}
 use Rattle.std.specs.Prelude.{All}
 use Rattle.std.proofs.lemmas.List.Elements.{All-nil, All-head, All-tail, All-push, All-weaker}
 use Rattle.cd_edges.specs.Ports.{Telling, Port, Opens}
@@ -14,6 +15,16 @@ pub dials_more : (old t u : Telling) (ports : List ℕ) (port : ℕ) → Dials o
     → Dials old (ports ++ port ∷ []) u
 dials_more old t u [] port d opens = (u, subst (λ (x : Telling). Opens x u port) d opens, refl)
 dials_more old t u (first ∷ ports) port d opens = (d.0, d.1, dials_more d.0 t u ports port d.2 opens)
+
+-- nothing comes by it
+pub coming_more : (old t u : Telling) (port : ℕ) → Opens t u port
+    → ((p : ℕ) → (t.port p).to_come ≡ (old.port p).to_come) → (p : ℕ) → (u.port p).to_come ≡ (old.port p).to_come
+coming_more old t u port opens before p =
+    elim (cases_eq p port) [
+      | inl same ↦ subst (λ (n : ℕ). (u.port n).to_come ≡ (old.port n).to_come) (sym same)
+          (opens.to_come ∙ before port)
+      | inr apart ↦ ap (λ (x : Port). x.to_come) (opens.others p apart) ∙ before p
+    ]
 
 pub stands_none : (t : Telling) → Stands t []
 stands_none t = record { fresh = record { apart = tt; silent = All-nil _ }; below = All-nil _ }

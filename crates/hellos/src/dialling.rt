@@ -27,7 +27,8 @@ fn next_address(addresses: &[String]) -> Option<(&str, &[String])>
 
 /// Dials the addresses in order, and answers the ports in the same order. `Failed` comes only where the ports' count of
 /// faults rose. After
-/// an error some addresses were dialled, in order.
+/// an error some addresses were dialled, in order. Nothing comes on a port by dialling: what is to come on each is what
+/// was to come there before.
 pub fn dial_all<P: Ports>(
     alloc: Global,
     ports: &mut P,
@@ -40,6 +41,8 @@ pub fn dial_all<P: Ports>(
         → OnErr result ((dialled : List ℕ) × Dials (P.tells ports.old) dialled (P.tells ports.new)) }
     ensures fresh { IsTrue (P.tells ports.old).told
         → IfOk result (λ dialled. AreFresh (P.tells ports.new) dialled.items) }
+    ensures coming { IsTrue (P.tells ports.old).told → (port : ℕ)
+        → ((P.tells ports.new).port port).to_come ≡ ((P.tells ports.old).port port).to_come }
     ensures told { (P.tells ports.new).told ≡ (P.tells ports.old).told }
     ensures later { P.faults ports.old ≤ P.faults ports.new }
     ensures cause { CountsDials (P.faults ports.old) (P.faults ports.new) result }

@@ -19,13 +19,14 @@ passes : (old mid new : Telling) (port : ℕ) (ended : Served) (requests replies
 passes old mid new port ended requests replies opens has =
     let p = has.passed in
     let went : (new.port port).sent ≡ has.went = p.went_is ∙ ap (λ (l : List ℕ). l ++ has.went) opens.fresh in
-    let at_port : HasBytes (new.port port) (of_end ended requests replies) = record {
+    let at_port : HasBytes (old.port port) (new.port port) (of_end ended requests replies) = record {
       came = has.came;
+      came_is = sym opens.to_come ∙ p.came_is;
       ends = subst (λ (w : List ℕ). EndsBy ended has.came requests replies w (new.port port).to_come) (sym went)
           has.ends;
     } in record {
       opened = omega (arith, p.opened, opens.opened);
-      bytes = subst (λ (n : ℕ). HasBytes (new.port n) (of_end ended requests replies)) opens.next at_port;
+      bytes = subst (λ (n : ℕ). HasBytes (old.port n) (new.port n) (of_end ended requests replies)) opens.next at_port;
       others = λ other apart.
           p.others other (λ same. apart (same ∙ opens.next)) ∙ opens.others other (λ same. apart (same ∙ opens.next));
     }
@@ -45,25 +46,29 @@ one_served step old mid new port first last ended opens told serves = record {
 
 -- ---- many
 
-have_more : (now : Telling) (number : ℕ) (all : List Connection) (last : Connection) → HaveBytes now number all
-    → HasBytes (now.port (number + length all)) last → HaveBytes now number (all ++ last ∷ [])
-have_more now number [] last have has =
+have_more : (old now : Telling) (number : ℕ) (all : List Connection) (last : Connection) → HaveBytes old now number all
+    → HasBytes (old.port (number + length all)) (now.port (number + length all)) last
+    → HaveBytes old now number (all ++ last ∷ [])
+have_more old now number [] last have has =
     let same : number + 0 ≡ number = omega arith in
-    (subst (λ (n : ℕ). HasBytes (now.port n) last) same has, tt)
-have_more now number (first ∷ all) last have has =
-    let same : number + length (first ∷ all) ≡ number + 1 + length all = omega arith in
-    (have.0, have_more now (number + 1) all last have.1 (subst (λ (n : ℕ). HasBytes (now.port n) last) same has))
+    (subst (λ (n : ℕ). HasBytes (old.port n) (now.port n) last) same has, tt)
+have_more old now number (first ∷ all) last have has =
+    let same : number + length (first ∷ all) ≡ number + 1 + length all = omega arith in (
+      have.0,
+      have_more old now (number + 1) all last have.1
+          (subst (λ (n : ℕ). HasBytes (old.port n) (now.port n) last) same has),
+    )
 
 -- another port changed
-have_still : (old new : Telling) (number changed : ℕ) (all : List Connection) → number + length all ≤ changed
-    → ((other : ℕ) → other ≢ changed → new.port other ≡ old.port other) → HaveBytes old number all
-    → HaveBytes new number all
-have_still old new number changed [] within others have = tt
-have_still old new number changed (first ∷ all) within others have =
+have_still : (start old new : Telling) (number changed : ℕ) (all : List Connection) → number + length all ≤ changed
+    → ((other : ℕ) → other ≢ changed → new.port other ≡ old.port other) → HaveBytes start old number all
+    → HaveBytes start new number all
+have_still start old new number changed [] within others have = tt
+have_still start old new number changed (first ∷ all) within others have =
     let apart : number ≢ changed = omega arith in
     let more : number + 1 + length all ≤ changed = omega arith in (
-      subst (λ (p : Port). HasBytes p first) (sym (others number apart)) have.0,
-      have_still old new (number + 1) changed
+      subst (λ (p : Port). HasBytes (start.port number) p first) (sym (others number apart)) have.0,
+      have_still start old new (number + 1) changed
           all more others have.1,
     )
 
@@ -85,10 +90,14 @@ module _ (old mid new : Telling) (all : List Connection) (last : Connection) (pa
   passed_more =
       let within : old.opened + length all ≤ mid.opened = omega (arith, passed.opened) in
       let many : length (all ++ last ∷ []) ≡ length all + 1 = length-append all (last ∷ []) in
+      let outside : mid.opened ≤ mid.opened = omega arith in
+      let as_before : HasBytes (old.port mid.opened) (new.port mid.opened) last =
+      subst (λ (p : Port). HasBytes p (new.port mid.opened) last) (passed.others mid.opened (inr outside))
+      next.bytes in
       record {
         opened = omega (arith, next.opened, passed.opened, many);
-        bytes = have_more new old.opened all last
-            (have_still mid new old.opened mid.opened all within next.others passed.bytes)
-            (subst (λ (n : ℕ). HasBytes (new.port n) last) passed.opened next.bytes);
+        bytes = have_more old new old.opened all last
+            (have_still old mid new old.opened mid.opened all within next.others passed.bytes)
+            (subst (λ (n : ℕ). HasBytes (old.port n) (new.port n) last) passed.opened as_before);
         others = others_more;
       }

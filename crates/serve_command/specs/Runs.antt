@@ -21,22 +21,25 @@ pub data Runs {S : Type 0} (step : S → List ℕ → List ℕ → S → Type 0)
       → EndsWithCause connection.ended count after
       → Runs step first before (connections ++ connection ∷ []) last after
 
--- These bytes came on a connection's port. Those that were sent there are what is told as sent, and what is told to
--- come didn't come. They are as its end says of its requests and replies.
-pub record HasBytes (now : Port) (connection : Connection) : Type 0 where
+-- These bytes came on a connection's port: they are the first of what was to come there before it was open, and the
+-- rest is still to come. Those that were sent there are what is told as sent. They are as its end says of its requests
+-- and replies.
+pub record HasBytes (old now : Port) (connection : Connection) : Type 0 where
   pub came : List ℕ
+  pub came_is : old.to_come ≡ came ++ now.to_come
   pub ends : EndsBy connection.ended came connection.requests connection.replies now.sent now.to_come
 
 -- The connections have the ports from this number on.
-abbrev pub HaveBytes : Telling → ℕ → List Connection → Type 0
-HaveBytes now number [] = Unit {0}
-HaveBytes now number (connection ∷ more) = HasBytes (now.port number) connection × HaveBytes now (number + 1) more
+abbrev pub HaveBytes : Telling → Telling → ℕ → List Connection → Type 0
+HaveBytes old now number [] = Unit {0}
+HaveBytes old now number (connection ∷ more) =
+    HasBytes (old.port number) (now.port number) connection × HaveBytes old now (number + 1) more
 
 -- What the ports tell in the end: the next ports were opened, one for each connection in order, with its bytes. Each
 -- other port is as it was.
 pub record HavePassed (old new : Telling) (connections : List Connection) : Type 0 where
   pub opened : new.opened ≡ old.opened + length connections
-  pub bytes : HaveBytes new old.opened connections
+  pub bytes : HaveBytes old new old.opened connections
   pub others : (number : ℕ) → (number < old.opened) ⊎ (new.opened ≤ number) → new.port number ≡ old.port number
 
 -- Connections that ended so were served, from a state to a state and from a count of the ports' faults to a count.

@@ -33,7 +33,7 @@ moment_of server clouds total tells = record { server = server; clouds = clouds;
 -- The next port was opened, and has the connection's bytes. No other port changes.
 pub record PassesNext (old new : Telling) (connection : Connection) : Type 0 where
   pub opened : new.opened ≡ old.opened + 1
-  pub bytes : HasBytes (new.port old.opened) connection
+  pub bytes : HasBytes (old.port old.opened) (new.port old.opened) connection
   pub others : OthersStay old new old.opened
 
 -- One connection was served, from a state to a state.

@@ -1,4 +1,4 @@
-use Rattle.std.proofs.Common.{◌≡◌, ◌+◌, length, IsTrue}
+use Rattle.std.proofs.Common.{◌≡◌, ◌+◌, ℕ, length, IsTrue}
 use Rattle.hellos.specs.Dialled.{Dials}
 use Rattle.hellos.proofs.Opening.{Stands}
 use Rattle.hellos.proofs.dialling.dial_all.Given as goal
@@ -8,6 +8,8 @@ invariant-addresses g l = record {
   many : length l.dialled.items + length l.rest ≡ length l.addresses;
   dials : IsTrue (g.P.Ports.tells l.fn.ports).told → Dials (g.P.Ports.tells l.fn.ports) l.dialled.items
       (g.P.Ports.tells l.ports);
+  coming : IsTrue (g.P.Ports.tells l.fn.ports).told → (port : ℕ)
+      → ((g.P.Ports.tells l.ports).port port).to_come ≡ ((g.P.Ports.tells l.fn.ports).port port).to_come;
   stands : IsTrue (g.P.Ports.tells l.fn.ports).told → Stands (g.P.Ports.tells l.ports) l.dialled.items;
   told : (g.P.Ports.tells l.ports).told ≡ (g.P.Ports.tells l.fn.ports).told;
   still : g.P.Ports.faults l.ports ≡ g.P.Ports.faults l.fn.ports;
