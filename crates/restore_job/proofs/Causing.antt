@@ -16,7 +16,7 @@ use Rattle.user_dedup.specs.declared.command.Command.{Command}
 use Rattle.user_dedup.specs.Exec.{Peer}
 use Rattle.user_dedup.specs.Link.{LinkTelling}
 use Rattle.user_dedup.proofs.Owned.{contains_here, contains_later, contains_cases, contains_nothing}
-use Rattle.restore_job.specs.Asking.{MayRead, TellsAll, Leads}
+use Rattle.restore_job.specs.Asking.{MayRead, TellsAll, Leads, is_loss}
 use Rattle.restore_job.specs.Refusals.{Names, Caused, Causes}
 use Rattle.restore_job.specs.Restored
 use Rattle.restore_job.specs.Restored.{recipe_in, or_else, difference, differing}
@@ -317,6 +317,21 @@ differing_names cloud recipe (c ∷ clouds) (r ∷ recipes) x y place e = go (di
         let a : cloud ≡ x = cc in
         let b : c ≡ y = cc in
         (subst (Contains (cloud ∷ c ∷ clouds)) a (contains_here cloud (c ∷ clouds)), subst (Contains (cloud ∷ c ∷ clouds)) b (contains_later cloud (c ∷ clouds) c (contains_here c clouds)))
+
+pub compared_found : (cloud : ℕ) (recipe : Recipe) (clouds : List ℕ) (others : List Recipe) (e : RestoreErr) → Compares cloud recipe clouds others (Err e) → is_loss e ≡ false
+compared_found cloud recipe clouds others (errors.RecipesDiffer a b place) x = refl
+compared_found cloud recipe clouds others (errors.Missing c) x = absurd x
+compared_found cloud recipe clouds others (errors.Lost c) x = absurd x
+compared_found cloud recipe clouds others (errors.CloudFault c) x = absurd x
+compared_found cloud recipe clouds others (errors.CloudDamaged c at byte) x = absurd x
+compared_found cloud recipe clouds others (errors.CloudRotten c named found) x = absurd x
+compared_found cloud recipe clouds others (errors.CloudNoMemory c) x = absurd x
+compared_found cloud recipe clouds others (errors.Strange c kind) x = absurd x
+compared_found cloud recipe clouds others (errors.ShareLength c secret found wanted) x = absurd x
+compared_found cloud recipe clouds others (errors.BadShare c secret named found) x = absurd x
+compared_found cloud recipe clouds others (errors.BadSecret secret named found) x = absurd x
+compared_found cloud recipe clouds others (errors.BadPad secret at byte) x = absurd x
+compared_found cloud recipe clouds others errors.NoMemory x = absurd x
 
 pub compared_names : (cloud : ℕ) (recipe : Recipe) (clouds : List ℕ) (recipes : List Recipe) (e : RestoreErr) → Compares cloud recipe clouds recipes (Err e) → Names (Contains (cloud ∷ clouds)) e
 compared_names cloud recipe clouds recipes (errors.Missing c) differs = absurd differs

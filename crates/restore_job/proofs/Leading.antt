@@ -167,6 +167,7 @@ pub asked_none : {L : Type 0} (t : LinkTelling L) (clouds : List ℕ) (link : L)
 asked_none t clouds link = record {
   asks = [];
   passed = refl;
+  others = λ cloud p out stands. stands;
   reaches = refl;
   shape = refl;
   told = refl;
@@ -180,6 +181,7 @@ pub asked_on : {L : Type 0} (t : LinkTelling L) (clouds : List ℕ) (old mid new
 asked_on t clouds old mid new loss one two = record {
   asks = one.asks ++ two.asks;
   passed = passes_on t clouds old mid new one.asks two.asks one.passed two.passed;
+  others = λ cloud p out stands. two.others cloud p out (one.others cloud p out stands);
   reaches = two.reaches ∙ one.reaches;
   shape = two.shape ∙ one.shape;
   told = two.told ∙ one.told;
@@ -194,6 +196,7 @@ pub asked_in : {L : Type 0} (t : LinkTelling L) (few clouds : List ℕ) (old new
 asked_in t few clouds old new loss all one = record {
   asks = one.asks;
   passed = passes_in t few clouds old new one.asks all one.passed;
+  others = λ cloud p out stands. one.others cloud p (λ has. out (all cloud has)) stands;
   reaches = one.reaches;
   shape = one.shape;
   told = one.told;
@@ -221,6 +224,7 @@ pub asked_once : {L : Type 0} (t : LinkTelling L) (old new : L) (e : Exchange) (
 asked_once t old new e loss reading passes others later lost lossless = record {
   asks = e ∷ [];
   passed = ((contains_here e.cloud [], reading), (new, passes, refl));
+  others = λ cloud p out stands. others.stands cloud p (λ same. out (subst (λ (x : ℕ). Contains (e.cloud ∷ []) x) (sym same) (contains_here e.cloud []))) stands;
   reaches = others.reaches;
   shape = others.shape;
   told = others.told;

@@ -72,11 +72,12 @@ abbrev pub is_lost : {A : Type 0} → Result A RestoreErr → Bool
 is_lost (Ok x) = false
 is_lost (Err e) = is_loss e
 
--- A link after some asks of these clouds, each of which adds nothing: what it tells beside its clouds stays. An ask is lost only where the count of losses rose, and never where
--- the link tells that it loses nothing, which it then tells still.
+-- A link after some asks of these clouds, each of which adds nothing: the others stand for what they stood for, whatever these stand for, and what the link tells beside its
+-- clouds stays. An ask is lost only where the count of losses rose, and never where the link tells that it loses nothing, which it then tells still.
 pub record Asked {L : Type 0} (t : LinkTelling L) (clouds : List ℕ) (old new : L) (loss : Bool) : Type 0 where
   pub asks : List Exchange
   pub passed : Passes t (ReadsFrom clouds) old asks new
+  pub others : (cloud : ℕ) (p : Peer) → (Contains clouds cloud → ⊥) → t.stands old cloud p → t.stands new cloud p
   pub reaches : t.reaches new ≡ t.reaches old
   pub shape : t.shape new ≡ t.shape old
   pub told : t.told new ≡ t.told old

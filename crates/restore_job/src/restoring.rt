@@ -185,7 +185,8 @@ pub fn restore<L: Link>(
         (Causes L.tells link.old shape user (record { 0 = tag_at shape path.now }, version) result)
         (Restores shape user (record { 0 = tag_at shape path.now }, version) clouds.now result out.old out.new) }
 
-    // An ask is lost only where the link's count of losses rose, and never where it tells that it loses nothing.
+    // The other clouds stay, whatever these stand for. An ask is lost only where the link's count of losses rose, and never
+    // where it tells that it loses nothing.
     ensures asked { Asked L.tells clouds.now link.old link.new (is_lost result) }
 
     // A refusal names no other clouds.

@@ -54,7 +54,8 @@ pub fn fetch_version<L: Link>(
     requires shape { L.tells.shape link.old ≡ shape }
     requires reached { (cloud : ℕ) → Contains (numbers_of clouds.now) cloud → IsTrue (L.tells.reaches link.old cloud) }
 
-    // An ask is lost only where the link's count of losses rose, and never where it tells that it loses nothing.
+    // The other clouds stay, whatever these stand for. An ask is lost only where the link's count of losses rose, and never
+    // where it tells that it loses nothing.
     ensures asked { Asked L.tells (numbers_of clouds.now) link.old link.new (is_lost result) }
 
     // From all that the clouds stood for they went on: only these clouds were read. Of told clouds the recipes are those of

@@ -12,7 +12,9 @@ use Rattle.restore_job.specs.Refusals.{Names}
 use Rattle.restore_job.specs.Steps.{AreItemsAt}
 use Rattle.restore_job.specs.Brought.{AreSecrets, Agree, Appends}
 use Rattle.restore_job.proofs.Bringing.{none_differs}
-use Rattle.restore_job.proofs.Causing.{compared_names}
+use Rattle.restore_job.specs.Asking.{is_loss}
+use Rattle.restore_job.proofs.Causing.{compared_found, compared_names}
+use Rattle.restore_job.proofs.Leading.{asked_as, asked_none}
 use Rattle.restore_job.proofs.Ending.{agreed_as, agreed_differs, agreed_items, agreed_unmade, items_as, fits_items}
 use Rattle.std.proofs.Common.{Result, rules}
 use Rattle.cd_base.specs.declared.ids.UserId.{UserId}
@@ -71,6 +73,12 @@ returns-clause-told g c =
     (others_long c.args.clouds.now c.in-Some.others.now c.args.recipes.now c.in-Some.rest.now c.in-Some.first c.in-Some.recipe.now c.in-Some.ensures.clouds c.in-Some.ensures.recipes c.requires.pairs) c.in-Ok.ensures.compares
     (items_as t c.args.shape c.args.user c.args.link.now c.restore_items.new.link c.args.out.now c.restore_items.new.out (Err c.in-Err-restore_items.e) (c.in-Some.first.0 ∷ numbers_of c.in-Some.others.now) (numbers_of c.args.clouds.now) (c.in-Some.recipe.now ∷ c.in-Some.rest.now) c.args.recipes.now
     c.in-Some.recipe.now.items c.as_slice-firsts.result.now (ap numbers_of c.in-Some.ensures.clouds) c.in-Some.ensures.recipes c.as_slice-firsts.ensures c.in-Err-restore_items.ensures.told))
+
+pub returns-in-Err-clause-asked : goal.returns-in-Err-clause-asked
+returns-in-Err-clause-asked g c =
+    let clouds = numbers_of c.args.clouds.now in
+    asked_as g.L.Link.tells clouds c.args.link.now c.args.link.now _ (is_loss c.in-Err.e)
+    (sym (compared_found c.in-Some.first.0 c.in-Some.recipe.now (numbers_of c.in-Some.others.now) c.in-Some.rest.now c.in-Err.e c.in-Err.ensures.compares)) (asked_none g.L.Link.tells clouds c.args.link.now)
 
 pub returns-in-Err-clause-named : goal.returns-in-Err-clause-named
 returns-in-Err-clause-named g c =
