@@ -12,7 +12,8 @@ use Rattle.lane_requests.specs.Reached.{IsReached}
 use Rattle.lane_requests.specs.Runs.{Turn, Progress, starting, moved, request_of, progress_after, LaneRun, LaneAlong, Tell, lane_at, left_of}
 use Rattle.lane_requests.proofs.Measure.{falls}
 use Rattle.lane_steps.specs.declared.error.StepErr.{StepErr}
-use Rattle.lane_steps.specs.Steps.{Heard, LaneSteps, Finishes, stops_by, tells_lack}
+use Rattle.lane_steps.specs.declared.error.StepErr.TheVariants as errors
+use Rattle.lane_steps.specs.Steps.{Heard, LaneSteps, Finishes, LosesBy, stops_by, tells_lack}
 use Rattle.lane_steps.proofs.Telling.{stops_told, lacks_told}
 use Rattle.lane_steps.proofs.Views.{request_here, length_with, lane_with, with_twice, with_same}
 use Rattle.lane_steps.proofs.Runs.{along_more, tell_more, run_of, others_on}
@@ -214,6 +215,15 @@ finishes_failed t talk cloud old views before mid now lacked told error new afte
   subst (λ (o : Option Request). LaneSteps t talk cloud mid (with_state views cloud (lane_at now cloud).state) o (Err error) new after) (request_here now cloud)
       (subst (λ (l : List LaneView). LaneSteps t talk cloud mid l (request_at now cloud) (Err error) new after) a.now_is steps),
 )
+
+-- a step that lost its ask, behind others that didn't
+pub loses_by : {L : Type 0} (t : LinkTelling L) (talk : L → ℕ → Talk → Type 0) (cloud : ℕ) (old : L) (views : List LaneView) (before : List LaneNews) (mid : L) (now : List LaneView) (lacked : Bool) (told : List LaneNews)
+    (one : Option Request) (error : StepErr) (new : L) (after : List LaneView) → Along t talk cloud old views before mid now lacked told → LaneSteps t talk cloud mid now one (Err error) new after
+    → LosesBy {A = Unit {0}} (Err error) (t.losses old) (t.losses new)
+loses_by t talk cloud old views before mid now lacked told None errors.Lost new after a steps = absurd steps
+loses_by t talk cloud old views before mid now lacked told (Some request) errors.Lost new after a steps = let x = a.later in let y = steps.0.rose in omega (arith, y)
+loses_by t talk cloud old views before mid now lacked told one (errors.Strange kind) new after a steps = tt
+loses_by t talk cloud old views before mid now lacked told one errors.NoMemory new after a steps = tt
 
 -- ---- the measure
 

@@ -119,6 +119,11 @@ abbrev pub IsFound : {A : Type 0} → Result A StepErr → Type 0
 IsFound (Err errors.Lost) = ⊥
 IsFound result = Unit {0}
 
+-- an ask was lost only where the count of losses rose
+abbrev pub LosesBy : {A : Type 0} → Result A StepErr → ℕ → ℕ → Type 0
+LosesBy (Err errors.Lost) before after = Rose before after
+LosesBy result before after = Unit {0}
+
 -- ---- a lane to its end
 
 -- What a lane that went on answers, and where link and job are then, with what was told before and what is

@@ -3,7 +3,7 @@
 ghost use Rattle.std.specs.Prelude.{◌≡◌, ◌<◌, ◌≤◌, length, IsTrue};
 ghost use Rattle.user_dedup.specs.Link.{LeavesOthers};
 ghost use Rattle.lane_requests.specs.Reached.{IsReached};
-ghost use Rattle.lane_steps.specs.Steps.{Finishes, IsFound};
+ghost use Rattle.lane_steps.specs.Steps.{Finishes, IsFound, LosesBy};
 
 use crate::news::{has_lacked, make_room, stops, tell};
 use crate::{StepErr, step_lane};
@@ -17,8 +17,8 @@ use user_dedup::Link;
 /// out, or the second time that the cloud lacks a share. Behind a failed device the lane keeps its request,
 /// and may be brought on again.
 ///
-/// An error is that of the step that made it, as `step_lane` says. `told` has then the news of each step
-/// before it, by which the lane moved.
+/// An error is that of the step that made it, as `step_lane` says: `Lost` comes only where the link's count of
+/// losses rose. `told` has then the news of each step before it, by which the lane moved.
 pub fn finish_lane<L: Link>(
     link: &mut L,
     job: &mut Job,
@@ -35,6 +35,7 @@ pub fn finish_lane<L: Link>(
     ensures reached { IsReached (L.tells.shape link.old) job.new }
     ensures others { LeavesOthers L.tells lane.0 link.old link.new }
     ensures later { L.tells.losses link.old ≤ L.tells.losses link.new }
+    ensures lost { LosesBy result (L.tells.losses link.old) (L.tells.losses link.new) }
     ensures lossless { IsTrue (L.tells.lossless link.old) → IsFound result × IsTrue (L.tells.lossless link.new) }
 {
     let mut lacked = false;

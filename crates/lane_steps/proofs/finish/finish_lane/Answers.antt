@@ -4,7 +4,7 @@ use Rattle.upload_job.specs.Lanes.{request_at}
 use Rattle.lane_steps.specs.declared.error.StepErr.TheVariants as errors
 use Rattle.lane_steps.specs.Steps.{LaneSteps, Finishes}
 use Rattle.lane_steps.proofs.Asking.{step_unbegun}
-use Rattle.lane_steps.proofs.Finishing.{along_none, along_on, step_tells, finishes_stopped, finishes_done, finishes_failed, less_left}
+use Rattle.lane_steps.proofs.Finishing.{along_none, along_on, step_tells, finishes_stopped, finishes_done, finishes_failed, loses_by, less_left}
 use Rattle.lane_steps.proofs.finish.finish_lane.Goals as goal
 
 pub requests-init : goal.requests-init
@@ -74,3 +74,11 @@ returns-in-Err-clause-finishes g c =
     subst (λ (all : List LaneNews). Finishes t talk cloud c.args.link.now c.args.job.now c.args.told.now.items (Err errors.NoMemory) l.link l.job all) (sym c.make_room.ensures.items)
     (finishes_failed t talk cloud c.args.link.now c.args.job.now c.args.told.now.items l.link l.job l.lacked l.told.items errors.NoMemory l.link l.job l.invariant
     (step_unbegun t talk cloud l.link l.job (request_at l.job cloud)))
+
+pub returns-in-Err-step_lane-clause-lost : goal.returns-in-Err-step_lane-clause-lost
+returns-in-Err-step_lane-clause-lost g c =
+    let t = g.L.Link.tells in
+    let talk = g.L.Link.talk in
+    let cloud = c.args.lane.0 in
+    let l = c.requests in
+    loses_by t talk cloud c.args.link.now c.args.job.now c.args.told.now.items l.link l.job l.lacked l.told.items (request_at l.job cloud) c.in-Err-step_lane.e c.step_lane.new.link c.step_lane.new.job l.invariant c.in-Err-step_lane.ensures.steps
