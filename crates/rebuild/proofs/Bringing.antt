@@ -234,7 +234,7 @@ has_key shape cloud list user path version file keeps =
     let found = found_entry files (key_of shape path version) some.0 some.1 in
     subst (λ (k : Tag × Version). Contains (sorted_keys (map key_of_entry files)) k) found.0 (sorted_has (map key_of_entry files) (key_of_entry some.0) (contains_map key_of_entry files some.0 found.1))
 
-first_in : (shape : Shape) (from : List ℕ) → length from ≡ shape.k → Contains from (first_of from)
+pub first_in : (shape : Shape) (from : List ℕ) → length from ≡ shape.k → Contains from (first_of from)
 first_in shape [] count = absurd (let a = shape.several in omega arith)
 first_in shape (cloud ∷ from) count = contains_here cloud from
 

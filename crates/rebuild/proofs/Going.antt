@@ -25,9 +25,9 @@ use Rattle.rebuild.specs.declared.error.RebuildErr.TheVariants as errors
 use Rattle.rebuild.specs.Found.{Finding}
 use Rattle.rebuild.specs.Rebuilding.{Progressed, BringsAll, BringsOne, IsFront, LeavesBut, StopsAs}
 use Rattle.rebuild.specs.Filling.{GoesOn}
-use Rattle.rebuild.specs.Over.{Causes, HandsOn, Leads, ReadCaused, TargetAlong, ThenLost, is_lost}
+use Rattle.rebuild.specs.Over.{Asked, Causes, HandsOn, Leads, ReadCaused, TargetAlong, ThenLost, is_lost}
 use Rattle.rebuild.specs.Steps.{IsFound, ReadEnds}
-use Rattle.rebuild.specs.Entering.{EntryFound, EntryStops, EntryTold, TellsStill, noted}
+use Rattle.rebuild.specs.Entering.{EntryFound, EntryStops, EntryTold, noted}
 use Rattle.rebuild.specs.Several.{AllFound, KeysBrought, KeysCut, KeysTold, keys_of}
 use Rattle.rebuild.proofs.Cutting.{goes_on, with_first}
 use Rattle.rebuild.proofs.Joining.{Between, ByTurns, along_read, leads_as, serves_same, then_err}
@@ -184,7 +184,7 @@ faults_grow from target a b leaves x =
       | inr ne ↦ (leaves.read x ne).1.faults
     ]
 
-ends_before : (from : List ℕ) (e : RestoreErr) (a b c : ℕ → Peer) → ((x : ℕ) → (a x).faults ≤ (b x).faults) → ReadEnds from e b c → ReadEnds from e a c
+pub ends_before : (from : List ℕ) (e : RestoreErr) (a b c : ℕ → Peer) → ((x : ℕ) → (a x).faults ≤ (b x).faults) → ReadEnds from e b c → ReadEnds from e a c
 ends_before from (refusals.Missing x) a b c grow y = y
 ends_before from (refusals.Lost x) a b c grow y = y
 ends_before from (refusals.CloudFault x) a b c grow y = (y.0, rose_on (a x.0).faults (b x.0).faults (c x.0).faults (grow x.0) y.1)
@@ -301,7 +301,7 @@ module _ (shape : Shape) (user : UserId) (target : ℕ) (serve : List Command �
 
   -- ---- an entry stopped it
 
-  not_begun : (keys : List (Tag × Version)) (r : Progressed) (turns : List (Turn Peer)) (a b : ℕ → Peer) → turns ≡ [] → b target ≡ a target → KeysBrought shape user target serve from keys r r turns a b
+  pub not_begun : (keys : List (Tag × Version)) (r : Progressed) (turns : List (Turn Peer)) (a b : ℕ → Peer) → turns ≡ [] → b target ≡ a target → KeysBrought shape user target serve from keys r r turns a b
   not_begun keys r turns a b none same = record {
     found = [];
     front = record { rest = keys; split = refl };
@@ -326,7 +326,7 @@ module _ (shape : Shape) (user : UserId) (target : ℕ) (serve : List Command �
     goes = goes;
   }
 
-  cut_none : (keys : List (Tag × Version)) (r : Progressed) (turns : List (Turn Peer)) (a : ℕ → Peer) (at : Peer) (b : ℕ → Peer) → r.stop ≡ None → turns ≡ [] → at ≡ a target → KeysCut shape user target serve from keys r turns a at b
+  pub cut_none : (keys : List (Tag × Version)) (r : Progressed) (turns : List (Turn Peer)) (a : ℕ → Peer) (at : Peer) (b : ℕ → Peer) → r.stop ≡ None → turns ≡ [] → at ≡ a target → KeysCut shape user target serve from keys r turns a at b
   cut_none keys r turns a at b none empty same =
       cut_ahead keys r turns a at b [] none (record { rest = keys; split = refl }) (λ f has. absurd (contains_nothing f has))
       (λ fs. subst (λ (l : List (Turn Peer)). GoesOn shape target serve fs r (a target) l at) (sym empty)
@@ -408,12 +408,12 @@ module _ {L : Type 0} (t : LinkTelling L) (talk : L → ℕ → Talk → Type 0)
   keys_done link r = leads_still t talk target from link (tt {0}) _ _ (λ a. tt {0}) (λ a. keys_none shape user target (serves t link target) from apart r a)
 
   pub keys_then : (old mid new : L) (key : Tag × Version) (more : List (Tag × Version)) (skip : Option SkipWhy) (r next : Progressed) (result : Result (Unit {0}) RebuildErr) → EntryLeads old mid key (ok_of skip)
-      → TellsStill t old mid false → KeysLeads (serves t mid target) mid new more (noted key skip r) next result → KeysLeads (serves t old target) old new (key ∷ more) r next result
-  keys_then old mid new key more skip r next result first still second =
+      → Asked t target from old mid false → KeysLeads (serves t mid target) mid new more (noted key skip r) next result → KeysLeads (serves t old target) old new (key ∷ more) r next result
+  keys_then old mid new key more skip r next result first asked second =
       let serve : List Command → Request → Outcome = serves t old target in
-      leads_then t talk target from old mid new skip result _ _ (Causes t old target result) _ _ (KeysTold shape user target serve from (key ∷ more) r next result) first still.told
-      (subst (λ (s : List Command → Request → Outcome). KeysLeads s mid new more (noted key skip r) next result) (serves_same t target old mid still.shape still.full) second)
-      (λ a b c one two x y. causes_before t old mid target result a b c still.told (faults_grow from target a b one) y)
+      leads_then t talk target from old mid new skip result _ _ (Causes t old target result) _ _ (KeysTold shape user target serve from (key ∷ more) r next result) first asked.told
+      (subst (λ (s : List Command → Request → Outcome). KeysLeads s mid new more (noted key skip r) next result) (serves_same t target old mid asked.shape asked.full) second)
+      (λ a b c one two x y. causes_before t old mid target result a b c asked.told (faults_grow from target a b one) y)
       (λ us vs a b at c one two x y. keys_step shape user target serve from apart key more skip r next result us vs a b at c one two x y)
 
   pub keys_failed : (old new : L) (key : Tag × Version) (more : List (Tag × Version)) (r next : Progressed) (e : RebuildErr) → r.stop ≡ None → EntryLeads old new key (Err e) → KeysLeads (serves t old target) old new (key ∷ more) r next (Err e)

@@ -1,5 +1,5 @@
 -- One entry: the clouds that are read, and then the target.
-use Rattle.std.proofs.Common.{◌≡◌, ℕ, ◌≤◌, Bool, true, false, cond, List, [], ◌∷◌, ◌++◌, Option, Some, None, Result, Ok, Err, refl, sym, ap, ◌∙◌, subst, inl, inr, arith}
+use Rattle.std.proofs.Common.{◌≡◌, ℕ, Bool, true, false, cond, List, [], ◌∷◌, ◌++◌, Option, Some, None, Result, Ok, Err, refl, sym, ap, ◌∙◌, subst, inl, inr}
 use Rattle.std.specs.Prelude.{IsTrue, ◌==◌}
 use Rattle.std.specs.List.{Contains}
 use Rattle.cd_edges.specs.Causes.{Rose}
@@ -11,7 +11,7 @@ use Rattle.messages.specs.declared.request.Request.{Request}
 use Rattle.user_dedup.specs.declared.command.Command.{Command}
 use Rattle.user_dedup.specs.Dedup.{Outcome}
 use Rattle.user_dedup.specs.Exec.{Peer, CountsOn}
-use Rattle.user_dedup.specs.Link.{LinkTelling, Exchange, Talk, Passes, ReadsFrom, LeavesOthers, serves}
+use Rattle.user_dedup.specs.Link.{LinkTelling, Exchange, Talk, Passes, ReadsFrom, serves}
 use Rattle.user_dedup.specs.Exec.{served}
 use Rattle.user_dedup.proofs.Owned.{contains_here, contains_later, contains_cases, contains_nothing}
 use Rattle.upload_job.specs.declared.news.LaneNews.{LaneNews}
@@ -36,7 +36,7 @@ use Rattle.rebuild.specs.Rebuilding.{LeavesBut, lane_ended, up_to}
 use Rattle.rebuild.specs.Filling.{BringsTold, BringCaused, EndsBy, OfTarget, LaneEnds, StopsBy, failed_as}
 use Rattle.rebuild.specs.Over.{Reading, TargetAlong, ThenLost, Leads, Causes, HandsOn, ReadCaused, is_lost}
 use Rattle.rebuild.specs.Steps.{IsFound, FindsTold, ReadEnds, found_of, skip_as}
-use Rattle.rebuild.specs.Entering.{EntryBrought, EntryFound, EntryStops, EntryTold, TellsStill, entered_as, stopped_as}
+use Rattle.rebuild.specs.Entering.{EntryBrought, EntryFound, EntryStops, EntryTold, entered_as, stopped_as}
 use Rattle.rebuild.proofs.Stable.{SameOn, missing_same, version_same}
 
 -- ---- the target's own results
@@ -72,30 +72,6 @@ pub failed_found : (e : StepErr) → StepFound {A = Unit {0}} (Err e) → is_los
 failed_found step_errors.Lost found = absurd found
 failed_found (step_errors.Strange kind) found = refl
 failed_found step_errors.NoMemory found = refl
-
-pub still_none : {L : Type 0} (t : LinkTelling L) (link : L) → TellsStill t link link false
-still_none t link = record { reaches = refl; shape = refl; told = refl; full = refl; later = omega arith; lossless = λ h. (refl, h) }
-
-pub still_by : {L : Type 0} (t : LinkTelling L) (cloud : ℕ) (old new : L) (loss : Bool) → LeavesOthers t cloud old new → t.losses old ≤ t.losses new
-    → (IsTrue (t.lossless old) → (loss ≡ false) × IsTrue (t.lossless new)) → TellsStill t old new loss
-still_by t cloud old new loss others later lossless = record {
-  reaches = others.reaches;
-  shape = others.shape;
-  told = others.told;
-  full = others.full;
-  later = later;
-  lossless = lossless;
-}
-
-pub still_on : {L : Type 0} (t : LinkTelling L) (old mid new : L) (loss : Bool) → TellsStill t old mid false → TellsStill t mid new loss → TellsStill t old new loss
-still_on t old mid new loss one two = record {
-  reaches = two.reaches ∙ one.reaches;
-  shape = two.shape ∙ one.shape;
-  told = two.told ∙ one.told;
-  full = two.full ∙ one.full;
-  later = let x = one.later in let y = two.later in omega arith;
-  lossless = λ h. two.lossless (one.lossless h).1;
-}
 
 -- ---- the way over the link
 
@@ -141,7 +117,7 @@ leads_as t talk target from old new r s C D R S leads then always told these all
     let x = leads these all before peers in
     (x.0, x.1, x.2, x.3, x.4, x.5, x.6, then x.2 x.3 (x.0 target) x.7, always before x.0 x.8, λ all_told. told x.1 before x.3 x.0 (x.9 all_told))
 
-only_target : (target : ℕ) (from : List ℕ) (c : ℕ) → Contains (target ∷ []) c → Contains (target ∷ from) c
+pub only_target : (target : ℕ) (from : List ℕ) (c : ℕ) → Contains (target ∷ []) c → Contains (target ∷ from) c
 only_target target from c has =
     elim (contains_cases target [] c has) [
       | inl same ↦ subst (λ (x : ℕ). Contains (target ∷ from) x) same (contains_here target from)

@@ -234,7 +234,7 @@ module _ (shape : Shape) (target : ℕ) (full : List Command → Command → Opt
 
 -- ---- over a link
 
-run_along : {S : Type 0} (Goes : S → Request → Reply → S → Type 0) (p last : Progress) (old new : S) (turns : List (Turn S)) → LaneRun Goes p old turns last new → LaneAlong Goes p old turns last new × HasEnded last
+pub run_along : {S : Type 0} (Goes : S → Request → Reply → S → Type 0) (p last : Progress) (old new : S) (turns : List (Turn S)) → LaneRun Goes p old turns last new → LaneAlong Goes p old turns last new × HasEnded last
 run_along Goes p last old new [] run = ((run.1, run.2), subst HasEnded (sym run.1) run.0)
 run_along Goes p last old new (t ∷ turns) run =
     let r = run_along Goes (progress_after p t.reply) last run.3.0 new turns run.3.2 in
@@ -367,7 +367,7 @@ lane_is shape v target lt =
     ap starting (lane_in (λ (cloud : ℕ). begun (work_of shape v cloud)) 0 shape.n target lt) ∙ ap (λ (c : ℕ). starting (begun (work_of shape v c))) zero_is
 
 -- a lane goes on with its own work
-along_work : {S : Type 0} (Goes : S → Request → Reply → S → Type 0) (p last : Progress) (old new : S) (turns : List (Turn S)) → LaneAlong Goes p old turns last new → last.lane.work ≡ p.lane.work
+pub along_work : {S : Type 0} (Goes : S → Request → Reply → S → Type 0) (p last : Progress) (old new : S) (turns : List (Turn S)) → LaneAlong Goes p old turns last new → last.lane.work ≡ p.lane.work
 along_work Goes p last old new [] along = ap (λ (x : Progress). x.lane.work) along.0
 along_work Goes p last old new (t ∷ turns) along = along_work Goes (progress_after p t.reply) last along.3.0 new turns along.3.2
 

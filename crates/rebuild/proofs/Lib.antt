@@ -11,5 +11,11 @@ pub mod Turning
 pub mod Landing
 pub mod Stable
 pub mod Joining
+pub mod Passing
 pub mod Staying
 pub mod Going
+pub mod Cut
+pub mod Whole
+pub mod Joined
+pub mod Pages
+pub mod Ended

@@ -1,5 +1,5 @@
 -- What becomes of one entry of the first cloud.
-use Rattle.std.specs.Prelude.{◌≡◌, ℕ, ◌≤◌, ◌+◌, Bool, true, false, IsTrue, List, [], ◌∷◌, Option, Some, None, Result, Ok, Err, ◌⊎◌}
+use Rattle.std.specs.Prelude.{◌≡◌, ℕ, ◌+◌, Bool, true, false, List, [], ◌∷◌, Option, Some, None, Result, Ok, Err, ◌⊎◌}
 use Rattle.cd_base.specs.declared.ids.Tag.{Tag}
 use Rattle.cd_base.specs.declared.ids.UserId.{UserId}
 use Rattle.cd_base.specs.declared.ids.Version.{Version}
@@ -9,7 +9,6 @@ use Rattle.messages.specs.declared.reply.Reply.{Reply}
 use Rattle.user_dedup.specs.declared.command.Command.{Command}
 use Rattle.user_dedup.specs.Dedup.{Outcome}
 use Rattle.user_dedup.specs.Exec.{Peer}
-use Rattle.user_dedup.specs.Link.{LinkTelling}
 use Rattle.upload_job.specs.Upload.{FileVersion}
 use Rattle.lane_requests.specs.Runs.{Turn}
 use Rattle.restore_job.specs.declared.error.RestoreErr.{RestoreErr}
@@ -75,12 +74,3 @@ EntryTold shape user target serve from key (Err (errors.FromRestore e)) turns be
 EntryTold shape user target serve from key (Err errors.NoMemory) turns before at after =
     NoTurn turns (before target) at (after target) ⊎ EntryFound shape user target serve from key (Err errors.NoMemory) turns before at after
 EntryTold shape user target serve from key result turns before at after = EntryFound shape user target serve from key result turns before at after
-
--- What a link tells beside its clouds stays, and its count of losses doesn't fall.
-pub record TellsStill {L : Type 0} (t : LinkTelling L) (old new : L) (loss : Bool) : Type 0 where
-  pub reaches : t.reaches new ≡ t.reaches old
-  pub shape : t.shape new ≡ t.shape old
-  pub told : t.told new ≡ t.told old
-  pub full : t.full new ≡ t.full old
-  pub later : t.losses old ≤ t.losses new
-  pub lossless : IsTrue (t.lossless old) → (loss ≡ false) × IsTrue (t.lossless new)

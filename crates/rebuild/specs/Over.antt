@@ -1,11 +1,16 @@
 -- What a rebuild does to the clouds of a link, and what its errors say, told or not.
-use Rattle.std.specs.Prelude.{◌≡◌, ℕ, ◌≤◌, ◌⊎◌, Bool, true, false, IsTrue, List, [], ◌∷◌, Result, Err}
+use Rattle.std.specs.Prelude.{◌≡◌, ℕ, ◌≤◌, ◌⊎◌, Bool, true, false, IsTrue, List, [], ◌∷◌, Some, Result, Err}
 use Rattle.std.specs.List.{Contains}
 use Rattle.cd_edges.specs.Causes.{Rose}
 use Rattle.user_dedup.specs.Exec.{Peer}
+use Rattle.cd_base.specs.declared.ids.UserId.{UserId}
+use Rattle.cd_base.specs.declared.shape.Shape.{Shape}
+use Rattle.messages.specs.Requests.{request_bytes}
 use Rattle.messages.specs.declared.request.Request.{Request}
 use Rattle.user_dedup.specs.Link.{LinkTelling, Exchange, Passes, ReadsFrom, Does, LosesAsk}
-use Rattle.lane_requests.specs.Runs.{Turn}
+use Rattle.upload_job.specs.Lane.{LaneState}
+use Rattle.upload_job.specs.Upload.{FileVersion, work_of}
+use Rattle.lane_requests.specs.Runs.{Turn, request_of}
 use Rattle.lane_steps.specs.Steps.{Talks, Heard, LostAsk}
 use Rattle.restore_job.specs.Asking.{PeersOf, TellsAll, is_loss}
 use Rattle.restore_job.specs.Refusals.{Names}
@@ -55,11 +60,13 @@ Leads {L} t talk target from old new result Always Related =
 abbrev pub AsksFor : ℕ → List ℕ → Exchange → Type 0
 AsksFor target from e = (e.cloud ≡ target) ⊎ ReadsFrom from e
 
--- A link after the asks of a rebuild: what it tells beside its clouds stays. An ask is lost only where the count of losses
--- rose, and never where the link tells that it loses nothing, which it then tells still.
+-- A link after the asks of a rebuild: the other clouds stand for what they stood for, whatever these stand for, and what the
+-- link tells beside its clouds stays. An ask is lost only where the count of losses rose, and never where the link tells that
+-- it loses nothing, which it then tells still.
 pub record Asked {L : Type 0} (t : LinkTelling L) (target : ℕ) (from : List ℕ) (old new : L) (loss : Bool) : Type 0 where
   pub asks : List Exchange
   pub passed : Passes t (AsksFor target from) old asks new
+  pub others : (cloud : ℕ) (p : Peer) → (Contains (target ∷ from) cloud → ⊥) → t.stands old cloud p → t.stands new cloud p
   pub reaches : t.reaches new ≡ t.reaches old
   pub shape : t.shape new ≡ t.shape old
   pub told : t.told new ≡ t.told old
@@ -73,6 +80,19 @@ abbrev pub is_lost : {A : Type 0} → Result A RebuildErr → Bool
 is_lost (Err errors.TargetLost) = true
 is_lost (Err (errors.FromRestore e)) = is_loss e
 is_lost result = false
+
+-- the content is a request that the lane has which brings a version of this user
+abbrev pub IsOfLane : Shape → UserId → ℕ → List ℕ → Type 0
+IsOfLane shape user target content =
+    (v : FileVersion) × (state : LaneState) × (request : Request) × (v.user ≡ user)
+    × (request_of (record { work = work_of shape v target; state = state }) ≡ Some request) × (content ≡ request_bytes request)
+
+abbrev pub AsksOwn : Shape → UserId → ℕ → List ℕ → Exchange → Type 0
+AsksOwn shape user target from e = ((e.cloud ≡ target) × IsOfLane shape user target e.content) ⊎ ReadsFrom from e
+
+-- The target was asked for nothing but what brings versions of this user, and the clouds that are read for what adds nothing.
+abbrev pub BringsOwn : {L : Type 0} → LinkTelling L → Shape → UserId → ℕ → List ℕ → L → L → Type 0
+BringsOwn t shape user target from old new = (asks : List Exchange) × Passes t (AsksOwn shape user target from) old asks new
 
 -- ---- the errors
 

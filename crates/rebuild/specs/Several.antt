@@ -23,6 +23,11 @@ use Rattle.rebuild.specs.Steps.{IsFound, ReadEnds}
 abbrev pub progress_of : Rebuilt → Progressed
 progress_of rebuilt = record { files = rebuilt.files; skips = rebuilt.skipped; stop = None }
 
+-- all of it, where it came to its end
+abbrev pub whole : Rebuilt → Result (Unit {0}) RebuildErr → Result Rebuilt RebuildErr
+whole rebuilt (Ok u) = Ok rebuilt
+whole rebuilt (Err e) = Err e
+
 abbrev pub keys_of : List Finding → List (Tag × Version)
 keys_of found = map (λ f. f.key) found
 

@@ -5,9 +5,9 @@ ghost use Rattle.std.specs.List.{Contains};
 ghost use Rattle.cd_base.specs.Numbers.{numbers_of};
 ghost use Rattle.reed_solomon.specs.Dispersal.{AreChoice};
 ghost use Rattle.user_dedup.specs.Link.{serves};
-ghost use Rattle.rebuild.specs.Entering.{EntryBrought, EntryTold, TellsStill, entered_as, stopped_as};
+ghost use Rattle.rebuild.specs.Entering.{EntryBrought, EntryTold, entered_as, stopped_as};
 ghost use Rattle.rebuild.specs.Filling.{BringCaused, OfTarget};
-ghost use Rattle.rebuild.specs.Over.{Causes, HandsOn, Leads, is_lost};
+ghost use Rattle.rebuild.specs.Over.{Asked, BringsOwn, Causes, HandsOn, Leads, is_lost};
 ghost use Rattle.rebuild.specs.Steps.{VersionFits, found_of};
 
 use crate::{Found, RebuildErr, SkipWhy, bring, find_version};
@@ -18,8 +18,8 @@ use std::alloc::Global;
 use upload_job::LaneNews;
 use user_dedup::Link;
 
-// A refusal of a cloud that is read, as an error of the rebuild.
-fn stopped(e: RestoreErr) -> RebuildErr
+/// A refusal of a cloud that is read, as an error of the rebuild.
+pub fn stopped(e: RestoreErr) -> RebuildErr
     ensures { result ≡ stopped_as e }
 {
     match e {
@@ -72,7 +72,8 @@ fn bring_found<L: Link>(
         (λ turns before at after. EntryBrought shape target.0 (serves L.tells link.old target.0) (tag, version)
         (found_of user (tag, version) found.now) result turns (before target.0) at (after target.0)) }
     ensures own { OfTarget result }
-    ensures still { TellsStill L.tells link.old link.new (is_lost result) }
+    ensures asked { Asked L.tells target.0 [] link.old link.new (is_lost result) }
+    ensures lanes { BringsOwn L.tells shape user target.0 [] link.old link.new }
 {
     match found {
         Found::Version { path, file } => {
@@ -126,7 +127,8 @@ pub fn rebuild_entry<L: Link>(
         (Causes L.tells link.old target.0 result)
         (EntryTold shape user target.0 (serves L.tells link.old target.0) (numbers_of clouds.now) (tag, version) result) }
     ensures hands_on { HandsOn (numbers_of clouds.now) result }
-    ensures still { TellsStill L.tells link.old link.new (is_lost result) }
+    ensures asked { Asked L.tells target.0 (numbers_of clouds.now) link.old link.new (is_lost result) }
+    ensures lanes { BringsOwn L.tells shape user target.0 (numbers_of clouds.now) link.old link.new }
 {
     match find_version(alloc, link, shape, user, tag, version, clouds, reply) {
         Ok(found) => bring_found(

@@ -1,12 +1,12 @@
 //! Some entries of the first cloud, one after another.
 
-ghost use Rattle.std.specs.Prelude.{◌≡◌, ◌<◌, ◌+◌, ◌∷◌, [], ℕ, IsTrue, MatchOption, OnOk};
+ghost use Rattle.std.specs.Prelude.{◌≡◌, ◌<◌, ◌+◌, ◌∷◌, [], ℕ, IsTrue, MatchOption, OnOk, length};
 ghost use Rattle.std.specs.List.{Contains};
 ghost use Rattle.cd_base.specs.Numbers.{numbers_of};
 ghost use Rattle.reed_solomon.specs.Dispersal.{AreChoice};
 ghost use Rattle.user_dedup.specs.Link.{serves};
-ghost use Rattle.rebuild.specs.Entering.{TellsStill, noted};
-ghost use Rattle.rebuild.specs.Over.{Causes, HandsOn, Leads, is_lost};
+ghost use Rattle.rebuild.specs.Entering.{noted};
+ghost use Rattle.rebuild.specs.Over.{Asked, BringsOwn, Causes, HandsOn, Leads, is_lost};
 ghost use Rattle.rebuild.specs.Several.{KeysTold, progress_of};
 
 use crate::{RebuildErr, Rebuilt, Skip, SkipWhy, rebuild_entry};
@@ -36,7 +36,9 @@ fn note(
     version: Version,
     skip: Option<SkipWhy>,
 ) -> Result<(), NoMemory>
-    ensures { OnOk result (progress_of rebuilt.new ≡ noted (tag, version) skip (progress_of rebuilt.old)) }
+    ensures notes { OnOk result (progress_of rebuilt.new ≡ noted (tag, version) skip (progress_of rebuilt.old)) }
+    ensures counted { OnOk result (rebuilt.new.files + length rebuilt.new.skipped
+        ≡ rebuilt.old.files + length rebuilt.old.skipped + 1) }
 {
     match skip {
         None => count(&mut rebuilt.files),
@@ -83,7 +85,10 @@ pub fn rebuild_keys<L: Link>(
         (KeysTold shape user target.0 (serves L.tells link.old target.0) (numbers_of clouds.now) keys.now
         (progress_of rebuilt.old) (progress_of rebuilt.new) result) }
     ensures hands_on { HandsOn (numbers_of clouds.now) result }
-    ensures still { TellsStill L.tells link.old link.new (is_lost result) }
+    ensures asked { Asked L.tells target.0 (numbers_of clouds.now) link.old link.new (is_lost result) }
+    ensures lanes { BringsOwn L.tells shape user target.0 (numbers_of clouds.now) link.old link.new }
+    ensures counted { OnOk result (rebuilt.new.files + length rebuilt.new.skipped
+        ≡ rebuilt.old.files + length rebuilt.old.skipped + length keys.now) }
 {
     match next_key(keys) {
         Some((tag, version, more)) => {

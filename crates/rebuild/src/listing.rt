@@ -1,6 +1,6 @@
 //! The keys of a user's entries at a cloud, page by page.
 
-ghost use Rattle.std.specs.Prelude.{◌≡◌, ◌≤◌, ◌<◌, ◌^◌, ◌∷◌, [], ℕ, length, IsTrue, IfOk, IfErr, Ok, OnErr, Err};
+ghost use Rattle.std.specs.Prelude.{◌≡◌, ◌≤◌, ◌<◌, ◌^◌, ◌∷◌, [], ℕ, length, IsTrue, IfOk, IfErr, Ok, OnErr, Err, None};
 ghost use Rattle.cd_base.specs.Reading.{AreBytes};
 ghost use Rattle.messages.specs.ReplyReading.{reply_at};
 ghost use Rattle.messages.specs.Requests.{IsRequest};
@@ -10,7 +10,7 @@ ghost use Rattle.user_dedup.specs.Link.{Asks, IsReading, LeavesOthers};
 ghost use Rattle.user_dedup.specs.Requests.{IsAsked};
 ghost use Rattle.restore_job.specs.Asking.{Asked, Leads, is_lost};
 ghost use Rattle.restore_job.specs.Refusals.{Names};
-ghost use Rattle.rebuild.specs.Steps.{PageFrom, PageIs, PageTold, ReadCauses, RefusesPage};
+ghost use Rattle.rebuild.specs.Steps.{PageFrom, PageIs, PageTold, ReadCauses, RefusesPage, skip_as};
 
 use cd_base::{Bytes, CloudNo, NoMemory, Shape, Tag, UserId, Version};
 use frames::ReplyBuf;
@@ -66,7 +66,8 @@ fn kind_of(content: &[u8]) -> u8 {
 
 // The refusal that a reply is which is no page.
 fn refusal_of(cloud: CloudNo, reply: &Reply, kind: u8) -> RestoreErr
-    ensures { RefusesPage cloud reply.now result }
+    ensures refuses { RefusesPage cloud reply.now result }
+    ensures refusal { skip_as result ≡ None }
 {
     match reply {
         Reply::Fault => RestoreErr::CloudFault { cloud },
@@ -99,7 +100,8 @@ fn refusal_of(cloud: CloudNo, reply: &Reply, kind: u8) -> RestoreErr
 
 // The page in a reply, or the refusal that it is.
 fn page_in(cloud: CloudNo, reply: Reply, kind: u8) -> Result<Entries, RestoreErr>
-    ensures { PageIs cloud (Ok reply) result }
+    ensures page { PageIs cloud (Ok reply) result }
+    ensures refusal { IfErr result (λ e. skip_as e ≡ None) }
 {
     match reply {
         Reply::Entries { entries } => Ok(entries),
@@ -111,6 +113,7 @@ fn page_in(cloud: CloudNo, reply: Reply, kind: u8) -> Result<Entries, RestoreErr
 fn page_from(alloc: Global, cloud: CloudNo, content: &[u8]) -> Result<Entries, RestoreErr>
     requires few { length content.now < 2 ^ 32 }
     ensures from { PageFrom cloud (reply_at content.now) result }
+    ensures refusal { IfErr result (λ e. skip_as e ≡ None) }
     ensures bytes { AreBytes content.now }
 {
     let kind = kind_of(content);
@@ -121,7 +124,8 @@ fn page_from(alloc: Global, cloud: CloudNo, content: &[u8]) -> Result<Entries, R
     }
 }
 
-/// Asks a cloud for the user's next page: the keys above this one, or from the least one on, rising, at most 256.
+/// Asks a cloud for the user's next page: the keys above this one, or from the least one on, rising, at most 256. An error is
+/// one that names no reason to skip.
 pub fn fetch_page<L: Link>(
     alloc: Global,
     link: &mut L,
@@ -136,6 +140,7 @@ pub fn fetch_page<L: Link>(
     ensures asked { Asked L.tells (cloud.0 ∷ []) link.old link.new (is_lost result) }
     ensures told { Leads L.tells (cloud.0 ∷ []) link.old link.new (ReadCauses L.tells link.old result) (PageTold shape user cloud after result) }
     ensures named { IfErr result (Names (λ c. c ≡ cloud.0)) }
+    ensures refusal { IfErr result (λ e. skip_as e ≡ None) }
 {
     let request = match page_request(alloc, user, after) {
         Ok(request) => request,

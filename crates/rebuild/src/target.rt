@@ -1,13 +1,12 @@
 //! The target's lane for one version.
 
-ghost use Rattle.std.specs.Prelude.{◌≡◌, ◌≤◌, ◌<◌, ◌^◌, ℕ, List, length, IsTrue};
+ghost use Rattle.std.specs.Prelude.{◌≡◌, ◌≤◌, ◌<◌, ◌^◌, [], ℕ, List, length, IsTrue};
 ghost use Rattle.std.specs.List.{Contains};
 ghost use Rattle.cd_base.specs.Limits.{IsPath};
 ghost use Rattle.recipe.specs.Spelling.{file_limit};
-ghost use Rattle.user_dedup.specs.Link.{LeavesOthers, serves};
-ghost use Rattle.rebuild.specs.Entering.{TellsStill};
+ghost use Rattle.user_dedup.specs.Link.{serves};
 ghost use Rattle.rebuild.specs.Filling.{BringCaused, BringsTold, EndsBy, OfTarget, failed_as, last_of};
-ghost use Rattle.rebuild.specs.Over.{Leads, is_lost};
+ghost use Rattle.rebuild.specs.Over.{Asked, BringsOwn, Leads, is_lost};
 
 use crate::RebuildErr;
 use cd_base::{Bytes, CloudNo, NoMemory, Shape, UserId, Version};
@@ -73,7 +72,7 @@ fn failed(e: StepErr) -> RebuildErr
 /// Brings a version of a file of at most 67,108,864 bytes to the target: a job of it is made, and the target's lane goes on
 /// to its end. True where the version is entered there, false where it stands with another recipe.
 ///
-/// TargetLost comes only where an ask was lost, and TargetStrange where what came is no reply that a server which keeps to
+/// TargetLost comes only where the link's count of losses rose, and TargetStrange where what came is no reply that a server which keeps to
 /// the rules gives; the other errors but want of memory are the reply that stopped the lane: TargetFull, TargetFault,
 /// TargetDamaged, TargetRotten, TargetNoMemory, and TargetLacking the second time that the target lacks a share. Nothing
 /// is said of what is left in `content`, `reply` and `told`.
@@ -100,8 +99,8 @@ pub fn bring<L: Link>(
         (λ turns before at after. BringsTold shape target.0 (serves L.tells link.old target.0)
         (record { user = user; path = path.now; number = version; file = file.now }) result turns (before target.0) at (after target.0)) }
     ensures own { OfTarget result }
-    ensures others { LeavesOthers L.tells target.0 link.old link.new }
-    ensures still { TellsStill L.tells link.old link.new (is_lost result) }
+    ensures asked { Asked L.tells target.0 [] link.old link.new (is_lost result) }
+    ensures lanes { BringsOwn L.tells shape user target.0 [] link.old link.new }
 {
     let mut job = match Job::new(alloc, shape, user, path, version, file) {
         Ok(job) => job,

@@ -11,6 +11,8 @@ use Rattle.rebuild.specs.Over.{Leads}
 use Rattle.rebuild.specs.Entering.{EntryBrought, entered_as}
 use Rattle.rebuild.specs.Filling.{BringCaused}
 use Rattle.rebuild.proofs.Joining.{skipped_leads, leads_as, then_err, entered_told, refused_told, bring_caused_as, version_is}
+use Rattle.rebuild.proofs.Going.{lost_as}
+use Rattle.rebuild.proofs.Passing.{asked_as, asked_none, own_none}
 use Rattle.rebuild.proofs.entries.bring_found.Goals as goal
 
 abbrev came : Bool → Result Bool RebuildErr
@@ -69,3 +71,18 @@ returns-in-Skipped-clause-brings g c tag =
     let clause : Result FileVersion SkipWhy → Type 0 = λ f. Leads t talk target [] link link r (λ before after. BringCaused r (before target) (after target))
     (λ turns before at after. EntryBrought c.args.shape target serve key f r turns (before target) at (after target)) in
     subst clause (sym (ap (found_of c.args.user key) c.in-Skipped.is)) (skipped_leads t talk target link c.args.shape serve key c.in-Skipped.why)
+
+pub returns-in-Err-clause-asked : goal.returns-in-Err-clause-asked
+returns-in-Err-clause-asked g c = asked_as g.L.Link.tells c.args.target.0 [] c.args.link.now c.bring.new.link _ _ (lost_as Bool (Option SkipWhy) c.in-Err.e) c.in-Err.ensures.asked
+
+pub returns-in-Skipped-clause-asked : goal.returns-in-Skipped-clause-asked
+returns-in-Skipped-clause-asked g c = asked_none g.L.Link.tells c.args.target.0 [] c.args.link.now
+
+pub returns-in-Ok-clause-lanes : goal.returns-in-Ok-clause-lanes
+returns-in-Ok-clause-lanes g c = c.in-Ok.ensures.lanes
+
+pub returns-in-Err-clause-lanes : goal.returns-in-Err-clause-lanes
+returns-in-Err-clause-lanes g c = c.in-Err.ensures.lanes
+
+pub returns-in-Skipped-clause-lanes : goal.returns-in-Skipped-clause-lanes
+returns-in-Skipped-clause-lanes g c = own_none g.L.Link.tells c.args.shape c.args.user c.args.target.0 [] c.args.link.now

@@ -1,4 +1,4 @@
-use Rattle.std.proofs.Common.{[], List, Option, Result, Err, sym, subst}
+use Rattle.std.proofs.Common.{[], List, Option, Result, Err, sym, ap, ◌∙◌, subst}
 use Rattle.cd_base.specs.Numbers.{numbers_of}
 use Rattle.cd_base.specs.declared.ids.Tag.{Tag}
 use Rattle.cd_base.specs.declared.ids.Version.{Version}
@@ -11,9 +11,11 @@ use Rattle.rebuild.specs.declared.error.RebuildErr.{RebuildErr}
 use Rattle.rebuild.specs.declared.error.SkipWhy.{SkipWhy}
 use Rattle.rebuild.specs.Entering.{EntryBrought, EntryTold, stopped_as}
 use Rattle.rebuild.specs.Filling.{BringCaused}
-use Rattle.rebuild.specs.Over.{Causes, Leads}
+use Rattle.rebuild.specs.Over.{Causes, Leads, is_lost}
 use Rattle.rebuild.specs.Steps.{found_of}
 use Rattle.rebuild.proofs.Joining.{read_then, read_stops, then_stopped, stopped_caused, stopped_told, own_caused, found_brought, serves_same}
+use Rattle.rebuild.proofs.Joining.{stopped_lost}
+use Rattle.rebuild.proofs.Passing.{asked_as, asked_on, asked_reads, asked_wider, own_on, own_reads, own_wider}
 use Rattle.rebuild.proofs.entries.rebuild_entry.Goals as goal
 
 abbrev bad : RebuildErr → Result (Option SkipWhy) RebuildErr
@@ -59,3 +61,30 @@ returns-in-Err-clause-rebuilt g c =
     subst (λ (x : RebuildErr). Leads t talk target from old new (bad x) (Causes t old target (bad x)) (EntryTold c.args.shape c.args.user target serve from key (bad x))) (sym c.stopped.ensures)
     (read_stops t talk target from old new (bad (stopped_as e)) _ _ _ _ apart (asked.asks, asked.passed) c.in-Err.ensures.told (λ p q same. then_stopped (Option SkipWhy) t target new p q e same)
     (λ a b one x. stopped_caused (Option SkipWhy) t old target e a b x) (λ a b one x. stopped_told c.args.shape c.args.user target serve from key e a b (one.others target apart) x))
+
+pub returns-in-Ok-clause-asked : goal.returns-in-Ok-clause-asked
+returns-in-Ok-clause-asked g c =
+    let t = g.L.Link.tells in
+    let target = c.args.target.0 in
+    let from = numbers_of c.args.clouds.now in
+    asked_on t target from c.args.link.now c.find_version.new.link c.bring_found.new.link _ (asked_reads t target from c.args.link.now c.find_version.new.link _ c.in-Ok.ensures.asked)
+    (asked_wider t target from c.find_version.new.link c.bring_found.new.link _ c.bring_found.ensures.asked)
+
+pub returns-in-Err-clause-asked : goal.returns-in-Err-clause-asked
+returns-in-Err-clause-asked g c =
+    let t = g.L.Link.tells in
+    let target = c.args.target.0 in
+    let from = numbers_of c.args.clouds.now in
+    asked_as t target from c.args.link.now c.find_version.new.link _ _ (sym (ap (λ (x : RebuildErr). is_lost (bad x)) c.stopped.ensures ∙ stopped_lost (Option SkipWhy) c.in-Err.e))
+    (asked_reads t target from c.args.link.now c.find_version.new.link _ c.in-Err.ensures.asked)
+
+pub returns-in-Ok-clause-lanes : goal.returns-in-Ok-clause-lanes
+returns-in-Ok-clause-lanes g c =
+    let t = g.L.Link.tells in
+    let target = c.args.target.0 in
+    let from = numbers_of c.args.clouds.now in
+    own_on t c.args.shape c.args.user target from c.args.link.now c.find_version.new.link c.bring_found.new.link (own_reads t c.args.shape c.args.user target from c.args.link.now c.find_version.new.link _ c.in-Ok.ensures.asked)
+    (own_wider t c.args.shape c.args.user target from c.find_version.new.link c.bring_found.new.link c.bring_found.ensures.lanes)
+
+pub returns-in-Err-clause-lanes : goal.returns-in-Err-clause-lanes
+returns-in-Err-clause-lanes g c = own_reads g.L.Link.tells c.args.shape c.args.user c.args.target.0 (numbers_of c.args.clouds.now) c.args.link.now c.find_version.new.link _ c.in-Err.ensures.asked

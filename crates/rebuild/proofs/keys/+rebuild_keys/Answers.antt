@@ -1,12 +1,15 @@
-use Rattle.std.proofs.Common.{List, Ok, refl, sym, subst}
+use Rattle.std.proofs.Common.{List, Option, Ok, refl, sym, subst}
 use Rattle.cd_base.specs.Numbers.{numbers_of}
 use Rattle.cd_base.specs.declared.ids.Tag.{Tag}
 use Rattle.cd_base.specs.declared.ids.Version.{Version}
 use Rattle.user_dedup.specs.Link.{serves}
 use Rattle.rebuild.specs.Several.{progress_of}
 use Rattle.rebuild.specs.Rebuilding.{Progressed}
+use Rattle.rebuild.specs.declared.error.SkipWhy.{SkipWhy}
 use Rattle.rebuild.specs.declared.error.RebuildErr.TheVariants as errors
 use Rattle.rebuild.proofs.Going.{KeysLeads, keys_done, keys_err, keys_failed, keys_full, keys_then}
+use Rattle.rebuild.proofs.Going.{lost_as}
+use Rattle.rebuild.proofs.Passing.{asked_as, asked_none, asked_on, own_none, own_on}
 use Rattle.rebuild.proofs.keys.+rebuild_keys.Goals as goal
 
 pub returns-in-None-clause-rebuilt : goal.returns-in-None-clause-rebuilt
@@ -36,8 +39,8 @@ returns-in-Ok-note-clause-rebuilt g t c =
     let more = c.in-Some.more.now in
     let apart = c.requires.apart in
     subst (λ (keys : List (Tag × Version)). KeysLeads tells talk target from c.args.shape c.args.user apart (serves tells old target) old new keys r next result) (sym c.in-Some.ensures)
-    (keys_then tells talk target from c.args.shape c.args.user apart old mid new key more c.in-Ok.skip r next result c.in-Ok.ensures.rebuilt c.in-Ok.ensures.still
-    (subst (λ (at : Progressed). KeysLeads tells talk target from c.args.shape c.args.user apart (serves tells mid target) mid new more at next result) c.in-Ok-note.ensures c.rebuild_keys.ensures.rebuilt))
+    (keys_then tells talk target from c.args.shape c.args.user apart old mid new key more c.in-Ok.skip r next result c.in-Ok.ensures.rebuilt c.in-Ok.ensures.asked
+    (subst (λ (at : Progressed). KeysLeads tells talk target from c.args.shape c.args.user apart (serves tells mid target) mid new more at next result) c.in-Ok-note.ensures.notes c.rebuild_keys.ensures.rebuilt))
 
 pub returns-in-Err-note-clause-rebuilt : goal.returns-in-Err-note-clause-rebuilt
 returns-in-Err-note-clause-rebuilt g t c =
@@ -67,3 +70,30 @@ returns-in-Err-clause-rebuilt g t c =
     let apart = c.requires.apart in
     subst (λ (keys : List (Tag × Version)). KeysLeads tells talk target from c.args.shape c.args.user apart (serves tells old target) old new keys r r (keys_err c.in-Err.e)) (sym c.in-Some.ensures)
     (keys_failed tells talk target from c.args.shape c.args.user apart old new key c.in-Some.more.now r r c.in-Err.e refl c.in-Err.ensures.rebuilt)
+
+pub returns-in-None-clause-asked : goal.returns-in-None-clause-asked
+returns-in-None-clause-asked g t c = asked_none g.L.Link.tells c.args.target.0 (numbers_of c.args.clouds.now) c.args.link.now
+
+pub returns-in-Ok-note-clause-asked : goal.returns-in-Ok-note-clause-asked
+returns-in-Ok-note-clause-asked g t c =
+    asked_on g.L.Link.tells c.args.target.0 (numbers_of c.args.clouds.now) c.args.link.now c.rebuild_entry.new.link c.rebuild_keys.new.link _ c.in-Ok.ensures.asked c.rebuild_keys.ensures.asked
+
+pub returns-in-Err-note-clause-asked : goal.returns-in-Err-note-clause-asked
+returns-in-Err-note-clause-asked g t c = c.in-Ok.ensures.asked
+
+pub returns-in-Err-clause-asked : goal.returns-in-Err-clause-asked
+returns-in-Err-clause-asked g t c =
+    asked_as g.L.Link.tells c.args.target.0 (numbers_of c.args.clouds.now) c.args.link.now c.rebuild_entry.new.link _ _ (lost_as (Option SkipWhy) (Unit {0}) c.in-Err.e) c.in-Err.ensures.asked
+
+pub returns-in-None-clause-lanes : goal.returns-in-None-clause-lanes
+returns-in-None-clause-lanes g t c = own_none g.L.Link.tells c.args.shape c.args.user c.args.target.0 (numbers_of c.args.clouds.now) c.args.link.now
+
+pub returns-in-Ok-note-clause-lanes : goal.returns-in-Ok-note-clause-lanes
+returns-in-Ok-note-clause-lanes g t c =
+    own_on g.L.Link.tells c.args.shape c.args.user c.args.target.0 (numbers_of c.args.clouds.now) c.args.link.now c.rebuild_entry.new.link c.rebuild_keys.new.link c.in-Ok.ensures.lanes c.rebuild_keys.ensures.lanes
+
+pub returns-in-Err-note-clause-lanes : goal.returns-in-Err-note-clause-lanes
+returns-in-Err-note-clause-lanes g t c = c.in-Ok.ensures.lanes
+
+pub returns-in-Err-clause-lanes : goal.returns-in-Err-clause-lanes
+returns-in-Err-clause-lanes g t c = c.in-Err.ensures.lanes

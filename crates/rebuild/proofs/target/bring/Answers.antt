@@ -1,10 +1,10 @@
-use Rattle.std.proofs.Common.{◌≡◌, ◌<◌, List, [], ◌++◌, length, Option, Result, Err, refl, sym, ap, ◌∙◌, subst, arith}
+use Rattle.std.proofs.Common.{◌≡◌, ◌<◌, List, [], ◌++◌, length, Option, Result, Ok, Err, false, true, refl, sym, ap, ◌∙◌, subst, arith}
 use Rattle.cd_base.specs.declared.shape.Shape.{Shape}
 use Rattle.upload_job.specs.declared.news.LaneNews.{LaneNews}
 use Rattle.upload_job.specs.Upload.{FileVersion}
 use Rattle.upload_job.specs.Lanes.{LaneView, with_state}
 use Rattle.lane_requests.specs.Reached.{IsReached, Begun}
-use Rattle.lane_requests.specs.Runs.{starting, lane_at}
+use Rattle.lane_requests.specs.Runs.{Progress, starting, lane_at}
 use Rattle.rebuild.specs.Rebuilding.{lane_of}
 use Rattle.rebuild.proofs.Landing.{target_leads, step_moves, lane_is, lanes_long, ended_moves, memory_moves, lane_still}
 use Rattle.rebuild.proofs.Turning.{no_others}
@@ -14,7 +14,8 @@ use Rattle.lane_steps.specs.declared.error.StepErr.{StepErr}
 use Rattle.rebuild.specs.declared.error.RebuildErr.{RebuildErr}
 use Rattle.rebuild.specs.Over.{Leads, is_lost}
 use Rattle.rebuild.specs.Filling.{BringCaused, BringsTold, EndsBy, OfTarget, failed_as, last_of}
-use Rattle.rebuild.proofs.Joining.{ends_own, failed_own, failed_found, still_none, still_by}
+use Rattle.rebuild.proofs.Joining.{ends_own, failed_own, failed_found}
+use Rattle.rebuild.proofs.Passing.{asked_lane, asked_none, failed_lost, lane_own, own_none}
 use Rattle.std.proofs.Common.{Bool}
 use Rattle.rebuild.proofs.target.bring.Goals as goal
 
@@ -80,32 +81,40 @@ returns-clause-brings g c =
 pub returns-in-Err-clause-own : goal.returns-in-Err-clause-own
 returns-in-Err-clause-own g c = tt
 
-pub returns-in-Err-clause-others : goal.returns-in-Err-clause-others
-returns-in-Err-clause-others g c = no_others g.L.Link.tells c.args.target.0 c.args.link.now
-
-pub returns-in-Err-clause-still : goal.returns-in-Err-clause-still
-returns-in-Err-clause-still g c = still_none g.L.Link.tells c.args.link.now
+pub returns-in-Err-clause-asked : goal.returns-in-Err-clause-asked
+returns-in-Err-clause-asked g c = asked_none g.L.Link.tells c.args.target.0 [] c.args.link.now
 
 pub returns-in-Ok-finish_lane-clause-own : goal.returns-in-Ok-finish_lane-clause-own
 returns-in-Ok-finish_lane-clause-own g c = (ends_own _ c.ended.result c.ended.ensures).0
 
-pub returns-in-Ok-finish_lane-clause-others : goal.returns-in-Ok-finish_lane-clause-others
-returns-in-Ok-finish_lane-clause-others g c = c.in-Ok-finish_lane.ensures.others
-
-pub returns-in-Ok-finish_lane-clause-still : goal.returns-in-Ok-finish_lane-clause-still
-returns-in-Ok-finish_lane-clause-still g c =
+pub returns-in-Ok-finish_lane-clause-asked : goal.returns-in-Ok-finish_lane-clause-asked
+returns-in-Ok-finish_lane-clause-asked g c =
     let e = c.in-Ok-finish_lane.ensures in
-    still_by g.L.Link.tells c.args.target.0 c.args.link.now c.finish_lane.new.link _ e.others e.later
-    (λ h. ((ends_own _ c.ended.result c.ended.ensures).1, (e.lossless h).1))
+    let own = (ends_own _ c.ended.result c.ended.ensures).1 in
+    asked_lane g.L.Link.tells g.L.Link.talk c.args.target.0 c.args.link.now c.in-Ok.job _ (Ok tt) c.finish_lane.new.link c.finish_lane.new.job _ (is_lost c.ended.result) e.finishes e.others e.later
+    (λ lost. absurd (let f : false ≡ true = sym own ∙ lost in cc)) (λ h. (own, (e.lossless h).1))
 
 pub returns-clause-own : goal.returns-clause-own
 returns-clause-own g c = subst (λ (x : RebuildErr). OfTarget (bad x)) (sym c.failed.ensures) (failed_own c.in-Err-finish_lane.e)
 
-pub returns-clause-others : goal.returns-clause-others
-returns-clause-others g c = c.in-Err-finish_lane.ensures.others
-
-pub returns-clause-still : goal.returns-clause-still
-returns-clause-still g c =
+pub returns-clause-asked : goal.returns-clause-asked
+returns-clause-asked g c =
     let e = c.in-Err-finish_lane.ensures in
-    still_by g.L.Link.tells c.args.target.0 c.args.link.now c.finish_lane.new.link _ e.others e.later
-    (λ h. (ap (λ (x : RebuildErr). is_lost (bad x)) c.failed.ensures ∙ failed_found c.in-Err-finish_lane.e (e.lossless h).0, (e.lossless h).1))
+    let is = ap (λ (x : RebuildErr). is_lost (bad x)) c.failed.ensures in
+    asked_lane g.L.Link.tells g.L.Link.talk c.args.target.0 c.args.link.now c.in-Ok.job _ (Err c.in-Err-finish_lane.e) c.finish_lane.new.link c.finish_lane.new.job _ (is_lost (bad c.failed.result)) e.finishes e.others e.later
+    (λ lost. failed_lost c.in-Err-finish_lane.e _ _ e.lost (sym is ∙ lost)) (λ h. (is ∙ failed_found c.in-Err-finish_lane.e (e.lossless h).0, (e.lossless h).1))
+
+pub returns-in-Err-clause-lanes : goal.returns-in-Err-clause-lanes
+returns-in-Err-clause-lanes g c = own_none g.L.Link.tells c.args.shape c.args.user c.args.target.0 [] c.args.link.now
+
+pub returns-in-Ok-finish_lane-clause-lanes : goal.returns-in-Ok-finish_lane-clause-lanes
+returns-in-Ok-finish_lane-clause-lanes g c =
+    let v : FileVersion = record { user = c.args.user; path = c.args.path.now; number = c.args.version; file = c.args.file.now } in
+    let is = ap (λ (l : List LaneView). starting (lane_at l c.args.target.0)) c.in-Ok.ensures ∙ lane_is c.args.shape v c.args.target.0 c.requires.within in
+    lane_own g.L.Link.tells g.L.Link.talk c.args.shape c.args.target.0 v c.args.link.now c.in-Ok.job _ (Ok tt) c.finish_lane.new.link c.finish_lane.new.job _ (ap (λ (p : Progress). p.lane.work) is) c.in-Ok-finish_lane.ensures.finishes
+
+pub returns-clause-lanes : goal.returns-clause-lanes
+returns-clause-lanes g c =
+    let v : FileVersion = record { user = c.args.user; path = c.args.path.now; number = c.args.version; file = c.args.file.now } in
+    let is = ap (λ (l : List LaneView). starting (lane_at l c.args.target.0)) c.in-Ok.ensures ∙ lane_is c.args.shape v c.args.target.0 c.requires.within in
+    lane_own g.L.Link.tells g.L.Link.talk c.args.shape c.args.target.0 v c.args.link.now c.in-Ok.job _ (Err c.in-Err-finish_lane.e) c.finish_lane.new.link c.finish_lane.new.job _ (ap (λ (p : Progress). p.lane.work) is) c.in-Err-finish_lane.ensures.finishes
