@@ -8,8 +8,9 @@ use Rattle.cd_edges.specs.Causes.{Rose}
 use Rattle.user_dedup.specs.Exec.{Peer}
 use Rattle.session.specs.Fault.{Fault}
 use Rattle.session.specs.Lines.{after_line}
+use Rattle.session.specs.Reading.{event_at}
 use Rattle.session.specs.declared.event.Event.{Event}
-use Rattle.vault.specs.Scripts.{Place, Begins, Leads, Reaches, Says, IsEnd, IsWrong, IsWrongFirst, FailsIn, FailsFirst, said_at, behind}
+use Rattle.session.specs.Scripts.{Place, Begins, Leads, Reaches, Says, IsEnd, IsWrong, IsWrongFirst, FailsIn, FailsFirst, behind}
 use Rattle.vault.specs.Steps.{cloud_no}
 use Rattle.vault.specs.Vault.{Vault, opening}
 use Rattle.vault.specs.Run.{Answered, Turns}
@@ -42,7 +43,7 @@ not_failed r value fault first second = let e : Ok value ≡ Err fault = sym fir
 same_next : (shape : Shape) (place : Place) (one other : Event) (after behind_it : Place) → Says shape place one after → Says shape place other behind_it → after ≡ behind_it
 same_next shape place one other after behind_it first second =
     let line = same_line _ first.line second.line first.here second.here in
-    let event = same_event _ one other first.says (ap (λ (l : List ℕ). said_at shape place.jobs l) line ∙ second.says) in
+    let event = same_event _ one other first.says (ap (λ (l : List ℕ). event_at shape place.jobs l) line ∙ second.says) in
     first.next_is ∙ ap (λ (l : List ℕ). behind place l one) line ∙ ap (λ (e : Event). behind place second.line e) event ∙ sym second.next_is
 
 never_wrong : (shape : Shape) (place other last : Place) (some all : List Event) (fault : Fault) → Leads shape place some other → Leads shape place all last → IsEnd last → IsWrong shape other fault → ⊥

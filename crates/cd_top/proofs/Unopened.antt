@@ -18,7 +18,7 @@ use Rattle.local_link.specs.Calls.{header_of}
 use Rattle.session.specs.Fault.{Fault}
 use Rattle.session.specs.Lines.{next_line}
 use Rattle.session.specs.Reading.{header_at}
-use Rattle.vault.specs.Scripts.{Place, Begins}
+use Rattle.session.specs.Scripts.{Place, Begins}
 use Rattle.vault.specs.Vault.{Setting, opening}
 use Rattle.vault.specs.Run.{Answered}
 use Rattle.vault.specs.Headline.{Session, IsRun, DisksStand}

@@ -6,7 +6,7 @@ use Rattle.cd_base.specs.declared.rooms.Rooms.{Rooms}
 use Rattle.cd_edges.specs.declared.area.Area.{Area}
 use Rattle.cd_edges.specs.Disk.{Cloud}
 use Rattle.session.specs.declared.event.Event.{Event}
-use Rattle.vault.specs.Scripts.{Place, Reaches, IsEnd}
+use Rattle.session.specs.Scripts.{Place, Reaches, IsEnd}
 use Rattle.replay_core.specs.Endings.{Call, IsEmptyAt}
 
 -- the bytes are a script for clouds of this shape, to its last line

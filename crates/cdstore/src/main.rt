@@ -32,6 +32,7 @@ N clouds, of which any K give a file back; addresses in the order of the clouds.
   arm CLOUD CALL KEEP              cut a write or sync of the cloud, the next one being 1; a cut write keeps KEEP bytes
   restart CLOUD                    open the cloud again
   replace CLOUD                    put an empty cloud in its place
+  rebuild USER CLOUD CLOUDS        bring the user's versions to it from K other clouds, such as 0,1,3
 
 status: 0 done, 1 wrong words, 2 a wrong line or too long a file, 3 input failed, 4 output failed, 5 a disk failed,
         6 out of memory, 7 a cloud can't be opened, 8 refused, 9 a connection failed

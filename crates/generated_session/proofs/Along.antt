@@ -24,7 +24,7 @@ use Rattle.session.specs.declared.event.Event.TheVariants as events
 use Rattle.transcript.specs.declared.line.Line.{Line}
 use Rattle.transcript.specs.declared.line.Line.TheVariants as lines
 use Rattle.transcript.specs.declared.refusal.Refusal.{Refusal}
-use Rattle.vault.specs.Scripts.{jobs_after}
+use Rattle.session.specs.Scripts.{jobs_after}
 use Rattle.vault.specs.Vault.{Setting, Vault, lanes_of}
 use Rattle.vault.specs.Steps.{version_of, all_done, IsGetLine, refusal_of}
 use Rattle.vault.specs.Kept.{upload_of}
@@ -106,7 +106,7 @@ module _ {V : Type 0} (clouds : V → ℕ → Cloud) (begun : ℕ → Cloud) (s 
       record {
         some = omega arith;
         made = made_on later here old (events.Upload user path version bytes) (made.jobs ++ lanes ∷ []) (lines.Job (length made.jobs + 1) ∷ []) number m
-            (record { carried = refl; fits = record { allowed = allowed; named = named; few = short }; typed = (user_few, path_bytes, version_few, bytes_bytes) })
+            (record { fits = record { allowed = allowed; named = named; few = short }; typed = (user_few, path_bytes, version_few, bytes_bytes) })
             (leaves_all clouds old old refl) goes len (len ∙ number_is) (record {
               bytes = ap (λ (x : Numbers). x.bytes) added ∙ ap (λ (k : ℕ). n.bytes + k) (one_file (version_of user path version bytes));
               stored = ap (λ (x : Numbers). x.stored) added ∙ no_more n.stored;
@@ -136,7 +136,7 @@ module _ {V : Type 0} (clouds : V → ℕ → Cloud) (begun : ℕ → Cloud) (s 
       same_le k = omega arith
 
   can_finish : CanBe s.shape (length job.made.jobs) (events.Finish count)
-  can_finish = record { carried = refl; fits = is_job; typed = tt }
+  can_finish = record { fits = is_job; typed = tt }
 
   -- its lanes came to their ends
   pub job_finished : Later → Here → (new : LocalLink V) (m : Numbers) → Leaves clouds old new

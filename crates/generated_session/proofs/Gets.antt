@@ -84,7 +84,6 @@ module _ {V : Type 0} (clouds : V → ℕ → Cloud) (begun : ℕ → Cloud) (s 
     (result : Result (Unit {0}) RestoreErr) (file : List ℕ) (r : Read clouds s old new named result user path version file) (leaves : Leaves clouds old new) where
   can_get : CanBe s.shape (length made.jobs) (events.Get user path version named)
   can_get = record {
-    carried = refl;
     fits = (is_path, subst (λ (sh : Shape). AreClouds sh named) made.come.is_at.link_at.shape are);
     typed = (user_few, path_bytes, version_few);
   }

@@ -13,7 +13,7 @@ use Rattle.session.specs.Spelling.{IsJob}
 use Rattle.transcript.specs.declared.line.Line.{Line}
 use Rattle.vault.specs.Vault.{Setting, Vault, Executes, lanes_of, with_lanes}
 use Rattle.vault.specs.Steps.{moment_of, step_line, all_done, stored_line}
-use Rattle.vault.specs.Texts.{text_of}
+use Rattle.session.specs.Texts.{text_of}
 use Rattle.script_lines.specs.At.{IsAt}
 use Rattle.script_lines.specs.Jobs.{job_lanes, with_job}
 use Rattle.script_lines.specs.Stepping.{stored_if}

@@ -24,8 +24,8 @@ use Rattle.session.specs.Lines.{Lines, next_line}
 use Rattle.session.specs.Reading.{header_at}
 use Rattle.transcript.specs.declared.line.Line.TheVariants as lines
 use Rattle.transcript.specs.Transcript.{line_text}
-use Rattle.vault.specs.Scripts.{Place, Begins, Reaches, IsWrongFirst}
-use Rattle.vault.specs.Texts.{text_of}
+use Rattle.session.specs.Scripts.{Place, Begins, Reaches, IsWrongFirst}
+use Rattle.session.specs.Texts.{text_of}
 use Rattle.vault.specs.Vault.{Setting, opening}
 use Rattle.vault.specs.Run.{IsListIn}
 use Rattle.vault.specs.Headline.{Session, IsRun}

@@ -13,7 +13,7 @@ use Rattle.session.specs.Reading.{header_at}
 use Rattle.session.specs.Spelling.{IsHeader}
 use Rattle.session.specs.declared.lines.LineErr.{LineErr}
 use Rattle.session.specs.declared.lines.LineErr.TheVariants as line_errors
-use Rattle.vault.specs.Scripts.{Place, Begins, FailsFirst, IsWrongFirst}
+use Rattle.session.specs.Scripts.{Place, Begins, FailsFirst, IsWrongFirst}
 use Rattle.replay_core.specs.declared.end.ReplayEnd.{ReplayEnd}
 use Rattle.replay_core.specs.declared.end.ReplayEnd.TheVariants as ends
 use Rattle.replay_core.specs.Opening.{before_first, IsThere, IsHead, EndsFirst, SaysHeader, end_without}

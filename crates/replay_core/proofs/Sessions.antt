@@ -23,8 +23,8 @@ use Rattle.session.specs.declared.event.Event.{Event}
 use Rattle.transcript.specs.declared.line.Line.{Line}
 use Rattle.transcript.specs.declared.line.Line.TheVariants as lines
 use Rattle.transcript.specs.Transcript.{line_text}
-use Rattle.vault.specs.Scripts.{jobs_after, jobs_of, AreLines, Place, Says, Leads, Reaches}
-use Rattle.vault.specs.Texts.{text_of}
+use Rattle.session.specs.Scripts.{jobs_after, jobs_of, AreLines, Place, Says, Leads, Reaches}
+use Rattle.session.specs.Texts.{text_of}
 use Rattle.vault.specs.Vault.{Setting, Vault, opening}
 use Rattle.vault.specs.Steps.{Moment, VStep}
 use Rattle.vault.specs.Run.{Answered, Turns, script_of, moments_of, answers_of, IsListIn}

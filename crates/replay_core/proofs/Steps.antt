@@ -15,8 +15,9 @@ use Rattle.session.specs.declared.lines.LineErr.{LineErr}
 use Rattle.session.specs.declared.lines.LineErr.TheVariants as line_errors
 use Rattle.session.specs.declared.reading.ScriptErr.{ScriptErr}
 use Rattle.session.specs.declared.reading.ScriptErr.TheVariants as script_errors
-use Rattle.vault.specs.Scripts.{said_at, jobs_after, Place, Says, behind, FailsIn, IsEnd, IsWrong}
-use Rattle.vault.specs.Texts.{text_of}
+use Rattle.session.specs.Reading.{event_at}
+use Rattle.session.specs.Scripts.{jobs_after, Place, Says, behind, FailsIn, IsEnd, IsWrong}
+use Rattle.session.specs.Texts.{text_of}
 use Rattle.script_lines.specs.declared.error.CarryErr.{CarryErr}
 use Rattle.script_lines.specs.declared.error.CarryErr.TheVariants as carry_errors
 use Rattle.script_lines.specs.Does.{CarriesOut, IsCutOff}
@@ -35,7 +36,7 @@ line_here jobs old left place there reading e =
     ap (λ (n : ℕ). next_line n place.rest) (sym there.taken) ∙ ap (next_line old.taken) (sym there.rest) ∙ e
 
 pub says_line : (shape : Shape) (jobs : ℕ) (old new : Lines) (left left_now : Option (List ℕ)) (more : Bool) (line : List ℕ) (event : Event)
-    → more ≡ true → ((bytes : List ℕ) → left ≡ Some bytes → NextLine old bytes (Ok more) new left_now) → line ≡ new.line → said_at shape jobs line ≡ Ok event
+    → more ≡ true → ((bytes : List ℕ) → left ≡ Some bytes → NextLine old bytes (Ok more) new left_now) → line ≡ new.line → event_at shape jobs line ≡ Ok event
     → (place : Place) → IsThere old left jobs place
     → (next : Place) × Says shape place event next × IsThere new left_now (jobs_after jobs event) next
 says_line shape jobs old new left left_now more line event so told is said place there =
@@ -45,7 +46,7 @@ says_line shape jobs old new left left_now more line event so told is said place
       record {
         line = new.line;
         here = line_here jobs old left place there (Ok (Some new.line)) n.line;
-        says = ap (λ (j : ℕ). said_at shape j new.line) there.jobs_are ∙ ap (said_at shape jobs) (sym is) ∙ said;
+        says = ap (λ (j : ℕ). event_at shape j new.line) there.jobs_are ∙ ap (event_at shape jobs) (sym is) ∙ said;
         next_is = refl;
       },
       record {
@@ -58,13 +59,13 @@ says_line shape jobs old new left left_now more line event so told is said place
     )
 
 pub wrong_line : (shape : Shape) (jobs : ℕ) (old new : Lines) (left left_now : Option (List ℕ)) (more : Bool) (line : List ℕ) (fault : Fault)
-    → more ≡ true → ((bytes : List ℕ) → left ≡ Some bytes → NextLine old bytes (Ok more) new left_now) → line ≡ new.line → said_at shape jobs line ≡ Err fault
+    → more ≡ true → ((bytes : List ℕ) → left ≡ Some bytes → NextLine old bytes (Ok more) new left_now) → line ≡ new.line → event_at shape jobs line ≡ Err fault
     → (place : Place) → IsThere old left jobs place → IsWrong shape place fault
 wrong_line shape jobs old new left left_now more line fault so told is said place there =
     let n : TakesLine old (old.ahead ++ there.unread) new left_now =
     subst (λ (b : Bool). NextLine old there.unread (Ok b) new left_now) so (told there.unread there.left_is) in
     subst (λ (r : Result (Option (List ℕ)) Fault). FailsIn shape place.jobs r fault) (sym (line_here jobs old left place there (Ok (Some new.line)) n.line))
-    (ap (λ (j : ℕ). said_at shape j new.line) there.jobs_are ∙ ap (said_at shape jobs) (sym is) ∙ said)
+    (ap (λ (j : ℕ). event_at shape j new.line) there.jobs_are ∙ ap (event_at shape jobs) (sym is) ∙ said)
 
 -- the line's error, and the reader's
 abbrev pub no_event : ScriptErr → Result Event ScriptErr
@@ -76,7 +77,7 @@ no_line error = Err error
 pub ends_script : (shape : Shape) (jobs events number : ℕ) (old new : Lines) (left left_now : Option (List ℕ)) (more : Bool) (line : List ℕ) (error : ScriptErr) (end : ReplayEnd) (before now : ℕ)
     → number ≡ events + 2 → end ≡ end_of_script number error
     → more ≡ true → ((bytes : List ℕ) → left ≡ Some bytes → NextLine old bytes (Ok more) new left_now)
-    → line ≡ new.line → SaysEvent (said_at shape jobs line) (no_event error) → EndsReading shape jobs events old left before now end
+    → line ≡ new.line → SaysEvent (event_at shape jobs line) (no_event error) → EndsReading shape jobs events old left before now end
 ends_script shape jobs events number old new left left_now more line (script_errors.At at found) end before now is e so told same says =
     subst (EndsReading shape jobs events old left before now) (sym e)
     (is, wrong_line shape jobs old new left left_now more line (record { at = at; found = found }) so told same says)

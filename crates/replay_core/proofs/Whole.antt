@@ -18,8 +18,8 @@ use Rattle.session.specs.declared.event.Event.TheVariants as kinds
 use Rattle.session.specs.Spelling.{Fits}
 use Rattle.transcript.specs.declared.line.Line.TheVariants as lines
 use Rattle.transcript.specs.Transcript.{line_text}
-use Rattle.vault.specs.Scripts.{jobs_after, Place, Begins, Reaches, IsEnd, IsWrong, IsWrongFirst}
-use Rattle.vault.specs.Texts.{text_of}
+use Rattle.session.specs.Scripts.{jobs_after, Place, Begins, Reaches, IsEnd, IsWrong, IsWrongFirst}
+use Rattle.session.specs.Texts.{text_of}
 use Rattle.vault.specs.Vault.{Setting, Vault}
 use Rattle.vault.specs.Run.{Answered, script_of, answers_of}
 use Rattle.vault.specs.Headline.{Session, Begun, IsRun, due, event_of, GivesAcknowledged, DisksKeep, AnswersPrivately}

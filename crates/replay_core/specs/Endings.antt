@@ -8,7 +8,7 @@ use Rattle.session.specs.Fault.{Fault}
 use Rattle.cd_base.specs.declared.shape.Shape.{Shape}
 use Rattle.cd_base.specs.declared.rooms.Rooms.{Rooms}
 use Rattle.session.specs.declared.event.Event.TheVariants as events
-use Rattle.vault.specs.Scripts.{Place, Begins, Reaches, IsEnd, IsWrong, IsWrongFirst}
+use Rattle.session.specs.Scripts.{Place, Begins, Reaches, IsEnd, IsWrong, IsWrongFirst}
 use Rattle.vault.specs.Steps.{cloud_no}
 use Rattle.vault.specs.Headline.{Session, Begun, script_in}
 

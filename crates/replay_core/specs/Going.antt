@@ -19,8 +19,8 @@ use Rattle.session.specs.Spelling.{Fits, IsTyped}
 use Rattle.session.specs.declared.event.Event.{Event}
 use Rattle.transcript.specs.declared.line.Line.{Line}
 use Rattle.transcript.specs.declared.line.Line.TheVariants as lines
-use Rattle.vault.specs.Scripts.{is_carried, jobs_after, jobs_of, AreLines, Place, Says, Reaches, IsEnd, IsWrong}
-use Rattle.vault.specs.Texts.{text_of}
+use Rattle.session.specs.Scripts.{jobs_after, jobs_of, AreLines, Place, Says, Reaches, IsEnd, IsWrong}
+use Rattle.session.specs.Texts.{text_of}
 use Rattle.vault.specs.Vault.{Setting, Vault, opening}
 use Rattle.vault.specs.Run.{Answered, Turns, script_of, moments_of, answers_of, IsListIn}
 use Rattle.script_lines.specs.declared.error.CarryErr.{CarryErr}
@@ -111,9 +111,8 @@ SaysEvent said (Ok event) = said ≡ Ok event
 SaysEvent said (Err script_errors.NoMemory) = Unit {0}
 SaysEvent said (Err (script_errors.At at found)) = said ≡ Err (record { at = at; found = found })
 
--- the event is carried out, and in its ranges
+-- the event is in its ranges
 pub record CanBe (shape : Shape) (jobs : ℕ) (event : Event) : Type 0 where
-  pub carried : IsTrue (is_carried event)
   pub fits : Fits shape jobs event
   pub typed : IsTyped event
 

@@ -8,7 +8,7 @@ use Rattle.user_dedup.specs.Exec.{MaySettleAs}
 use Rattle.cloud_store.specs.Store.{StandsFor}
 use Rattle.local_link.specs.Calls.{header_of}
 use Rattle.transcript.specs.declared.line.Line.TheVariants as lines
-use Rattle.vault.specs.Texts.{text_of}
+use Rattle.session.specs.Texts.{text_of}
 use Rattle.transcript.specs.Transcript.{line_text}
 use Rattle.replay_core.specs.declared.end.ReplayEnd.{ReplayEnd}
 use Rattle.replay_core.specs.declared.end.ReplayEnd.TheVariants as ends

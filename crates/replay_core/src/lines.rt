@@ -1,10 +1,11 @@
 //! The lines behind the first one.
 
-ghost use Rattle.std.specs.Prelude.{◌≡◌, ◌<◌, ◌≤◌, ◌+◌, ℕ, length, slice_get, IfOk, IfErr, OnOk, OnErr, IfSome, IsTrue};
+ghost use Rattle.std.specs.Prelude.{◌≡◌, ◌<◌, ◌≤◌, ◌+◌, ℕ, length, IfOk, IfErr, OnOk, OnErr, IfSome};
 ghost use Rattle.std.specs.Io.KnownBytes.{Appends};
 ghost use Rattle.session.specs.Lines.{script_limit};
 ghost use Rattle.session.specs.Spelling.{Fits};
-ghost use Rattle.vault.specs.Scripts.{is_carried, jobs_after, said_at};
+ghost use Rattle.session.specs.Reading.{event_at};
+ghost use Rattle.session.specs.Scripts.{jobs_after};
 ghost use Rattle.script_lines.specs.At.{Leaves};
 ghost use Rattle.script_lines.specs.Jobs.{AreReached};
 ghost use Rattle.replay_core.specs.Opening.{end_of_script, end_without};
@@ -15,7 +16,7 @@ use crate::writing::write_text;
 use cd_base::{Bytes, Shape};
 use cd_edges::{Shelf, Sink, Source};
 use local_link::LocalLink;
-use script_lines::{Buffers, CarryErr, Jobs, can_carry_out, carry_out};
+use script_lines::{Buffers, CarryErr, Jobs, carry_out};
 use session::{Event, LineErr, LineReader, ScriptErr, read_line};
 use std::alloc::Global;
 
@@ -40,20 +41,12 @@ pub fn end_of_reader(line: u64, error: LineErr) -> ReplayEnd
     }
 }
 
-// What a line says that is carried out. The first word of any other is wrong.
+// What a line says.
 fn event_of_line(alloc: Global, shape: Shape, jobs: u32, line: &[u8]) -> Result<Event, ScriptErr>
-    ensures says { SaysEvent (said_at shape jobs line.now) result }
+    ensures says { SaysEvent (event_at shape jobs line.now) result }
     ensures can { IfOk result (CanBe shape jobs) }
 {
-    let event = read_line(alloc, shape, jobs, line)?;
-    if can_carry_out(&event) {
-        Ok(event)
-    } else {
-        Err(ScriptErr::At {
-            at: 0,
-            found: line.first().copied(),
-        })
-    }
+    read_line(alloc, shape, jobs, line)
 }
 
 /// Reads the next line, behind so many uploads and so many lines after the first; None at the end of the script.
@@ -107,7 +100,6 @@ pub fn answer_line<K: Sink, V: Shelf>(
     text: &mut Bytes,
     sink: &mut K,
 ) -> Result<(), ReplayEnd>
-    requires carried { IsTrue (is_carried event.now) }
     requires fits { Fits link.old.servers.shape (length jobs.old) event.now }
     requires reached { AreReached link.old.servers.shape jobs.old }
     ensures answers { OnOk result (Answers V.cloud_at event.now link.old jobs.old link.new jobs.new

@@ -32,7 +32,7 @@ use Rattle.vault.specs.Steps.{Moment, moment_of, step_line, all_done, stored_lin
 use Rattle.vault.specs.Run.{IsListIn}
 use Rattle.vault.specs.Headline.{IsPartOf}
 use Rattle.vault.specs.Cut.{FinishCut}
-use Rattle.vault.specs.Texts.{text_of}
+use Rattle.session.specs.Texts.{text_of}
 use Rattle.script_lines.specs.At.{LinkAt, IsAt, Leaves}
 use Rattle.script_lines.specs.Does.{Images, Does, Cut}
 use Rattle.script_lines.specs.Jobs.{job_lanes, with_job}

@@ -8,3 +8,6 @@ pub mod Dropped
 pub mod Uploading
 pub mod Paged
 pub mod Replaced
+pub mod Turned
+pub mod Rebuilt
+pub mod Skipping

@@ -24,7 +24,7 @@ use Rattle.transcript.specs.Transcript.{line_text}
 use Rattle.vault.specs.Vault.{Setting, Vault, lanes_of, with_lanes}
 use Rattle.vault.specs.Steps.{Moment, quiet, cloud_no, step_line, all_done, stored_line, LaneStep}
 use Rattle.vault.specs.Headline.{IsPartOf}
-use Rattle.vault.specs.Texts.{text_of}
+use Rattle.session.specs.Texts.{text_of}
 use Rattle.script_lines.specs.declared.error.CarryErr.{CarryErr}
 use Rattle.script_lines.specs.At.{LinkAt, IsAt, Leaves}
 use Rattle.script_lines.specs.Does.{Images, Goes, Cut}

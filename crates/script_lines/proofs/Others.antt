@@ -52,7 +52,7 @@ use Rattle.vault.specs.Vault.{Setting, JobState, Vault, new_job, lanes_of}
 use Rattle.vault.specs.Steps.{Moment, quiet, cloud_no, version_of, lose_lines, DropStep, IsGetLine, told_so, IsRestartLine, RestartStep, ReopensUntold, IsFault}
 use Rattle.vault.specs.Run.{IsListIn}
 use Rattle.vault.specs.Headline.{IsPartOf}
-use Rattle.vault.specs.Texts.{text_of}
+use Rattle.session.specs.Texts.{text_of}
 use Rattle.script_lines.specs.At.{LinkAt, IsAt, Leaves}
 use Rattle.script_lines.specs.Does.{Images, Goes, Cut}
 use Rattle.script_lines.specs.Jobs.{job_lanes}

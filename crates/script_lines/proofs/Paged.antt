@@ -37,7 +37,7 @@ use Rattle.transcript.specs.declared.refusal.Refusal.TheVariants as refusals
 use Rattle.transcript.specs.declared.line.Line.TheVariants as lines
 use Rattle.vault.specs.Vault.{Setting, Vault}
 use Rattle.vault.specs.Steps.{Moment, cloud_no, moment_of, list_refusal, EndsListing, behind_page, ListRun, entry_line, list_lines}
-use Rattle.vault.specs.Texts.{text_of}
+use Rattle.session.specs.Texts.{text_of}
 use Rattle.vault.proofs.Parts.{fault_of, fails}
 use Rattle.vault.proofs.Parts as parts
 use Rattle.script_lines.specs.declared.listing.Listing.{Listing}

@@ -12,7 +12,7 @@ use Rattle.vault.specs.Vault.{Setting, Vault}
 use Rattle.vault.specs.Steps.{Moment, VStep}
 use Rattle.vault.specs.Run.{IsListIn}
 use Rattle.vault.specs.Headline.{IsPartOf}
-use Rattle.vault.specs.Texts.{text_of}
+use Rattle.session.specs.Texts.{text_of}
 use Rattle.script_lines.specs.At.{IsAt}
 
 -- Each image of a told cloud since then stands for a list that the cloud had at one of these moments, or has now.

@@ -13,7 +13,7 @@ use Rattle.transcript.specs.declared.news.News.TheVariants as news
 use Rattle.vault.specs.Vault.{Setting, Vault}
 use Rattle.vault.specs.Steps.{Moment, cloud_no, step_line, FinishLanes}
 use Rattle.vault.specs.Cut.{FinishCut}
-use Rattle.vault.specs.Texts.{text_of}
+use Rattle.session.specs.Texts.{text_of}
 use Rattle.script_lines.specs.At.{IsAt}
 use Rattle.script_lines.specs.Does.{Images, IsLeft}
 use Rattle.script_lines.specs.Stepping.{stored_if}

@@ -3,7 +3,7 @@ use Rattle.std.specs.Prelude.{◌≡◌, ℕ, List, [], ◌∷◌, ◌++◌, Res
 use Rattle.restore_job.specs.declared.error.RestoreErr.{RestoreErr}
 use Rattle.transcript.specs.declared.line.Line.{Line}
 use Rattle.vault.specs.Steps.{IsGetLine}
-use Rattle.vault.specs.Texts.{text_of}
+use Rattle.session.specs.Texts.{text_of}
 
 -- the text of the line of this restore stands behind what was there; a want of memory has no line
 abbrev pub SaysGet : Result (Unit {0}) RestoreErr → List ℕ → List ℕ → List ℕ → Type 0

@@ -7,3 +7,4 @@ pub mod Getting
 pub mod Dropping
 pub mod Paging
 pub mod Replacing
+pub mod Rebuilding

@@ -17,7 +17,7 @@ use Rattle.transcript.specs.declared.refusal.Refusal.{Refusal}
 use Rattle.transcript.specs.declared.line.Line.TheVariants as lines
 use Rattle.vault.specs.Vault.{Setting, Vault, Executes}
 use Rattle.vault.specs.Steps.{cloud_no, executed, moment_of, list_refusal, ListRun, entry_line}
-use Rattle.vault.specs.Texts.{text_of}
+use Rattle.session.specs.Texts.{text_of}
 use Rattle.script_lines.specs.declared.listing.Listing.{Listing}
 use Rattle.script_lines.specs.declared.listing.NoPage.{NoPage}
 use Rattle.script_lines.specs.declared.listing.NoPage.TheVariants as no_pages

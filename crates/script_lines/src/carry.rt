@@ -1,8 +1,8 @@
 //! A line of a script, carried out.
 
-ghost use Rattle.std.specs.Prelude.{◌≡◌, ◌↔◌, length, Err, IsOk, IsTrue, IfErr, OnOk, OnErr};
+ghost use Rattle.std.specs.Prelude.{◌≡◌, ◌↔◌, length, Err, IsOk, IfErr, OnOk, OnErr};
 ghost use Rattle.session.specs.Spelling.{Fits};
-ghost use Rattle.vault.specs.Scripts.{is_carried, jobs_after};
+ghost use Rattle.session.specs.Scripts.{jobs_after};
 ghost use Rattle.script_lines.specs.At.{Leaves};
 ghost use Rattle.script_lines.specs.Does.{CarriesOut, IsCutOff};
 ghost use Rattle.script_lines.specs.Jobs.{AreReached};
@@ -13,6 +13,7 @@ use crate::get::get_line;
 use crate::lanes::{drop_line, lose_line, step_line};
 use crate::listing::list_line;
 use crate::one::{arm_line, replace_line, restart_line};
+use crate::rebuilding::rebuild_line;
 use crate::upload::upload_line;
 use crate::{CarryErr, Jobs};
 use cd_base::{Bytes, NoMemory};
@@ -43,25 +44,6 @@ impl Buffers {
     }
 }
 
-/// Whether `carry_out` takes the line: not `rebuild`.
-pub fn can_carry_out(event: &Event) -> bool
-    ensures { result ≡ is_carried event.now }
-{
-    match event {
-        Event::Upload { .. } => true,
-        Event::Step { .. } => true,
-        Event::Lose { .. } => true,
-        Event::Drop { .. } => true,
-        Event::Finish { .. } => true,
-        Event::Get { .. } => true,
-        Event::List { .. } => true,
-        Event::Arm { .. } => true,
-        Event::Restart { .. } => true,
-        Event::Replace { .. } => true,
-        Event::Rebuild { .. } => false,
-    }
-}
-
 // The error of a line that wants memory alone.
 fn for_memory(done: Result<(), NoMemory>) -> Result<(), CarryErr>
     ensures same { IsOk result ↔ IsOk done }
@@ -83,8 +65,6 @@ fn for_memory(done: Result<(), NoMemory>) -> Result<(), CarryErr>
 ///
 /// `ShelfFault` comes at the line `replace` alone, where its cloud's areas couldn't be made empty: that cloud's count of
 /// faults rose, and else all clouds are as they were. `NoMemory` may come at each line.
-///
-/// The line `rebuild` isn't carried out yet, and may not be passed: `can_carry_out` is the test.
 pub fn carry_out<V: Shelf>(
     alloc: Global,
     link: &mut LocalLink<'_, V>,
@@ -93,7 +73,6 @@ pub fn carry_out<V: Shelf>(
     buffers: &mut Buffers,
     text: &mut Bytes,
 ) -> Result<(), CarryErr>
-    requires carried { IsTrue (is_carried event.now) }
     requires fits { Fits link.old.servers.shape (length jobs.old) event.now }
     requires reached { AreReached link.old.servers.shape jobs.old }
 
@@ -192,6 +171,8 @@ pub fn carry_out<V: Shelf>(
             text,
         )),
         Event::Replace { cloud } => replace_line(link, jobs, *cloud, text),
-        Event::Rebuild { .. } => unreachable!(),
+        Event::Rebuild { user, target, from } => {
+            for_memory(rebuild_line(alloc, link, jobs, *user, *target, from, text))
+        }
     }
 }

@@ -5,7 +5,7 @@ ghost use Rattle.std.specs.List.{range_with_len};
 ghost use Rattle.session.specs.Spelling.{IsJob};
 ghost use Rattle.session.specs.declared.event.Event.TheVariants as events;
 ghost use Rattle.vault.specs.Steps.{step_line as step_line_of};
-ghost use Rattle.vault.specs.Texts.{text_of};
+ghost use Rattle.session.specs.Texts.{text_of};
 ghost use Rattle.script_lines.specs.At.{Leaves};
 ghost use Rattle.script_lines.specs.Does.{CarriesOut, IsCutOff};
 ghost use Rattle.script_lines.specs.Finishing.{lane_lines, IsBrought, FinishesLanes, CutsLanes};

@@ -5,7 +5,7 @@ ghost use Rattle.session.specs.Spelling.{IsJob};
 ghost use Rattle.session.specs.declared.event.Event.TheVariants as events;
 ghost use Rattle.transcript.specs.declared.line.Line.TheVariants as lines;
 ghost use Rattle.transcript.specs.declared.news.News.TheVariants as news_words;
-ghost use Rattle.vault.specs.Texts.{text_of};
+ghost use Rattle.session.specs.Texts.{text_of};
 ghost use Rattle.script_lines.specs.At.{Leaves};
 ghost use Rattle.script_lines.specs.Does.{CarriesOut, IsCutOff};
 ghost use Rattle.script_lines.specs.Jobs.{AreReached};

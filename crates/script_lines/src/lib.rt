@@ -12,9 +12,10 @@ mod lanes;
 mod listing;
 mod news;
 mod one;
+mod rebuilding;
 mod upload;
 
-pub use carry::{Buffers, can_carry_out, carry_out};
+pub use carry::{Buffers, carry_out};
 pub use damage::damage_of;
 pub use error::CarryErr;
 pub use jobs::Jobs;

@@ -9,7 +9,7 @@ ghost use Rattle.messages.specs.Requests.{IsRequest};
 ghost use Rattle.session.specs.declared.event.Event.TheVariants as events;
 ghost use Rattle.transcript.specs.declared.line.Line.TheVariants as lines;
 ghost use Rattle.vault.specs.Steps.{entry_line as line_of_entry};
-ghost use Rattle.vault.specs.Texts.{text_of};
+ghost use Rattle.session.specs.Texts.{text_of};
 ghost use Rattle.script_lines.specs.At.{Leaves};
 ghost use Rattle.script_lines.specs.Does.{CarriesOut, IsCutOff};
 ghost use Rattle.script_lines.specs.Paging.{IsListReply, RefusesAs, TakesPage, Adds, PageComes, PageTurns, Lists, SaysNoPage};

@@ -2,7 +2,7 @@
 
 ghost use Rattle.std.specs.Prelude.{◌≡◌, ◌++◌, ◌∷◌, [], ◌&&◌, not, OnOk, OnErr};
 ghost use Rattle.vault.specs.Steps.{as_told, refusal_of};
-ghost use Rattle.vault.specs.Texts.{text_of};
+ghost use Rattle.session.specs.Texts.{text_of};
 ghost use Rattle.script_lines.specs.Stepping.{stored_if};
 
 use cd_base::{Bytes, NoMemory};

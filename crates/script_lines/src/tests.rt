@@ -4,7 +4,7 @@ ghost use Rattle.std.specs.Prelude.{◌≡◌};
 ghost use Rattle.cloud_state.specs.State.{AreRooms};
 ghost use Rattle.script_lines.specs.Jobs.{AreReached};
 
-use crate::{Buffers, Jobs, can_carry_out, carry_out};
+use crate::{Buffers, Jobs, carry_out};
 use cd_base::{Bytes, Rooms, Shape};
 use cd_fakes::MemShelf;
 use local_link::LocalLink;
@@ -47,9 +47,6 @@ fn carry(
         Ok(event) => event,
         Err(_) => return Err(Fail::new("no such line")),
     };
-    if !can_carry_out(&event) {
-        return Err(Fail::new("not carried out"));
-    }
     match carry_out(alloc, link, jobs, &event, buffers, text) {
         Ok(()) => Ok(()),
         Err(_) => Err(Fail::new("cut off")),

@@ -1,5 +1,5 @@
 -- What was acknowledged is kept, and given.
-use Rattle.std.proofs.Common.{◌≡◌, ℕ, zero, suc, ◌+◌, ◌-◌, ◌<◌, Bool, true, false, List, [], ◌∷◌, ◌++◌, map, reverse, Some, None, refl, sym, ap, ◌∙◌, subst, inl, inr, ◌⊎◌, arith, append-nil, append_assoc}
+use Rattle.std.proofs.Common.{◌≡◌, ℕ, zero, suc, ◌+◌, ◌-◌, ◌<◌, Bool, true, false, List, [], ◌∷◌, ◌++◌, map, length, reverse, Some, None, refl, sym, ap, ◌∙◌, subst, inl, inr, ◌⊎◌, arith, append-nil, append_assoc}
 use mathlib.Core.List.{reverse-cons, reverse-reverse}
 use Rattle.std.specs.Prelude.{IsTrue, slice_get, bytes_eq, Result, Ok, Err}
 use Rattle.std.specs.List.{Contains}
@@ -22,17 +22,24 @@ use Rattle.restore_job.specs.Asking.{is_lost}
 use Rattle.restore_job.specs.Restored.{Unrestored, restored_file}
 use Rattle.restore_job.specs.Restored
 use Rattle.restore_job.specs.Reading.{Ends}
-use Rattle.kept_files.specs.Kept.{Keeps}
+use Rattle.kept_files.specs.Kept.{Keeps, key_of}
 use Rattle.kept_files.proofs.Giving.{kept_is_given}
 use Rattle.kept_files.proofs.Keeping.{keeps_more}
+use Rattle.rebuild.specs.declared.error.SkipWhy.TheVariants as whys
+use Rattle.rebuild.specs.declared.error.RebuildErr.{RebuildErr}
+use Rattle.rebuild.specs.declared.skips.Rebuilt.{Rebuilt}
+use Rattle.rebuild.specs.Rebuilding.{RunsTo}
+use Rattle.rebuild.specs.Kept.{Refills as Came}
+use Rattle.rebuild.proofs.Bringing.{skip_for}
 use Rattle.session.specs.declared.event.Event.{Event}
 use Rattle.session.specs.declared.event.Event.TheVariants as events
+use Rattle.transcript.specs.declared.line.SkipWord.TheVariants as words
 use Rattle.transcript.specs.declared.line.Line.{Line}
 use Rattle.transcript.specs.declared.line.Line.TheVariants as lines
 use Rattle.transcript.specs.declared.refusal.Refusal.{Refusal}
 use Rattle.transcript.specs.declared.refusal.Refusal.TheVariants as refusals
-use Rattle.vault.specs.Vault.{Setting, Vault, opening}
-use Rattle.vault.specs.Steps.{Moment, cloud_no, IsGetLine, VStep}
+use Rattle.vault.specs.Vault.{Setting, Vault, served_at, opening}
+use Rattle.vault.specs.Steps.{Moment, cloud_no, IsGetLine, skip_line, AreRebuildLines, AllTold, RebuildStep, VStep}
 use Rattle.vault.specs.Run.{Answered, Turns, script_of, moments_of}
 use Rattle.vault.specs.Kept.{upload_of, uploads, Commits, Ends as Ended, Refills, Kept, IsDispersed}
 use Rattle.vault.specs.Headline.{Session, IsRun, script_in, moments_in, moments_begun, event_of, Clashes, GivesVersion, GivesAcknowledged, DisksKeep}
@@ -41,6 +48,7 @@ use Rattle.vault.proofs.Growing.{grows_last, stays_in, settles_in, grows_step}
 use Rattle.vault.proofs.Jobs.{brings_turns}
 use Rattle.vault.proofs.Seen.{Seen, seen_turns}
 use Rattle.vault.proofs.Lines.{Sees, commit_step, keeps_on}
+use Rattle.vault.proofs.Refilled.{refilled}
 
 -- ---- lists
 
@@ -144,6 +152,11 @@ module _ (clouds : ℕ → Cloud) (run : Session) (is : IsRun clouds run) (apart
   abbrev KeepsThere : ℕ → FileVersion → Peer → Type 0
   KeepsThere c v p = (list : List Command) → MaySettleAs p list → Keeps run.setting.shape c list v.user v.path v.number v.file
 
+  -- a cloud that was read
+  read_keeps : (cloud : ℕ) (v : FileVersion) (p q : Peer) → Stays p q ⊎ Settles p q → KeepsThere cloud v p → Keeps run.setting.shape cloud q.list v.user v.path v.number v.file
+  read_keeps cloud v p q (inl stays) keeps = keeps q.list (stays_in p q stays q.list (inl refl))
+  read_keeps cloud v p q (inr settles) keeps = keeps q.list (settles_in p q settles q.list (inl refl))
+
   kept_told : (rev : List Answered) (c : ℕ) (v : FileVersion) → Kept run.setting rev c v → IsTrue (run.setting.told c)
   kept_told [] c v k = absurd k
   kept_told (a ∷ earlier) c v k = k.0
@@ -177,7 +190,7 @@ module _ (clouds : ℕ → Cloud) (run : Session) (is : IsRun clouds run) (apart
       → Commits (script_of (reverse earlier)) c v a.answers
       ⊎ (Refills run.setting.shape (λ source. Kept run.setting earlier source v) c v a
       ⊎ (Kept run.setting earlier c v × ¬ Ended c v a.event))
-      → (Kept run.setting earlier c v → KeepsThere c v (mid.peers c)) → KeepsThere c v (a.after.peers c)
+      → ((source : ℕ) → source < run.setting.shape.n → Kept run.setting earlier source v → KeepsThere source v (mid.peers source)) → KeepsThere c v (a.after.peers c)
   kept_by a earlier later c below v told uploaded e mid front step behind (inl x) more =
       let r = ranged v uploaded in
       let place : x.0 - 1 ≡ x.1.0 = (let q : x.0 ≡ x.1.0 + 1 = x.1.1 in omega arith) in
@@ -185,10 +198,48 @@ module _ (clouds : ℕ → Cloud) (run : Session) (is : IsRun clouds run) (apart
       (ap (slice_get (uploads (script_of (reverse earlier)))) place ∙ x.1.2) mid a.event a.answers a.moments a.after step
       (brings_turns run.setting (reverse earlier) (opening clouds) mid [] front (record { are = tt; those = refl })) x.2 (sees c (reverse earlier) a later e behind)
   kept_by a earlier later c below v told uploaded e mid front step behind (inr (inl x)) more =
-      absurd (subst (λ (event : Event). VStep run.setting mid event a.answers a.moments a.after) x.event_is step)
+      let r = ranged v uploaded in
+      let fits = line_fits run.setting.shape 0 (script_in run) is.lines (events.Rebuild v.user (cloud_no c) x.from)
+      (subst (Contains (script_in run)) x.event_is (among run (reverse earlier) later a e)) in
+      let choice = are_choice run.setting.shape x.from fits.1.1.0 in
+      let rebuilt = subst (λ (event : Event). VStep run.setting mid event a.answers a.moments a.after) x.event_is step in
+      by_result x choice r rebuilt.0 (more_kept x choice) rebuilt.0.result rebuilt.0.lines_are (rebuilt.0.told (all_told x))
+    where
+      all_told : (x : Refills run.setting.shape (λ source. Kept run.setting earlier source v) c v a) → AllTold run.setting (c ∷ x.from)
+      all_told x cloud has = elim (contains_cases c x.from cloud has) [
+        | inl same ↦ subst (λ (n : ℕ). IsTrue (run.setting.told n)) same told
+        | inr source ↦ kept_told earlier cloud v (x.kept cloud source)
+      ]
+
+      -- each list of a cloud that was read is one that it might have settled as
+      more_kept : (x : Refills run.setting.shape (λ source. Kept run.setting earlier source v) c v a) → AreChoice run.setting.shape x.from → (source : ℕ) → Contains x.from source → KeepsThere source v (mid.peers source)
+      more_kept x choice source has = more source (chosen_below run.setting.shape x.from choice source has) (x.kept source has)
+
+      by_result : (x : Refills run.setting.shape (λ source. Kept run.setting earlier source v) c v a) → AreChoice run.setting.shape x.from → IsRanged v
+          → (r : RebuildStep run.setting v.user c x.from mid.peers a.answers a.moments a.after.peers) → ((source : ℕ) → Contains x.from source → KeepsThere source v (mid.peers source))
+          → (result : Result Rebuilt RebuildErr) → AreRebuildLines v.user c result a.answers
+          → RunsTo run.setting.shape v.user c (served_at run.setting c) x.from result r.turns mid.peers (a.after.peers c) a.after.peers × Came run.setting.shape c x.from v.user a.after.peers result
+          → KeepsThere c v (a.after.peers c)
+      by_result x choice ranged_v r before (Err error) are came =
+          absurd (let f : lines.Refused are.0 ∷ [] ≡ lines.Rebuilt v.user (cloud_no c) x.files x.skipped ∷ x.skips = sym are.2 ∙ x.answers_are in cc)
+      by_result x choice ranged_v r before (Ok rebuilt) are came =
+          let skips : map skip_line rebuilt.skipped ≡ x.skips =
+          (let f : lines.Rebuilt v.user (cloud_no c) rebuilt.files (length rebuilt.skipped) ∷ map skip_line rebuilt.skipped ≡ lines.Rebuilt v.user (cloud_no c) x.files x.skipped ∷ x.skips = sym are ∙ x.answers_are in cc) in
+          refilled run.setting c told v (record { path = ranged_v.path; few = ranged_v.few }) (Known c) (apart c below v uploaded) x.from r.turns rebuilt mid.peers a.after.peers choice ranged_v.letters ranged_v.bytes came.0
+          (λ source has. read_keeps source v (mid.peers source) (a.after.peers source)
+          (r.leaves.read source (λ same. x_apart x source has same)).0 (before source has))
+          (λ skipped. x.brought words.TargetExists (subst (λ (l : List Line). Contains l (lines.Skipped (key_of run.setting.shape v.path v.number).0 v.number words.TargetExists)) skips
+          (map_has skip_line rebuilt.skipped (skip_for (key_of run.setting.shape v.path v.number) whys.TargetExists) skipped)))
+          (sees c (reverse earlier) a later e behind).behind
+        where
+          x_apart : (x : Refills run.setting.shape (λ source. Kept run.setting earlier source v) c v a) → (source : ℕ) → Contains x.from source → source ≡ c → ⊥
+          x_apart x source has same =
+              let fits = line_fits run.setting.shape 0 (script_in run) is.lines (events.Rebuild v.user (cloud_no c) x.from)
+              (subst (Contains (script_in run)) x.event_is (among run (reverse earlier) later a e)) in
+              fits.1.1.1 (subst (Contains x.from) same has)
   kept_by a earlier later c below v told uploaded e mid front step behind (inr (inr x)) more =
       let r = ranged v uploaded in
-      keeps_on run.setting c told v (record { path = r.path; few = r.few }) (Known c) (apart c below v uploaded) (mid.peers c) (a.after.peers c) (more x.0)
+      keeps_on run.setting c told v (record { path = r.path; few = r.few }) (Known c) (apart c below v uploaded) (mid.peers c) (a.after.peers c) (more c below x.0)
       (grows_step run.setting c told v mid a.event a.answers a.moments a.after step x.1)
 
   -- what a told cloud acknowledged, each list that it may settle as keeps
@@ -202,7 +253,7 @@ module _ (clouds : ℕ → Cloud) (run : Session) (is : IsRun clouds run) (apart
       let uploaded = kept_uploaded (a ∷ earlier) later c v e k in
       subst (λ (w : Vault). KeepsThere c v (w.peers c)) (sym there)
       (kept_by a earlier later c below v k.0 uploaded (longer a earlier later e) x.mid x.front x.step behind_a k.1
-      (kept_keeps earlier (a ∷ later) c below v (longer a earlier later e) x.mid x.front (x.before, x.step, behind_a)))
+      (λ source lt kept. kept_keeps earlier (a ∷ later) source lt v (longer a earlier later e) x.mid x.front (x.before, x.step, behind_a) kept))
 
   -- ---- a get
 
@@ -245,10 +296,6 @@ module _ (clouds : ℕ → Cloud) (run : Session) (is : IsRun clouds run) (apart
       let ends = subst (λ (o : Result (List ℕ) Unrestored). Ends o named g.1.result [] g.1.file t.mid.peers a.after.peers) restored (g.1.told (λ cloud has. kept_told (reverse earlier) cloud v (kept cloud has))).ends in
       subst (λ (l : List Line). GivesVersion named v a l) (sym g.2)
       (given named v a t.mid.peers a.after.peers g.1.result g.1.file g.0 g.1.line_is g.1.found ends (λ cloud rose. subst (λ (w : Vault). Rose (w.peers cloud).faults (a.after.peers cloud).faults) (sym t.before) rose))
-    where
-      read_keeps : (cloud : ℕ) (v : FileVersion) (p q : Peer) → Stays p q ⊎ Settles p q → KeepsThere cloud v p → Keeps run.setting.shape cloud q.list v.user v.path v.number v.file
-      read_keeps cloud v p q (inl stays) keeps = keeps q.list (stays_in p q stays q.list (inl refl))
-      read_keeps cloud v p q (inr settles) keeps = keeps q.list (settles_in p q settles q.list (inl refl))
 
 -- ---- the promises
 

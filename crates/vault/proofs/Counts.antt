@@ -137,7 +137,10 @@ module _ (f : ℕ) (small : f < 2 ^ 64 - 1) where
     keeps_step old (events.List user cloud) answers moments new x = keeps_list user cloud.0 None old.peers x.0 x.1 new.peers x.2
     keeps_step old (events.Replace cloud) answers moments new x = keeps_one cloud.0 _ old.peers new.peers x.1
         (λ r. keeps_replace (old.peers cloud.0) (new.peers cloud.0) (replaced_count (s.told cloud.0) cloud.0 (old.peers cloud.0).faults (new.peers cloud.0).faults x.0 r.says))
-    keeps_step old (events.Rebuild user target from) answers moments new x = absurd x
+    keeps_step old (events.Rebuild user target from) answers moments new x = elim (cases_eq c target.0) [
+      | inl same ↦ keeps_up (old.peers c).faults (new.peers c).faults (subst (λ (n : ℕ). (old.peers n).faults ≤ (new.peers n).faults) (sym same) x.0.leaves.counts.faults)
+      | inr ne ↦ keeps_up (old.peers c).faults (new.peers c).faults (x.0.leaves.read c ne).1.faults
+    ]
 
     keeps_turns : (history : List Answered) (old new : Vault) → Turns s old history new → Keeps (old.peers c) (new.peers c)
     keeps_turns [] old new turns le = keeps_same (old.peers c) (new.peers c) (ap (λ (v : Vault). v.peers c) turns) le

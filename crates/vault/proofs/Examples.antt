@@ -1,6 +1,6 @@
 -- Cases that compute, for whoever doubts a definition.
 use Rattle.std.proofs.Common.{◌≡◌, ℕ, zero, suc, ◌+◌, ◌<◌, true, false, List, [], ◌∷◌, length, get_or, Some, None, refl, ap, subst, inl, inr, arith}
-use Rattle.std.specs.Prelude.{◌≢◌, IsTrue, All, slice_get, codes, Ok, Err}
+use Rattle.std.specs.Prelude.{◌≢◌, IsTrue, All, slice_get, Ok, Err}
 use Rattle.cd_base.specs.declared.ids.Tag.{Tag}
 use Rattle.cd_base.specs.declared.ids.UserId.{UserId}
 use Rattle.cd_base.specs.declared.ids.Version.{Version}
@@ -13,15 +13,18 @@ use Rattle.upload_job.specs.Upload.{FileVersion}
 use Rattle.upload_job.specs.Lane.{LaneState, Committing, Done, Refused}
 use Rattle.upload_job.specs.Lanes.{LaneView}
 use Rattle.lane_requests.specs.Runs.{starting, progress_after, no_lane}
+use Rattle.session.specs.Scripts.{jobs_of}
 use Rattle.session.specs.declared.event.Event.{Event}
 use Rattle.session.specs.declared.event.Event.TheVariants as events
+use Rattle.rebuild.specs.declared.error.SkipWhy.TheVariants as whys
+use Rattle.rebuild.specs.declared.error.RebuildErr.TheVariants as rebuild_errors
+use Rattle.transcript.specs.declared.line.SkipWord.TheVariants as words
 use Rattle.transcript.specs.declared.line.Line.{Line}
 use Rattle.transcript.specs.declared.line.Line.TheVariants as lines
 use Rattle.transcript.specs.declared.news.News.TheVariants as news
 use Rattle.transcript.specs.declared.refusal.Refusal.TheVariants as refusals
-use Rattle.vault.specs.Scripts.{only_carried, jobs_of}
 use Rattle.vault.specs.Vault.{Setting, Vault, new_job, opening}
-use Rattle.vault.specs.Steps.{Moment, quiet, cloud_no, version_of, lose_lines, all_done, stored_line, LaneStep, EndsListing, IsReplaceLine, VStep}
+use Rattle.vault.specs.Steps.{Moment, quiet, cloud_no, version_of, lose_lines, all_done, stored_line, LaneStep, EndsListing, IsReplaceLine, AreRebuildLines, VStep}
 use Rattle.vault.specs.Run.{Answered}
 use Rattle.vault.specs.Kept.{uploads, IsJobOf, Kept}
 use Rattle.vault.specs.Headline.{Session, IsRun, due, GivesVersion}
@@ -61,11 +64,6 @@ third_job v is =
     let place : is.0 ≡ 2 = (let e : 3 ≡ is.0 + 1 = is.1 in omega arith) in
     let none : slice_get (uploads script) 2 ≡ Some v = subst (λ (n : ℕ). slice_get (uploads script) n ≡ Some v) place is.2 in
     let f : None ≡ Some v = none in cc
-
--- ---- a line that isn't carried out: its first word is wrong
-
-rebuild_refused : only_carried (codes "rebuild 7 0 1,2,3") (Ok (events.Rebuild user (cloud_no 0) (1 ∷ 2 ∷ 3 ∷ []))) ≡ Err (record { at = 0; found = Some 114 })
-rebuild_refused = refl
 
 -- ---- lists and replacements
 
@@ -134,9 +132,13 @@ first_job : (s : Setting) (clouds : ℕ → Cloud) (job : ℕ) (moments : List M
 unfolding upload
 first_job s clouds job moments new step = let e : lines.Job job ∷ [] ≡ lines.Job 1 ∷ [] = step.0 in cc
 
--- a line that isn't carried out has no step
-no_rebuild : (s : Setting) (old new : Vault) (answers : List Line) (moments : List Moment) (from : List ℕ) → VStep s old (events.Rebuild user (cloud_no 0) from) answers moments new → ⊥
-no_rebuild s old new answers moments from step = step
+-- a rebuild that brought nothing and skipped one version says both; one that memory ran out in says nothing
+skipped_one : (tag : Tag) (version : Version) → AreRebuildLines user 2 (Ok (record { files = 0; skipped = record { tag = tag; version = version; why = whys.TargetExists } ∷ [] }))
+    (lines.Rebuilt user (cloud_no 2) 0 1 ∷ lines.Skipped tag version words.TargetExists ∷ [])
+skipped_one tag version = refl
+
+none_told : (answers : List Line) → AreRebuildLines user 2 (Err rebuild_errors.NoMemory) answers → ⊥
+none_told answers are = let f : None ≡ Some are.0 = are.1 in cc
 
 -- before the clouds are opened no line is due
 unopened : (run : Session) → run.opened ≡ false → run.history ≡ [] → due run ≡ []

@@ -14,7 +14,7 @@ use Rattle.messages.specs.declared.request.Request.{Request}
 use Rattle.messages.specs.declared.reply.Reply.{Reply}
 use Rattle.user_dedup.specs.declared.command.Command.{Command}
 use Rattle.user_dedup.specs.Dedup.{Outcome}
-use Rattle.user_dedup.specs.Exec.{Peer, MaySettleAs, Settles, Stays, IsCut, ExecTold, ExecUntold}
+use Rattle.user_dedup.specs.Exec.{Peer, MaySettleAs, Settles, Stays, IsCut, Exec, ExecTold, ExecUntold}
 use Rattle.share_server.specs.Serving.{ReopensAs}
 use Rattle.upload_job.specs.Upload.{FileVersion}
 use Rattle.upload_job.specs.Lanes as lanes
@@ -23,11 +23,12 @@ use Rattle.session.specs.declared.event.Event.{Event}
 use Rattle.session.specs.declared.event.Event.TheVariants as events
 use Rattle.transcript.specs.declared.refusal.Refusal.{Refusal}
 use Rattle.transcript.specs.declared.line.Line.{Line}
-use Rattle.vault.specs.Vault.{Setting, Vault, Executes, OneGoes, served_at, lanes_of}
+use Rattle.vault.specs.Vault.{Setting, Vault, Executes, OneGoes, served_at, lanes_of, with_peer, ExecutesAll}
 use Rattle.user_dedup.proofs.Owned.{contains_cases, contains_nothing, contains_here}
-use Rattle.vault.specs.Steps.{Moment, Execution, moment_of, LaneStep, DropStep, FinishLanes, ListRun, ReopensUntold, VStep}
+use Rattle.vault.specs.Steps.{Moment, Execution, moment_of, turn_moment, target_moments, LaneStep, DropStep, FinishLanes, ListRun, ReopensUntold, VStep}
 use Rattle.vault.specs.Kept.{Ends}
 use Rattle.vault.specs.Headline.{Begun, ComesTo, IsPartOf, event_of}
+use Rattle.vault.proofs.With.{with_here, with_other}
 
 -- each list that the cloud may settle as is one that it might have settled as before, and more
 abbrev pub Grows : Peer → Peer → Type 0
@@ -114,6 +115,19 @@ module _ (s : Setting) (c : ℕ) (told : IsTrue (s.told c)) where
         | inr x ↦ grows_list user cloud (slice_get x.0 (length x.0 - 1)) run.2.0 turns x.1 new x.5
       ])
 
+  -- the requests of a rebuild's target
+  grows_exec : (p : Peer) (request : Request) (reply : Reply) (q : Peer) → Exec s.shape (s.told c) (served_at s c) p request reply q → Grows p q
+  grows_exec p request reply q x =
+      grows_told (served_at s c) p q request reply (subst (λ (b : Bool). MatchBool b (ExecTold (served_at s c) p request reply q) (ExecUntold s.shape p request reply q)) told x.does)
+
+  pub grows_all : (p : Peer) (turns : List (Turn Peer)) (q : Peer) → ExecutesAll s c p turns q → Grows p q
+  grows_all p [] q x = grows_same p q x
+  grows_all p (t ∷ turns) q x = grows_on p x.1.0 q (grows_exec p t.request t.reply x.1.0 x.1.1) (grows_all x.1.0 turns q x.1.2)
+
+  grows_read : (p q : Peer) → Stays p q ⊎ Settles p q → Grows p q
+  grows_read p q (inl stays) = grows_in p q (stays_in p q stays)
+  grows_read p q (inr settles) = grows_in p q (settles_in p q settles)
+
   grows_reopen : (result : Result ℕ OpenErr) (p q : Peer) → ReopensAs true p q result → Grows p q
   grows_reopen (Ok commands) p q r = grows_in p q (settles_in p q r.0)
   grows_reopen (Err errors.Fault) p q r = grows_in p q (stays_in p q r.0)
@@ -141,7 +155,10 @@ module _ (s : Setting) (c : ℕ) (told : IsTrue (s.told c)) where
       (subst (λ (b : Bool). MatchBool b (ReopensAs true (old.peers cloud.0) (new.peers cloud.0) r.0) (ReopensUntold r.0 (old.peers cloud.0) (new.peers cloud.0))) (subst (λ (n : ℕ). IsTrue (s.told n)) same told) r.2))
   grows_step v old (events.List user cloud) answers moments new x lasts = grows_list user cloud.0 None old.peers x.0 x.1 new.peers x.2
   grows_step v old (events.Replace cloud) answers moments new x lasts = grows_one cloud.0 _ old.peers new.peers x.1 (λ same r. absurd (lasts (sym same)))
-  grows_step v old (events.Rebuild user target from) answers moments new x lasts = absurd x
+  grows_step v old (events.Rebuild user target from) answers moments new x lasts = elim (cases_eq c target.0) [
+    | inl same ↦ grows_all (old.peers c) x.0.turns (new.peers c) (subst (λ (n : ℕ). ExecutesAll s n (old.peers n) x.0.turns (new.peers n)) (sym same) x.0.executes)
+    | inr ne ↦ grows_read (old.peers c) (new.peers c) (x.0.leaves.read c ne).0
+  ]
 
   -- ---- at each moment of a line
 
@@ -188,6 +205,36 @@ module _ (s : Setting) (c : ℕ) (told : IsTrue (s.told c)) where
     ])
   ]
 
+  -- the target of a rebuild
+  grows_target : (old : ℕ → Peer) (p : Peer) (turns : List (Turn Peer)) (end : Peer) → ExecutesAll s c p turns end → (m : Moment) → Contains (target_moments old c turns end) m → Grows p (m.peers c)
+  grows_target old p [] end x m has = elim (contains_cases (record { peers = with_peer old c end; event = None }) [] m has) [
+    | inl same ↦ grows_same p (m.peers c) (ap (λ (n : Moment). n.peers c) (sym same) ∙ with_here old c end ∙ x)
+    | inr none ↦ absurd (contains_nothing m none)
+  ]
+  grows_target old p (t ∷ turns) end x m has = elim (contains_cases (turn_moment old c t) (target_moments old c turns end) m has) [
+    | inl same ↦ grows_same p (m.peers c) (ap (λ (n : Moment). n.peers c) (sym same) ∙ with_here old c t.before ∙ x.0)
+    | inr later ↦ grows_on p x.1.0 (m.peers c) (grows_exec p t.request t.reply x.1.0 x.1.1) (grows_target old x.1.0 turns end x.1.2 m later)
+  ]
+
+  -- and any other cloud
+  same_other : (old : ℕ → Peer) (target : ℕ) (turns : List (Turn Peer)) (end : Peer) → ¬ (c ≡ target) → (m : Moment) → Contains (target_moments old target turns end) m → m.peers c ≡ old c
+  same_other old target [] end ne m has = elim (contains_cases (record { peers = with_peer old target end; event = None }) [] m has) [
+    | inl same ↦ ap (λ (n : Moment). n.peers c) (sym same) ∙ with_other old target end c ne
+    | inr none ↦ absurd (contains_nothing m none)
+  ]
+  same_other old target (t ∷ turns) end ne m has = elim (contains_cases (turn_moment old target t) (target_moments old target turns end) m has) [
+    | inl same ↦ ap (λ (n : Moment). n.peers c) (sym same) ∙ with_other old target t.before c ne
+    | inr later ↦ same_other old target turns end ne m later
+  ]
+
+  grows_rebuild : (old : ℕ → Peer) (target : ℕ) (turns : List (Turn Peer)) (new : ℕ → Peer) → ExecutesAll s target (old target) turns (new target)
+      → (m : Moment) → Contains (target_moments old target turns (new target)) m → Grows (old c) (m.peers c)
+  grows_rebuild old target turns new x m has = elim (cases_eq c target) [
+    | inl same ↦ grows_target old (old c) turns (new c) (subst (λ (n : ℕ). ExecutesAll s n (old n) turns (new n)) (sym same) x) m
+        (subst (λ (n : ℕ). Contains (target_moments old n turns (new n)) m) (sym same) has)
+    | inr ne ↦ grows_same (old c) (m.peers c) (same_other old target turns (new target) ne m has)
+  ]
+
   pub grows_at : (old : Vault) (event : Event) (answers : List Line) (moments : List Moment) (new : Vault) → VStep s old event answers moments new → (m : Moment) → Contains moments m → Grows (old.peers c) (m.peers c)
   grows_at old (events.Upload user path version bytes) answers moments new x = grows_alone old.peers None moments x.1
   grows_at old (events.Step job lane) answers moments new x = grows_lane_at job lane.0 (lanes.request_at (lanes_of old.jobs job) lane.0) old answers moments new x
@@ -200,7 +247,11 @@ module _ (s : Setting) (c : ℕ) (told : IsTrue (s.told c)) where
   grows_at old (events.List user cloud) answers moments new x = λ m has.
       grows_list_at user cloud.0 None old.peers x.0 x.1 new.peers x.2 m (subst (λ (l : List Moment). Contains l m) x.4 has)
   grows_at old (events.Replace cloud) answers moments new x = grows_alone old.peers None moments x.3
-  grows_at old (events.Rebuild user target from) answers moments new x = absurd x
+  grows_at old (events.Rebuild user target from) answers moments new x = λ m has.
+      elim (contains_cases (record { peers = old.peers; event = None }) (target_moments old.peers target.0 x.0.turns (new.peers target.0)) m (subst (λ (l : List Moment). Contains l m) x.0.moments_are has)) [
+        | inl same ↦ grows_same (old.peers c) (m.peers c) (ap (λ (n : Moment). n.peers c) (sym same))
+        | inr later ↦ grows_rebuild old.peers target.0 x.0.turns new.peers x.0.executes m later
+      ]
 
   pub grows_last : (v : FileVersion) (between : Vault) (begun : Option Begun) (last : ℕ → Peer) → MatchOption begun (last ≡ between.peers) (λ b. IsPartOf s between b last)
       → ((event : Event) → Contains (event_of begun) event → ¬ Ends c v event) → Grows (between.peers c) (last c)

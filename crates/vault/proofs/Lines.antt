@@ -28,6 +28,9 @@ use Rattle.upload_job.specs.Lanes.{LaneView}
 use Rattle.upload_job.specs.Lanes as lanes
 use Rattle.lane_requests.specs.Runs.{Turn, Progress, LaneRun, Tell, starting, request_of, progress_after, lane_at}
 use Rattle.restore_job.specs.declared.error.RestoreErr.{RestoreErr}
+use Rattle.rebuild.specs.declared.error.RebuildErr.{RebuildErr}
+use Rattle.rebuild.specs.declared.skips.Skip.{Skip}
+use Rattle.rebuild.specs.declared.skips.Rebuilt.{Rebuilt}
 use Rattle.kept_files.specs.Kept.{Keeps}
 use Rattle.kept_files.proofs.Keeping.{keeps_more}
 use Rattle.session.specs.declared.event.Event.{Event}
@@ -37,7 +40,7 @@ use Rattle.transcript.specs.declared.line.Line.{Line}
 use Rattle.transcript.specs.declared.line.Line.TheVariants as lines
 use Rattle.transcript.specs.declared.news.News.TheVariants as news
 use Rattle.vault.specs.Vault.{Setting, Vault, Executes, served_at, lanes_of}
-use Rattle.vault.specs.Steps.{Moment, moment_of, as_told, cloud_no, step_line, lose_lines, stored_line, all_done, LaneStep, DropStep, FinishLanes, IsGetLine, entry_line, list_lines, IsRestartLine, RestartStep, IsReplaceLine, VStep}
+use Rattle.vault.specs.Steps.{Moment, moment_of, as_told, cloud_no, step_line, lose_lines, stored_line, all_done, LaneStep, DropStep, FinishLanes, IsGetLine, entry_line, list_lines, IsRestartLine, RestartStep, IsReplaceLine, skip_word, skip_line, AreRebuildLines, VStep}
 use Rattle.vault.proofs.Growing.{Grows, grows_run, grows_finish}
 use Rattle.vault.proofs.Jobs.{AreOf, Brings, job_of, work_at, asks_at, lane_moved}
 use Rattle.vault.proofs.Committed.{IsUpload, executed_keeps}
@@ -96,6 +99,20 @@ not_listed user cloud (Ok entries) j c has = elim (contains_cases _ (map entry_l
   | inr later ↦ (let x = mapped entry_line entries (lines.Step j (cloud_no c) news.Committed) later in let f : lines.Entry x.0.0 x.0.1 ≡ lines.Step j (cloud_no c) news.Committed = x.2 in cc)
 ]
 not_listed user cloud (Err why) j c has = not_one (lines.Refused why) _ j c refl (λ e. cc) has
+
+not_skipped : (skips : List Skip) (j c : ℕ) → Contains (map skip_line skips) (lines.Step j (cloud_no c) news.Committed) → ⊥
+not_skipped skips j c has =
+    let x = mapped skip_line skips (lines.Step j (cloud_no c) news.Committed) has in
+    let f : lines.Skipped x.0.tag x.0.version (skip_word x.0.why) ≡ lines.Step j (cloud_no c) news.Committed = x.2 in
+    cc
+
+not_rebuilt : (user : UserId) (target : ℕ) (result : Result Rebuilt RebuildErr) (answers : List Line) (j c : ℕ) → AreRebuildLines user target result answers → Contains answers (lines.Step j (cloud_no c) news.Committed) → ⊥
+not_rebuilt user target (Ok rebuilt) answers j c are has =
+    elim (contains_cases _ (map skip_line rebuilt.skipped) (lines.Step j (cloud_no c) news.Committed) (subst (λ (l : List Line). Contains l (lines.Step j (cloud_no c) news.Committed)) are has)) [
+      | inl same ↦ let f : lines.Rebuilt user (cloud_no target) rebuilt.files (length rebuilt.skipped) ≡ lines.Step j (cloud_no c) news.Committed = same in cc
+      | inr later ↦ not_skipped rebuilt.skipped j c later
+    ]
+not_rebuilt user target (Err e) answers j c are has = not_one (lines.Refused are.0) answers j c are.2 (λ q. cc) has
 
 -- the strings that the cloud has at these moments and behind them are known
 pub record Sees (Known : List ℕ → Type 0) (c : ℕ) (moments : List Moment) (new : ℕ → Peer) : Type 0 where
@@ -262,4 +279,4 @@ module _ (s : Setting) (c : ℕ) (told : IsTrue (s.told c)) (v : FileVersion) (g
         absurd (not_listed user cloud.0 x.1 j c (subst (λ (l : List Line). Contains l (lines.Step j (cloud_no c) news.Committed)) x.3 has))
     commit_step old (events.Replace cloud) answers moments new x b has sees =
         absurd (not_one x.0 answers j c x.2 (λ e. subst (IsReplaceLine (s.told cloud.0) cloud.0 (old.peers cloud.0).faults (new.peers cloud.0).faults) e x.1.goes.says) has)
-    commit_step old (events.Rebuild user target from) answers moments new x b has sees = absurd x
+    commit_step old (events.Rebuild user target from) answers moments new x b has sees = absurd (not_rebuilt user target.0 x.0.result answers j c x.0.lines_are has)

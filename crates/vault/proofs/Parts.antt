@@ -97,7 +97,7 @@ news_fault Done = refl
 news_fault Refused = refl
 
 module _ (s : Setting) where
-  exec_fault : (cloud : ℕ) (p : Peer) (request : Request) → Exec s.shape (s.told cloud) (served_at s cloud) p request replies.Fault (fault_of p)
+  pub exec_fault : (cloud : ℕ) (p : Peer) (request : Request) → Exec s.shape (s.told cloud) (served_at s cloud) p request replies.Fault (fault_of p)
   unfolding fault_of
   exec_fault cloud p request = record { counts = record { faults = omega arith; armings = refl }; does = by_told (s.told cloud) }
     where

@@ -17,8 +17,8 @@ use Rattle.user_dedup.specs.Cloud.{commands_of, no_view, view_after, user_view}
 use Rattle.user_dedup.specs.Requests.{asker}
 use Rattle.user_dedup.specs.Owning.{first_lacking}
 use Rattle.user_dedup.specs.Dedup.{Outcome, FullRoom, answer_by_view, shares_reply, answer_over, room_for, by_room}
-use Rattle.user_dedup.specs.Exec.{Peer, MaySettleAs, ExecTold, ExecUntold}
-use Rattle.user_dedup.proofs.Owned.{contains_cases, contains_nothing}
+use Rattle.user_dedup.specs.Exec.{Peer, MaySettleAs, Exec, ExecTold, ExecUntold}
+use Rattle.user_dedup.proofs.Owned.{contains_cases, contains_nothing, contains_here}
 use Rattle.cloud_store.specs.Space.{full_for}
 use Rattle.upload_job.specs.Lanes as lanes
 use Rattle.lane_requests.specs.Runs.{Turn, Progress, LaneRun, progress_after}
@@ -26,10 +26,11 @@ use Rattle.session.specs.declared.event.Event.{Event}
 use Rattle.session.specs.declared.event.Event.TheVariants as events
 use Rattle.transcript.specs.declared.refusal.Refusal.{Refusal}
 use Rattle.transcript.specs.declared.line.Line.{Line}
-use Rattle.vault.specs.Vault.{Setting, Vault, Executes, served_at, lanes_of}
-use Rattle.vault.specs.Steps.{Moment, quiet, moment_of, LaneStep, DropStep, FinishLanes, ListRun, VStep}
+use Rattle.vault.specs.Vault.{Setting, Vault, Executes, served_at, lanes_of, with_peer, ExecutesAll}
+use Rattle.vault.specs.Steps.{Moment, quiet, moment_of, turn_moment, target_moments, LaneStep, DropStep, FinishLanes, ListRun, VStep}
 use Rattle.vault.specs.Run.{Answered, Turns, moments_of}
 use Rattle.vault.specs.Headline.{Session, Begun, IsRun, IsPartOf, IsOwnReply, own_reply, IsPrivate, moments_begun}
+use Rattle.vault.proofs.With.{executes_with}
 
 -- ---- one reply
 
@@ -119,6 +120,15 @@ module _ (s : Setting) where
     ]
   ]
 
+  private_target : (old : ℕ → Peer) (target : ℕ) (p : Peer) (turns : List (Turn Peer)) (end : Peer) → ExecutesAll s target p turns end
+      → (m : Moment) → Contains (target_moments old target turns end) m → IsPrivate s m
+  private_target old target p [] end x m has = private_one (record { peers = with_peer old target end; event = None }) m tt has
+  private_target old target p (t ∷ turns) end x m has = elim (contains_cases (turn_moment old target t) (target_moments old target turns end) m has) [
+    | inl same ↦ subst (IsPrivate s) same (private_exec target (with_peer old target t.before) (with_peer old target x.1.0) t.request t.reply
+        (executes_with s target old t.before t.request t.reply x.1.0 (subst (λ (a : Peer). Exec s.shape (s.told target) (served_at s target) a t.request t.reply x.1.0) (sym x.0) x.1.1)))
+    | inr later ↦ private_target old target x.1.0 turns end x.1.2 m later
+  ]
+
   private_step : (old : Vault) (event : Event) (answers : List Line) (moments : List Moment) (new : Vault) → VStep s old event answers moments new → (m : Moment) → Contains moments m → IsPrivate s m
   private_step old (events.Upload user path version bytes) answers moments new x m has = private_quiet old.peers moments x.1 m has
   private_step old (events.Step job lane) answers moments new x m has = private_lane job lane.0 (lanes.request_at (lanes_of old.jobs job) lane.0) old answers moments new x m has
@@ -131,7 +141,11 @@ module _ (s : Setting) where
   private_step old (events.List user cloud) answers moments new x m has =
       private_list user cloud.0 None old.peers x.0 x.1 new.peers x.2 m (subst (λ (l : List Moment). Contains l m) x.4 has)
   private_step old (events.Replace cloud) answers moments new x m has = private_quiet old.peers moments x.3 m has
-  private_step old (events.Rebuild user target from) answers moments new x m has = absurd x
+  private_step old (events.Rebuild user target from) answers moments new x m has =
+      elim (contains_cases (record { peers = old.peers; event = None }) (target_moments old.peers target.0 x.0.turns (new.peers target.0)) m (subst (λ (l : List Moment). Contains l m) x.0.moments_are has)) [
+        | inl same ↦ private_one (record { peers = old.peers; event = None }) m tt (subst (Contains (record { peers = old.peers; event = None } ∷ [])) same (contains_here (record { peers = old.peers; event = None }) []))
+        | inr later ↦ private_target old.peers target.0 (old.peers target.0) x.0.turns (new.peers target.0) x.0.executes m later
+      ]
 
   private_turns : (history : List Answered) (old new : Vault) → Turns s old history new → (m : Moment) → Contains (moments_of history) m → IsPrivate s m
   private_turns [] old new t m has = absurd (contains_nothing m has)

@@ -13,10 +13,10 @@ use Rattle.cd_base.specs.declared.shape.Shape.{Shape}
 use Rattle.reed_solomon.specs.Dispersal.{AreChoice}
 use Rattle.user_dedup.proofs.Owned.{contains_cases, contains_nothing}
 use Rattle.upload_job.specs.Upload.{FileVersion}
+use Rattle.session.specs.Scripts.{jobs_after, AreLines}
 use Rattle.session.specs.Spelling.{AreClouds, Fits, IsTyped, AreBytes}
 use Rattle.session.specs.declared.event.Event.{Event}
 use Rattle.session.specs.declared.event.Event.TheVariants as events
-use Rattle.vault.specs.Scripts.{jobs_after, AreLines}
 use Rattle.vault.specs.Steps.{version_of}
 use Rattle.vault.specs.Kept.{upload_of, uploads}
 
@@ -24,6 +24,7 @@ use Rattle.vault.specs.Kept.{upload_of, uploads}
 pub record IsRanged (v : FileVersion) : Type 0 where
   pub path : IsPath v.path
   pub few : length v.file ≤ 67108864
+  pub letters : (i : ℕ) → slice_index v.path i < 256
   pub bytes : (i : ℕ) → slice_index v.file i < 256
 
 -- past their end bytes are read as 0
@@ -58,7 +59,7 @@ are_choice shape clouds are = record {
 -- by what the first line is
 upload_ranged : (shape : Shape) (jobs : ℕ) (event : Event) → Fits shape jobs event → IsTyped event → (v : FileVersion) → Contains (upload_of event) v → IsRanged v
 upload_ranged shape jobs (events.Upload user path version bytes) fits typed v has = elim (contains_cases (version_of user path version bytes) [] v has) [
-  | inl same ↦ subst IsRanged same (record { path = fits.named; few = fits.few; bytes = byte_at bytes typed.3 })
+  | inl same ↦ subst IsRanged same (record { path = fits.named; few = fits.few; letters = byte_at path typed.1; bytes = byte_at bytes typed.3 })
   | inr none ↦ absurd (contains_nothing v none)
 ]
 upload_ranged shape jobs (events.Step job lane) fits typed v has = absurd (contains_nothing v has)

@@ -17,7 +17,7 @@ use Rattle.session.specs.declared.event.Event.TheVariants as events
 use Rattle.transcript.specs.declared.refusal.Refusal.{Refusal}
 use Rattle.transcript.specs.declared.line.Line.{Line}
 use Rattle.vault.specs.Vault.{Setting, Vault, Executes, lanes_of}
-use Rattle.vault.specs.Steps.{Moment, quiet, moment_of, LaneStep, DropStep, FinishLanes, ListRun, VStep}
+use Rattle.vault.specs.Steps.{Moment, quiet, moment_of, target_moments, LaneStep, DropStep, FinishLanes, ListRun, VStep}
 use Rattle.vault.specs.Run.{Answered, Turns, moments_of}
 use Rattle.vault.specs.Headline.{Begun, ComesTo, IsPartOf, moments_begun}
 
@@ -63,7 +63,8 @@ module _ (s : Setting) where
   first_step old (events.Restart cloud) answers moments new x = first_quiet old.peers new.peers moments x.3
   first_step old (events.List user cloud) answers moments new x = first_list user cloud.0 None old.peers x.0 x.1 new.peers moments x.2 x.4
   first_step old (events.Replace cloud) answers moments new x = first_quiet old.peers new.peers moments x.3
-  first_step old (events.Rebuild user target from) answers moments new x = absurd x
+  first_step old (events.Rebuild user target from) answers moments new x =
+      inr (record { peers = old.peers; event = None }, target_moments old.peers target.0 x.0.turns (new.peers target.0), x.0.moments_are, refl)
 
 -- ---- strings
 

@@ -1,8 +1,9 @@
 -- A line that was cut before it moved anything goes on by a fault.
-use Rattle.std.proofs.Common.{◌≡◌, ℕ, ◌+◌, ◌-◌, ◌^◌, Bool, true, false, List, [], ◌∷◌, ◌++◌, length, min, Option, Some, None, refl, sym, subst, inl, arith}
-use Rattle.std.specs.Prelude.{IsTrue, Err}
+use Rattle.std.proofs.Common.{◌≡◌, ℕ, ◌+◌, ◌-◌, ◌^◌, Bool, true, false, List, [], ◌∷◌, ◌++◌, length, min, Option, Some, None, refl, sym, subst, inl, inr, ◌⊎◌, arith}
+use Rattle.std.specs.Prelude.{◌≢◌, Err}
 use Rattle.std.specs.Bool.{MatchBool}
-use Rattle.std.specs.List.{range_with_len}
+use Rattle.std.specs.List.{Contains, range_with_len}
+use Rattle.std.proofs.lemmas.Bool.{cases_eq}
 use Rattle.cd_base.specs.declared.ids.CloudNo.{CloudNo}
 use Rattle.cd_base.specs.declared.ids.UserId.{UserId}
 use Rattle.cd_base.specs.declared.ids.Version.{Version}
@@ -11,8 +12,14 @@ use Rattle.commit_journal.specs.declared.errors.OpenErr.TheVariants as errors
 use Rattle.messages.specs.declared.request.Request.{Request}
 use Rattle.messages.specs.declared.request.Request.TheVariants as requests
 use Rattle.messages.specs.declared.reply.Reply.TheVariants as replies
-use Rattle.user_dedup.specs.Exec.{Peer}
+use Rattle.user_dedup.specs.Exec.{Peer, CountsOn}
+use Rattle.user_dedup.proofs.Owned.{contains_here}
 use Rattle.share_server.specs.Serving.{ReopensAs}
+use Rattle.restore_job.specs.Asking.{MayRead}
+use Rattle.restore_job.specs.declared.error.RestoreErr.TheVariants as restore_errors
+use Rattle.rebuild.specs.declared.error.RebuildErr.TheVariants as rebuild_errors
+use Rattle.rebuild.specs.Found.{findings}
+use Rattle.rebuild.specs.Rebuilding.{nothing_yet}
 use Rattle.upload_job.specs.declared.news.LaneNews.TheVariants as lane_news
 use Rattle.upload_job.specs.Lanes.{with_state}
 use Rattle.lane_requests.specs.Runs.{moved, lane_at}
@@ -24,9 +31,8 @@ use Rattle.transcript.specs.declared.refusal.Refusal.{Refusal}
 use Rattle.transcript.specs.declared.refusal.Refusal.TheVariants as refusals
 use Rattle.transcript.specs.declared.line.Line.{Line}
 use Rattle.transcript.specs.declared.line.Line.TheVariants as lines
-use Rattle.vault.specs.Scripts.{is_carried}
 use Rattle.vault.specs.Vault.{Setting, Vault, new_job, lanes_of, with_lanes, OneGoes}
-use Rattle.vault.specs.Steps.{Execution, executed, quiet, no_step, step_line, stored_line, lose_lines, all_done, asked_by, version_of, LaneStep, DropStep, list_lines, ReopensUntold, RestartStep, ReplaceStep}
+use Rattle.vault.specs.Steps.{Execution, cloud_no, rebuild_moments, executed, quiet, no_step, step_line, stored_line, lose_lines, all_done, asked_by, version_of, LaneStep, DropStep, list_lines, ReopensUntold, RestartStep, ReplaceStep}
 use Rattle.vault.specs.Headline.{IsPartOf}
 use Rattle.vault.proofs.Seen.{first_finish}
 use Rattle.vault.proofs.Parts.{fault_of, put, put_here, put_other, news_fault, fails, finishes, comes, part_of_get}
@@ -221,15 +227,76 @@ module _ (s : Setting) (old : Vault) where
       rose : (p : Peer) → Rose p.faults (emptied p).faults
       rose p = let r : Rose p.faults (p.faults + 1) = omega arith in r
 
-  pub unmoved : (jobs : ℕ) (event : Event) → Fits s.shape jobs event → IsTrue (is_carried event) → IsUnmoved s old event
-  unmoved jobs (events.Upload user path version bytes) fits carried = part_of_upload user path version bytes
-  unmoved jobs (events.Step job lane) fits carried = part_of_step job lane
-  unmoved jobs (events.Lose job lane) fits carried = part_of_lose job lane
-  unmoved jobs (events.Drop job lane) fits carried = part_of_drop job lane
-  unmoved jobs (events.Finish job) fits carried = part_of_finish_begun job
-  unmoved jobs (events.Get user path version clouds) fits carried = part_of_read jobs user path version clouds fits.1
-  unmoved jobs (events.Arm cloud calls keep) fits carried = part_of_arm cloud calls keep
-  unmoved jobs (events.Restart cloud) fits carried = part_of_restart cloud
-  unmoved jobs (events.List user cloud) fits carried = part_of_list user cloud
-  unmoved jobs (events.Replace cloud) fits carried = part_of_replace cloud
-  unmoved jobs (events.Rebuild user target from) fits carried = absurd (let f : false ≡ true = carried in cc)
+  -- the first cloud fails at its first page
+  part_of_rebuild_begun : (user : UserId) (target : CloudNo) (from : List ℕ) → AreClouds s.shape from → ¬ Contains from target.0 → IsUnmoved s old (events.Rebuild user target from)
+  unfolding fault_of
+  part_of_rebuild_begun user target [] are apart = absurd (let n : 0 ≡ s.shape.k = are.count in let m = s.shape.several in omega arith)
+  part_of_rebuild_begun user target (cloud ∷ from) are apart = (
+    lines.Refused why ∷ [],
+    rebuild_moments old.peers target.0 [] (new target.0),
+    record { peers = new; jobs = old.jobs },
+    (
+      record {
+        result = Err (rebuild_errors.FromRestore (restore_errors.CloudFault (cloud_no cloud)));
+        turns = [];
+        lines_are = (why, refl, refl);
+        moments_are = refl;
+        found = refl;
+        executes = stays_target;
+        leaves = record {
+          read = λ c ne. may c (cases_eq c cloud);
+          others = λ c ne out. put_other old.peers cloud (fault_of (old.peers cloud)) c (λ same. out (subst (Contains (cloud ∷ from)) (sym same) (contains_here cloud from)));
+          counts = subst (CountsOn (old.peers target.0)) (sym stays_target) (record { faults = omega arith; armings = refl });
+        };
+        named = (tt, contains_here cloud from);
+        caused = rose;
+        told = λ told. (
+          record {
+            found = [];
+            front = record { rest = findings s.shape (λ c. (new c).list) (cloud ∷ from) user; split = refl };
+            last = nothing_yet;
+            brings = (refl, refl, stays_target);
+            ends = (refl, (contains_here cloud from, (rose, may cloud (inl refl))));
+          },
+          tt,
+        );
+      },
+      refl,
+    ),
+    refl,
+  )
+    where
+      why : Refusal
+      why = refusals.Fault (cloud_no cloud)
+
+      new : ℕ → Peer
+      new = put old.peers cloud (fault_of (old.peers cloud))
+
+      stays_target : new target.0 ≡ old.peers target.0
+      stays_target = put_other old.peers cloud (fault_of (old.peers cloud)) target.0 (λ same. apart (subst (Contains (cloud ∷ from)) (sym same) (contains_here cloud from)))
+
+      rose : Rose (old.peers cloud).faults (new cloud).faults
+      rose = subst (λ (p : Peer). Rose (old.peers cloud).faults p.faults) (sym (put_here old.peers cloud (fault_of (old.peers cloud)))) (let r : Rose (old.peers cloud).faults ((old.peers cloud).faults + 1) = omega arith in r)
+
+      may_fault : (p : Peer) → MayRead p (fault_of p)
+      may_fault p = (inl (record { list = refl; pending = refl }), record { faults = omega arith; armings = refl })
+
+      may_stay : (p : Peer) → MayRead p p
+      may_stay p = (inl (record { list = refl; pending = refl }), record { faults = omega arith; armings = refl })
+
+      may : (c : ℕ) → (c ≡ cloud) ⊎ (c ≢ cloud) → MayRead (old.peers c) (new c)
+      may c (inl same) = subst (λ (n : ℕ). MayRead (old.peers n) (new n)) (sym same) (subst (MayRead (old.peers cloud)) (sym (put_here old.peers cloud (fault_of (old.peers cloud)))) (may_fault (old.peers cloud)))
+      may c (inr ne) = subst (MayRead (old.peers c)) (sym (put_other old.peers cloud (fault_of (old.peers cloud)) c ne)) (may_stay (old.peers c))
+
+  pub unmoved : (jobs : ℕ) (event : Event) → Fits s.shape jobs event → IsUnmoved s old event
+  unmoved jobs (events.Upload user path version bytes) fits = part_of_upload user path version bytes
+  unmoved jobs (events.Step job lane) fits = part_of_step job lane
+  unmoved jobs (events.Lose job lane) fits = part_of_lose job lane
+  unmoved jobs (events.Drop job lane) fits = part_of_drop job lane
+  unmoved jobs (events.Finish job) fits = part_of_finish_begun job
+  unmoved jobs (events.Get user path version clouds) fits = part_of_read jobs user path version clouds fits.1
+  unmoved jobs (events.Arm cloud calls keep) fits = part_of_arm cloud calls keep
+  unmoved jobs (events.Restart cloud) fits = part_of_restart cloud
+  unmoved jobs (events.List user cloud) fits = part_of_list user cloud
+  unmoved jobs (events.Replace cloud) fits = part_of_replace cloud
+  unmoved jobs (events.Rebuild user target from) fits = part_of_rebuild_begun user target from fits.1.0 fits.1.1

@@ -16,12 +16,12 @@ use Rattle.cloud_store.specs.Store.{StandsFor}
 use Rattle.upload_job.specs.Upload.{FileVersion}
 use Rattle.kept_files.specs.Kept.{Keeps}
 use Rattle.local_link.specs.Calls.{header_of}
+use Rattle.session.specs.Scripts.{AreLines}
 use Rattle.session.specs.declared.event.Event.{Event}
 use Rattle.session.specs.declared.event.Event.TheVariants as events
 use Rattle.transcript.specs.declared.refusal.Refusal.TheVariants as refusals
 use Rattle.transcript.specs.declared.line.Line.{Line}
 use Rattle.transcript.specs.declared.line.Line.TheVariants as lines
-use Rattle.vault.specs.Scripts.{AreLines}
 use Rattle.vault.specs.Vault.{Setting, Vault, opening}
 use Rattle.vault.specs.Steps.{Moment, VStep}
 use Rattle.vault.specs.Run.{Answered, Turns, script_of, moments_of, answers_of, IsListIn}

@@ -1,5 +1,3 @@
-pub mod Scripts
-pub mod Texts
 pub mod Vault
 pub mod Steps
 pub mod Run

@@ -32,15 +32,28 @@ use Rattle.restore_job.specs.Reading.{Restores}
 use Rattle.restore_job.specs.Refusals.{Names, Causes}
 use Rattle.kept_files.specs.Kept.{key_of}
 use Rattle.local_link.specs.Calls.{Armed}
+use Rattle.rebuild.specs.declared.error.SkipWhy.{SkipWhy}
+use Rattle.rebuild.specs.declared.error.SkipWhy.TheVariants as whys
+use Rattle.rebuild.specs.declared.error.RebuildErr.{RebuildErr}
+use Rattle.rebuild.specs.declared.error.RebuildErr.TheVariants as rebuild_errors
+use Rattle.rebuild.specs.declared.skips.Skip.{Skip}
+use Rattle.rebuild.specs.declared.skips.Rebuilt.{Rebuilt}
+use Rattle.rebuild.specs.Rebuilding.{LeavesBut, RunsTo}
+use Rattle.rebuild.specs.Over.{HandsOn}
+use Rattle.rebuild.specs.Over as rebuilding
+use Rattle.rebuild.specs.Kept.{Refills}
 use Rattle.session.specs.declared.event.Event.{Event}
 use Rattle.session.specs.declared.event.Event.TheVariants as events
 use Rattle.transcript.specs.declared.news.News.{News}
 use Rattle.transcript.specs.declared.news.News.TheVariants as news
 use Rattle.transcript.specs.declared.refusal.Refusal.{Refusal}
 use Rattle.transcript.specs.declared.refusal.Refusal.TheVariants as refusals
+use Rattle.transcript.specs.declared.refusal.TargetWhy.TheVariants as target_whys
+use Rattle.transcript.specs.declared.line.SkipWord.{SkipWord}
+use Rattle.transcript.specs.declared.line.SkipWord.TheVariants as words
 use Rattle.transcript.specs.declared.line.Line.{Line}
 use Rattle.transcript.specs.declared.line.Line.TheVariants as lines
-use Rattle.vault.specs.Vault.{Setting, Vault, new_job, lanes_of, with_lanes, Executes, OneGoes}
+use Rattle.vault.specs.Vault.{Setting, Vault, new_job, lanes_of, with_lanes, served_at, Executes, OneGoes, with_peer, ExecutesAll}
 
 -- ---- moments
 
@@ -274,6 +287,78 @@ pub record ReplaceStep (s : Setting) (cloud : ℕ) (line : Line) (old new : Peer
   pub armings : new.armings ≡ old.armings
   pub says : IsReplaceLine (s.told cloud) cloud old.faults new.faults line
 
+-- ---- a rebuild
+
+abbrev pub skip_word : SkipWhy → SkipWord
+skip_word (whys.Missing c) = words.Missing
+skip_word (whys.RecipesDiffer a b place) = words.RecipesDiffer
+skip_word (whys.ShareLength c secret found wanted) = words.ShareLength
+skip_word (whys.BadSecret secret named found) = words.BadSecret
+skip_word (whys.BadPad secret at byte) = words.BadPad
+skip_word (whys.BadName named found) = words.BadName
+skip_word (whys.BadNamePad at byte) = words.BadNamePad
+skip_word (whys.BadPath at) = words.BadPath
+skip_word whys.TargetExists = words.TargetExists
+
+abbrev pub skip_line : Skip → Line
+skip_line skip = lines.Skipped skip.tag skip.version (skip_word skip.why)
+
+-- why a rebuild stopped: as a restore is refused, or by what the target said; its own want of memory has no line
+abbrev pub rebuild_refusal : RebuildErr → Option Refusal
+rebuild_refusal (rebuild_errors.FromRestore e) = refusal_of e
+rebuild_refusal rebuild_errors.TargetLost = Some (refusals.Target target_whys.Lost)
+rebuild_refusal rebuild_errors.TargetFault = Some (refusals.Target target_whys.Fault)
+rebuild_refusal (rebuild_errors.TargetDamaged at byte) = Some (refusals.Target (target_whys.Damaged at byte))
+rebuild_refusal (rebuild_errors.TargetRotten named found) = Some (refusals.Target (target_whys.Rotten named found))
+rebuild_refusal (rebuild_errors.TargetFull room used need limit) = Some (refusals.Target (target_whys.Full room used need limit))
+rebuild_refusal (rebuild_errors.TargetLacking place) = Some (refusals.Target (target_whys.Lacking place))
+rebuild_refusal rebuild_errors.TargetNoMemory = Some (refusals.Target target_whys.NoMemory)
+rebuild_refusal (rebuild_errors.TargetStrange kind) = Some (refusals.Target (target_whys.Strange kind))
+rebuild_refusal rebuild_errors.NoMemory = None
+
+-- how many versions stand at the target, and each that was skipped; or why the rebuild stopped
+abbrev pub AreRebuildLines : UserId → ℕ → Result Rebuilt RebuildErr → List Line → Type 0
+AreRebuildLines user target (Ok rebuilt) answers =
+    answers ≡ lines.Rebuilt user (cloud_no target) rebuilt.files (length rebuilt.skipped) ∷ map skip_line rebuilt.skipped
+AreRebuildLines user target (Err e) answers =
+    (why : Refusal) × (rebuild_refusal e ≡ Some why) × (answers ≡ lines.Refused why ∷ [])
+
+abbrev pub turn_moment : (ℕ → Peer) → ℕ → Turn Peer → Moment
+turn_moment old target t = executed (with_peer old target t.before) target t.request t.reply
+
+-- before each request of the target, and behind the last one
+abbrev pub target_moments : (ℕ → Peer) → ℕ → List (Turn Peer) → Peer → List Moment
+target_moments old target [] end = quiet (with_peer old target end)
+target_moments old target (t ∷ turns) end = turn_moment old target t ∷ target_moments old target turns end
+
+-- The moments of a rebuild: before it, and those of the target. What is read adds nothing to any list, so the other clouds are taken to
+-- be as before it until its end.
+abbrev pub rebuild_moments : (ℕ → Peer) → ℕ → List (Turn Peer) → Peer → List Moment
+rebuild_moments old target turns end = quiet old ++ target_moments old target turns end
+
+-- these clouds are told
+abbrev pub AllTold : Setting → List ℕ → Type 0
+AllTold s clouds = (cloud : ℕ) → Contains clouds cloud → IsTrue (s.told cloud)
+
+-- A rebuild: the target executes these requests, the clouds that it is brought the versions from are only read, and no other cloud is
+-- asked; a refusal has its cause, and names a cloud that is read, or is the target's. Where the target and those clouds are told, these
+-- are the requests of the lanes for the versions that those clouds have under the keys of the first one, in order, by their lists as they
+-- stand after it; the answer is how that ended; and each version that all of them keep stands at the target, unless it has another.
+pub record RebuildStep (s : Setting) (user : UserId) (target : ℕ) (from : List ℕ)
+    (old : ℕ → Peer) (answers : List Line) (moments : List Moment) (new : ℕ → Peer) : Type 0 where
+  pub result : Result Rebuilt RebuildErr
+  pub turns : List (Turn Peer)
+  pub lines_are : AreRebuildLines user target result answers
+  pub moments_are : moments ≡ rebuild_moments old target turns (new target)
+  pub found : rebuilding.is_lost result ≡ false
+  pub executes : ExecutesAll s target (old target) turns (new target)
+  pub leaves : LeavesBut from target old new
+  pub named : HandsOn from result
+  pub caused : rebuilding.Causes (told_so s.shape) s.told target result old new
+  pub told : AllTold s (target ∷ from)
+      → RunsTo s.shape user target (served_at s target) from result turns old (new target) new
+      × Refills s.shape target from user new result
+
 -- ---- every line
 
 -- what the lane of a job asks of its cloud, if it has a request
@@ -313,5 +398,5 @@ VStep s old (events.List user cloud) answers moments new =
 VStep s old (events.Replace cloud) answers moments new =
     (line : Line) × OneGoes cloud.0 (ReplaceStep s cloud.0 line) old.peers new.peers
     × (answers ≡ line ∷ []) × (moments ≡ quiet old.peers) × (new.jobs ≡ old.jobs)
--- not carried out
-VStep s old (events.Rebuild user target from) answers moments new = ⊥
+VStep s old (events.Rebuild user target from) answers moments new =
+    RebuildStep s user target.0 from old.peers answers moments new.peers × (new.jobs ≡ old.jobs)

@@ -1,5 +1,5 @@
 -- The clouds and the jobs of a session: lists of whole commands, and lanes; and what one request does there.
-use Rattle.std.specs.Prelude.{◌≡◌, ◌≢◌, ℕ, zero, suc, ◌-◌, Bool, List, [], ◌∷◌}
+use Rattle.std.specs.Prelude.{◌≡◌, ◌≢◌, ℕ, zero, suc, ◌-◌, ◌==◌, Bool, List, [], ◌∷◌, if◌then◌else◌}
 use Rattle.cd_base.specs.declared.rooms.Rooms.{Rooms}
 use Rattle.cd_base.specs.declared.shape.Shape.{Shape}
 use Rattle.cd_edges.specs.Disk.{Cloud}
@@ -11,6 +11,7 @@ use Rattle.user_dedup.specs.Exec.{Peer, Exec}
 use Rattle.cloud_store.specs.Space.{served_by}
 use Rattle.upload_job.specs.Upload.{FileVersion}
 use Rattle.upload_job.specs.Lanes.{LaneView, lanes_begun}
+use Rattle.lane_requests.specs.Runs.{Turn}
 use Rattle.local_link.specs.Calls.{no_commands}
 
 -- what holds for a whole session. A cloud is told where its disk returns what was written
@@ -69,3 +70,14 @@ pub record Executes (s : Setting) (cloud : ℕ) (old : ℕ → Peer) (request : 
 pub record OneGoes (cloud : ℕ) (Goes : Peer → Peer → Type 0) (old new : ℕ → Peer) : Type 0 where
   pub goes : Goes (old cloud) (new cloud)
   pub others : (other : ℕ) → other ≢ cloud → new other ≡ old other
+
+-- the clouds, this one as this peer
+abbrev pub with_peer : (ℕ → Peer) → ℕ → Peer → ℕ → Peer
+with_peer peers cloud p other = if other == cloud then p else peers other
+
+-- One cloud executes these requests, one after another, with these replies.
+abbrev pub ExecutesAll : Setting → ℕ → Peer → List (Turn Peer) → Peer → Type 0
+ExecutesAll s cloud old [] new = new ≡ old
+ExecutesAll s cloud old (t ∷ turns) new =
+    (t.before ≡ old)
+    × ((mid : Peer) × Exec s.shape (s.told cloud) (served_at s cloud) old t.request t.reply mid × ExecutesAll s cloud mid turns new)

@@ -1,7 +1,7 @@
 //! What follows of a session that was carried out, whatever carried it out. The calls do nothing.
 
-ghost use Rattle.std.specs.Prelude.{◌≡◌, ◌<◌, ◌≤◌, ◌-◌, ◌^◌, ℕ, IsTrue, List, [], ◌∷◌, ◌++◌, Some};
-ghost use Rattle.std.specs.List.{range_with_len};
+ghost use Rattle.std.specs.Prelude.{◌≡◌, ◌<◌, ◌≤◌, ◌-◌, ◌^◌, ℕ, List, [], ◌∷◌, ◌++◌, map, Some};
+ghost use Rattle.std.specs.List.{Contains, range_with_len};
 ghost use Rattle.cd_base.specs.declared.ids.CloudNo.{CloudNo};
 ghost use Rattle.cd_base.specs.declared.ids.UserId.{UserId};
 ghost use Rattle.cd_base.specs.declared.ids.Version.{Version};
@@ -11,13 +11,14 @@ ghost use Rattle.user_dedup.specs.declared.command.Command.{Command};
 ghost use Rattle.user_dedup.specs.Cloud.{commands_of};
 ghost use Rattle.user_dedup.specs.Requests.{asker};
 ghost use Rattle.user_dedup.specs.Exec.{Peer};
-ghost use Rattle.session.specs.Spelling.{Fits};
+ghost use Rattle.lane_requests.specs.Runs.{Turn};
+ghost use Rattle.rebuild.specs.Rebuilding.{IsCut};
+ghost use Rattle.session.specs.Spelling.{AreClouds, Fits};
 ghost use Rattle.session.specs.declared.event.Event.{Event};
 ghost use Rattle.session.specs.declared.event.Event.TheVariants as events;
 ghost use Rattle.transcript.specs.declared.line.Line.{Line};
-ghost use Rattle.vault.specs.Scripts.{is_carried};
-ghost use Rattle.vault.specs.Vault.{Setting, Vault};
-ghost use Rattle.vault.specs.Steps.{Moment, VStep};
+ghost use Rattle.vault.specs.Vault.{Setting, Vault, served_at, with_peer, ExecutesAll};
+ghost use Rattle.vault.specs.Steps.{Moment, quiet, turn_moment, AllTold, VStep};
 ghost use Rattle.vault.specs.Run.{IsListIn};
 ghost use Rattle.vault.specs.Cut.{FinishCut};
 ghost use Rattle.cd_edges.specs.Disk.{Cloud};
@@ -56,7 +57,7 @@ pub fn law_of_moments()
 {}
 
 /// A line that want of memory cut is a part of one that goes on, by a fault of what is left: a finish between two requests, a get before
-/// its clouds have moved, and each line of which nothing has passed.
+/// its clouds have moved, a rebuild between two requests of its target, and each line of which nothing has passed.
 pub fn law_of_parts()
     ensures finish { (s : Setting) (job : ℕ) (old : Vault) (moments : List Moment) (last : ℕ → Peer)
         → FinishCut s job (range_with_len 0 s.shape.n) old moments last
@@ -64,7 +65,15 @@ pub fn law_of_parts()
     ensures get { (s : Setting) (old : Vault) (user : UserId) (path : List ℕ) (version : Version) (cloud : ℕ)
         (clouds : List ℕ)
         → IsPartOf s old (record { event = events.Get user path version (cloud ∷ clouds); moments = [] }) old.peers }
-    ensures unmoved { (s : Setting) (old : Vault) (jobs : ℕ) (event : Event) → Fits s.shape jobs event → IsTrue (is_carried event)
+    ensures rebuild { (s : Setting) (old : Vault) (user : UserId) (target : CloudNo) (from : List ℕ) (turns : List (Turn Peer)) (at : Peer)
+        → AreClouds s.shape from → ¬ Contains from target.0 → ExecutesAll s target.0 (old.peers target.0) turns at
+        → (AllTold s (target.0 ∷ from) → (after : ℕ → Peer)
+        × IsCut s.shape user target.0 (served_at s target.0) from turns old.peers at after)
+        → IsPartOf s old (record {
+          event = events.Rebuild user target from;
+          moments = quiet old.peers ++ map (turn_moment old.peers target.0) turns;
+        }) (with_peer old.peers target.0 at) }
+    ensures unmoved { (s : Setting) (old : Vault) (jobs : ℕ) (event : Event) → Fits s.shape jobs event
         → IsPartOf s old (record { event = event; moments = [] }) old.peers }
 {}
 

@@ -82,7 +82,7 @@ returns-clause-stops g c =
       named_so = e.named;
     }) (get_leaves clouds old new named _ e.asked are)
     (c.law_of_parts.ensures.unmoved s made.come.at (length made.jobs) (events.Get user file_path version named)
-    (path_named, subst (λ (sh : Shape). AreClouds sh named) made.come.is_at.link_at.shape are) refl)))
+    (path_named, subst (λ (sh : Shape). AreClouds sh named) made.come.is_at.link_at.shape are))))
 
 pub returns-clause-few : goal.returns-clause-few
 returns-clause-few g c =

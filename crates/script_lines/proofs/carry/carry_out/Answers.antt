@@ -56,3 +56,8 @@ returns-in-List-clause-does g c =
 pub returns-in-Replace-clause-does : goal.returns-in-Replace-clause-does
 returns-in-Replace-clause-does g c =
     subst (λ (e : Event). OnOk c.replace_line.result (CarriesOut g.V.Shelf.cloud_at e c.args.link.now c.args.jobs.now c.replace_line.new.link c.args.jobs.now c.args.text.now c.replace_line.new.text)) (sym c.in-Replace.is) c.replace_line.ensures.does
+
+pub returns-in-Rebuild-clause-does : goal.returns-in-Rebuild-clause-does
+returns-in-Rebuild-clause-does g c =
+    for_ok c.rebuild_line.result c.for_memory-in-Rebuild.result _ c.for_memory-in-Rebuild.ensures.same
+    (subst (λ (e : Event). OnOk c.rebuild_line.result (CarriesOut g.V.Shelf.cloud_at e c.args.link.now c.args.jobs.now c.rebuild_line.new.link c.args.jobs.now c.args.text.now c.rebuild_line.new.text)) (sym c.in-Rebuild.is) c.rebuild_line.ensures.does)

@@ -3,7 +3,7 @@ use Rattle.cd_base.specs.declared.shape.Shape.{Shape}
 use Rattle.upload_job.specs.declared.news.LaneNews.{LaneNews}
 use Rattle.local_link.specs.Tells.{is_delivered, telling}
 use Rattle.lane_steps.specs.Steps.{Finishes}
-use Rattle.vault.specs.Texts.{text_of}
+use Rattle.session.specs.Texts.{text_of}
 use Rattle.script_lines.specs.Jobs.{job_lanes}
 use Rattle.script_lines.specs.Finishing.{lane_lines}
 use Rattle.script_lines.proofs.Reaching.{lane_below}

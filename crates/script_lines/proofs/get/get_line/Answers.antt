@@ -1,4 +1,4 @@
-use Rattle.std.proofs.Common.{[], ◌∷◌, length, refl, subst}
+use Rattle.std.proofs.Common.{[], ◌∷◌, length, subst}
 use Rattle.cd_base.specs.declared.shape.Shape.{Shape}
 use Rattle.session.specs.Spelling.{AreClouds}
 use Rattle.session.specs.declared.event.Event.TheVariants as events
@@ -28,7 +28,7 @@ returns-clause-cut g c =
     let e = c.restore-came.ensures in
     on_err c.put_file.result _ (λ s v is.
     get_cut clouds s old new named c.restore-came.result c.args.user c.args.path.now c.args.version c.restore-came.new.out (record { restored = read_by clouds old new named c.shape-shape.result c.args.user c.args.path.now c.args.version c.restore-came.result c.new-file.result c.restore-came.new.out c.shape-shape.ensures c.new-file.ensures e.restored; asked = e.asked; named_so = e.named }) v is.link_at c.requires.clouds
-    (c.law_of_parts.ensures.unmoved s v (length c.args.jobs.now) (events.Get c.args.user c.args.path.now c.args.version named) (c.requires.path, subst (λ (sh : Shape). AreClouds sh named) is.link_at.shape c.requires.clouds) refl))
+    (c.law_of_parts.ensures.unmoved s v (length c.args.jobs.now) (events.Get c.args.user c.args.path.now c.args.version named) (c.requires.path, subst (λ (sh : Shape). AreClouds sh named) is.link_at.shape c.requires.clouds)))
 
 pub returns-clause-leaves : goal.returns-clause-leaves
 returns-clause-leaves g c = get_leaves g.V.Shelf.cloud_at c.args.link.now c.restore-came.new.link c.args.clouds.now _ c.restore-came.ensures.asked c.requires.clouds

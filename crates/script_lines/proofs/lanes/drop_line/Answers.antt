@@ -17,7 +17,7 @@ next-requires-clause-below g c = lane_below c.args.link.now.servers.shape c.args
 pub returns-in-Err-clause-cut : goal.returns-in-Err-clause-cut
 returns-in-Err-clause-cut g c s v is =
     cut_before g.V.Shelf.cloud_at s (events.Drop c.args.job c.args.lane) c.args.link.now c.args.link.now c.args.jobs.now v is refl
-    (c.law_of_parts.ensures.unmoved s v (length c.args.jobs.now) (events.Drop c.args.job c.args.lane) (c.requires.job, subst (λ (sh : Shape). c.args.lane.0 < sh.n) is.link_at.shape c.requires.below) refl)
+    (c.law_of_parts.ensures.unmoved s v (length c.args.jobs.now) (events.Drop c.args.job c.args.lane) (c.requires.job, subst (λ (sh : Shape). c.args.lane.0 < sh.n) is.link_at.shape c.requires.below))
 
 pub returns-clause-does : goal.returns-clause-does
 returns-clause-does g c =

@@ -1,4 +1,4 @@
-use Rattle.std.proofs.Common.{◌<◌, length, refl, ap, subst}
+use Rattle.std.proofs.Common.{◌<◌, length, ap, subst}
 use Rattle.cd_base.specs.declared.shape.Shape.{Shape}
 use Rattle.local_link.specs.Tells.{is_delivered}
 use Rattle.session.specs.declared.event.Event.TheVariants as events
@@ -37,6 +37,6 @@ returns-clause-cut g c =
     on_err c.put_step.result _ (λ s v is.
     let lt = subst (λ (sh : Shape). lane < sh.n) is.link_at.shape c.requires.below in
     step_cut clouds (λ link cloud t. ⊥) s job lane old new c.step-came.new.self c.args.jobs.now v c.step-came.result c.becomes-stored.result is
-    (c.law_of_parts.ensures.unmoved s v (length c.args.jobs.now) (events.Step job c.args.lane) (c.requires.job, lt) refl)
+    (c.law_of_parts.ensures.unmoved s v (length c.args.jobs.now) (events.Step job c.args.lane) (c.requires.job, lt))
     (step_came clouds (λ link cloud t. ⊥) s job lane old new c.args.jobs.now c.step-came.new.self v c.step-came.result x.0 c.is_stored-before.result c.is_stored.result c.becomes-stored.result is
     lt c.requires.job x.1 x.3 (c.step-came.ensures.lossless (ap is_delivered is.link_at.fate)).0 c.is_stored-before.ensures c.is_stored.ensures c.becomes-stored.ensures))

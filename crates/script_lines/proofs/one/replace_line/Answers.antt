@@ -9,14 +9,14 @@ pub returns-in-Err-clause-cut : goal.returns-in-Err-clause-cut
 returns-in-Err-clause-cut g c s v is =
     let e = c.in-Err.ensures in
     (fresh_fails g.V.Shelf.cloud_at s c.args.link.now c.replace.new.self c.args.cloud c.in-Err.field-0 v is.link_at c.requires.below _ _ e.call e.failed e.refreshed
-    (c.law_of_parts.ensures.unmoved s v (length c.args.jobs.now) (events.Replace c.args.cloud) (subst (λ (sh : Shape). c.args.cloud.0 < sh.n) is.link_at.shape c.requires.below) refl)).cut
+    (c.law_of_parts.ensures.unmoved s v (length c.args.jobs.now) (events.Replace c.args.cloud) (subst (λ (sh : Shape). c.args.cloud.0 < sh.n) is.link_at.shape c.requires.below))).cut
 
 pub returns-in-Err-clause-shelf : goal.returns-in-Err-clause-shelf
 returns-in-Err-clause-shelf g c =
     let e = c.in-Err.ensures in (
       refl,
       λ s v is. fresh_fails g.V.Shelf.cloud_at s c.args.link.now c.replace.new.self c.args.cloud c.in-Err.field-0 v is.link_at c.requires.below _ _ e.call e.failed e.refreshed
-          (c.law_of_parts.ensures.unmoved s v (length c.args.jobs.now) (events.Replace c.args.cloud) (subst (λ (sh : Shape). c.args.cloud.0 < sh.n) is.link_at.shape c.requires.below) refl),
+          (c.law_of_parts.ensures.unmoved s v (length c.args.jobs.now) (events.Replace c.args.cloud) (subst (λ (sh : Shape). c.args.cloud.0 < sh.n) is.link_at.shape c.requires.below)),
     )
 
 pub returns-in-Ok-put_line-clause-does : goal.returns-in-Ok-put_line-clause-does

@@ -13,12 +13,12 @@ use Rattle.script_lines.proofs.upload.upload_line.Goals as goal
 pub returns-in-Err-clause-cut : goal.returns-in-Err-clause-cut
 returns-in-Err-clause-cut g c s v is =
     cut_before g.V.Shelf.cloud_at s (events.Upload c.args.user c.args.path.now c.args.version c.args.bytes.now) c.args.link.now c.args.link.now c.args.jobs.now v is refl
-    (c.law_of_parts.ensures.unmoved s v (length c.args.jobs.now) (events.Upload c.args.user c.args.path.now c.args.version c.args.bytes.now) c.requires.fits refl)
+    (c.law_of_parts.ensures.unmoved s v (length c.args.jobs.now) (events.Upload c.args.user c.args.path.now c.args.version c.args.bytes.now) c.requires.fits)
 
 pub returns-in-Err-push-clause-cut : goal.returns-in-Err-push-clause-cut
 returns-in-Err-push-clause-cut g c s v is =
     cut_before g.V.Shelf.cloud_at s (events.Upload c.args.user c.args.path.now c.args.version c.args.bytes.now) c.args.link.now c.args.link.now c.args.jobs.now v is refl
-    (c.law_of_parts.ensures.unmoved s v (length c.args.jobs.now) (events.Upload c.args.user c.args.path.now c.args.version c.args.bytes.now) c.requires.fits refl)
+    (c.law_of_parts.ensures.unmoved s v (length c.args.jobs.now) (events.Upload c.args.user c.args.path.now c.args.version c.args.bytes.now) c.requires.fits)
 
 pub returns-clause-does : goal.returns-clause-does
 returns-clause-does g c = on_ok c.put_line.result _ _ (λ said s v is. (
@@ -30,7 +30,7 @@ returns-clause-does g c = on_ok c.put_line.result _ _ (λ said s v is. (
 pub returns-clause-cut : goal.returns-clause-cut
 returns-clause-cut g c = on_err c.put_line.result _ (λ s v is.
     cut_before g.V.Shelf.cloud_at s (events.Upload c.args.user c.args.path.now c.args.version c.args.bytes.now) c.args.link.now c.args.link.now c.args.jobs.now v is refl
-    (c.law_of_parts.ensures.unmoved s v (length c.args.jobs.now) (events.Upload c.args.user c.args.path.now c.args.version c.args.bytes.now) c.requires.fits refl))
+    (c.law_of_parts.ensures.unmoved s v (length c.args.jobs.now) (events.Upload c.args.user c.args.path.now c.args.version c.args.bytes.now) c.requires.fits))
 
 pub returns-clause-reached : goal.returns-clause-reached
 returns-clause-reached g c =

@@ -1,5 +1,6 @@
 use Rattle.vault.proofs.Parts.{part_of_finish, part_of_get}
 use Rattle.vault.proofs.Unmoved.{unmoved}
+use Rattle.vault.proofs.Stopped.{part_of_rebuild}
 use Rattle.vault.proofs.laws.law_of_parts.Goals as goal
 
 pub returns-clause-finish : goal.returns-clause-finish
@@ -7,6 +8,9 @@ returns-clause-finish c = part_of_finish
 
 pub returns-clause-get : goal.returns-clause-get
 returns-clause-get c = part_of_get
+
+pub returns-clause-rebuild : goal.returns-clause-rebuild
+returns-clause-rebuild c s old user target from turns at are apart executes cut = part_of_rebuild s old user target from are apart turns at executes cut
 
 pub returns-clause-unmoved : goal.returns-clause-unmoved
 returns-clause-unmoved c = unmoved

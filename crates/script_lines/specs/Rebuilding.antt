@@ -1,0 +1,13 @@
+-- What the line of a rebuild says.
+use Rattle.std.specs.Prelude.{◌≡◌, ℕ, List, ◌++◌, Result}
+use Rattle.cd_base.specs.declared.ids.UserId.{UserId}
+use Rattle.rebuild.specs.declared.error.RebuildErr.{RebuildErr}
+use Rattle.rebuild.specs.declared.skips.Rebuilt.{Rebuilt}
+use Rattle.session.specs.Texts.{text_of}
+use Rattle.transcript.specs.declared.line.Line.{Line}
+use Rattle.vault.specs.Steps.{AreRebuildLines}
+
+-- the text of the lines of this rebuild stands behind what was there; a want of memory has none
+abbrev pub SaysRebuild : UserId → ℕ → Result Rebuilt RebuildErr → List ℕ → List ℕ → Type 0
+SaysRebuild user target came before text =
+    (answers : List Line) × AreRebuildLines user target came answers × (text ≡ before ++ text_of answers)
