@@ -1,5 +1,5 @@
 -- From a replay's end to the end of the program: the last line, and what its failure changes.
-use Rattle.std.proofs.Common.{◌≡◌, ℕ, List, [], ◌++◌, length, Option, inl, inr, refl, sym, ap, ◌∙◌, subst, append_assoc, append-nil, arith}
+use Rattle.std.proofs.Common.{◌≡◌, ℕ, List, [], ◌++◌, length, Option, inl, inr, refl, sym, ap, ◌∙◌, subst, subst₂, append_assoc, append-nil, arith}
 use Rattle.std.specs.Prelude.{◌≢◌, ◌⊎◌}
 use Rattle.std.specs.Io.KnownBytes.{Appends}
 use Rattle.cd_edges.specs.Causes.{Rose}
@@ -11,7 +11,7 @@ use Rattle.replay_core.specs.declared.end.ReplayEnd.TheVariants as ends
 use Rattle.replay_core.specs.Endings.{Call, EndingLine, HasCause, IsDue}
 use Rattle.replay_core.specs.Endings as due_lines
 use Rattle.replay_core.specs.Replayed.{Replayed, Replays, IsPrinted, IsCut, IsLast, status_of, ending_of}
-use Rattle.cd_top.specs.Ends.{WantsLast, WantsNone}
+use Rattle.cd_top.specs.Ends.{WantsLast, WantsNone, Closes, Silent, Said, CutShort, Unsaid}
 use Rattle.cd_top.specs.Replay.{ending_text, due_text, IsWritten, IsReplayed, until, WritesFront}
 use Rattle.cd_top.proofs.Texts.{appends_both}
 
@@ -74,7 +74,7 @@ memory_cause status call faults run line last cause is = record {
 }
 
 -- another status than 0 promises no more
-other_status : (status now : ℕ) (old new : ℕ → Cloud) (run : Session) → now ≢ 0 → Replayed status old new run → Replayed now old new run
+pub other_status : (status now : ℕ) (old new : ℕ → Cloud) (run : Session) → now ≢ 0 → Replayed status old new run → Replayed now old new run
 other_status status now old new run other r = record {
   told_so = r.told_so;
   carried = r.carried;
@@ -87,7 +87,7 @@ other_status status now old new run other r = record {
   private = r.private;
 }
 
-rose_since : (before middle now : ℕ) → middle ≡ before → Rose middle now → Rose before now
+pub rose_since : (before middle now : ℕ) → middle ≡ before → Rose middle now → Rose before now
 rose_since before middle now same rose = subst (λ n. Rose n now) same rose
 
 four_is_cut : {A : Type 0} → (◌≡◌ {A = ℕ} 4 0) ⊎ ((◌≡◌ {A = ℕ} 4 2) ⊎ ((◌≡◌ {A = ℕ} 4 5) ⊎ (◌≡◌ {A = ℕ} 4 7))) → A
@@ -153,7 +153,7 @@ written_whole status before after run line written = record {
   written = written;
 }
 
-pub closes : (end : ReplayEnd) (call : Call) (faults : ℕ) (before after : Option (List ℕ)) → WantsNone end → faults ≡ call.sink_after → Replays end call before after → IsReplayed (status_of end) (until call faults) before after
+closes : (end : ReplayEnd) (call : Call) (faults : ℕ) (before after : Option (List ℕ)) → WantsNone end → faults ≡ call.sink_after → Replays end call before after → IsReplayed (status_of end) (until call faults) before after
 closes (ends.Done events) call faults before after none same r = record {
   run = r.run;
   line = due_lines.DoneEnding events;
@@ -257,3 +257,36 @@ module _ (end : ReplayEnd) (call : Call) (before middle after : Option (List ℕ
     };
     cause = memory_cause (status_of end) call now r.run (ending_of end) (ending_of end) r.cause r.cause.due;
   }
+
+-- ---- the last line, whatever stands before it
+
+module _ (end : ReplayEnd) (status : ℕ) (before after : Option (List ℕ)) (faults now : ℕ) (last : List ℕ) (wants : WantsLast end)
+    (named : ending_text (ending_of end) ≡ last) where
+  pub said_as : status ≡ status_of end → Appends before after last → now ≡ faults → Closes end status before after faults now
+  said_as is wrote still = Said wants is (subst (λ (l : List ℕ). Appends before after l) (sym named) wrote) still
+
+  pub cut_as : status ≡ 4 → WritesFront last before after → Rose faults now → Closes end status before after faults now
+  cut_as is front rose = CutShort wants is (subst (λ (l : List ℕ). WritesFront l before after) (sym named) front) rose
+
+-- ---- what that makes of a replay
+
+-- what is promised at another status, of another sink
+same_promise : (status other : ℕ) (call : Call) (before after changed : Option (List ℕ)) (faults now : ℕ) → other ≡ status → changed ≡ after → now ≡ faults
+    → IsReplayed status (until call faults) before after → IsReplayed other (until call now) before changed
+same_promise status other call before after changed faults now is same still r =
+    subst (λ (n : ℕ). IsReplayed n (until call now) before changed) (sym is)
+    (subst₂ (λ (o : Option (List ℕ)) (n : ℕ). IsReplayed status (until call n) before o) (sym same) (sym still) r)
+
+pub replayed_by : (end : ReplayEnd) (status : ℕ) (call : Call) (before middle after : Option (List ℕ)) (faults now : ℕ) → Closes end status middle after faults now
+    → faults ≡ call.sink_after → Replays end call before middle → IsReplayed status (until call now) before after
+replayed_by end status call before middle after faults now (Silent none is same still) at r =
+    same_promise (status_of end) status call before middle after faults now is same still (closes end call faults before middle none at r)
+replayed_by end status call before middle after faults now (Said wants is wrote still) at r =
+    subst (λ (n : ℕ). IsReplayed n (until call now) before after) (sym is)
+    (says end call before middle after faults now (ending_text (ending_of end)) wants at refl r wrote still)
+replayed_by end status call before middle after faults now (CutShort wants is front rose) at r =
+    subst (λ (n : ℕ). IsReplayed n (until call now) before after) (sym is)
+    (fails_saying end call before middle after faults now (ending_text (ending_of end)) wants at refl r front rose)
+replayed_by end status call before middle after faults now (Unsaid wants is same still) at r =
+    subst (λ (n : ℕ). IsReplayed n (until call now) before after) (sym is)
+    (forgets end call before middle after faults now (ending_text (ending_of end)) wants at refl r same)

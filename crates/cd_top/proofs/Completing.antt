@@ -5,6 +5,7 @@ use Rattle.cd_base.specs.declared.rooms.Rooms.{Rooms}
 use Rattle.cd_base.specs.declared.shape.Shape.{Shape}
 use Rattle.cd_edges.specs.declared.area.Area.{Area}
 use Rattle.cd_edges.specs.Causes.{Rose}
+use Rattle.cd_edges.specs.Disk.{Cloud}
 use Rattle.user_dedup.specs.Exec.{Peer}
 use Rattle.session.specs.Fault.{Fault}
 use Rattle.session.specs.Lines.{after_line}
@@ -23,7 +24,7 @@ use Rattle.cd_top.specs.Replay.{IsReplayed}
 
 -- ---- counts
 
-not_risen : (before now : ℕ) → IsStill before now → Rose before now → ⊥
+pub not_risen : (before now : ℕ) → IsStill before now → Rose before now → ⊥
 not_risen before now still rose = omega (arith, still.0, still.1, rose)
 
 -- ---- a script that is read to its end has no wrong line
@@ -61,6 +62,14 @@ never_wrong shape place other last (x ∷ some) (y ∷ all) fault here there end
 abbrev place_behind : List ℕ → List ℕ → Place
 place_behind script line = record { jobs = 0; taken = length line + 1; rest = after_line script }
 
+-- before the clouds are opened, their counts are those of the start
+pub counts_unopened : (old : ℕ → Cloud) (run : Session) → IsRun old run → run.opened ≡ false → (cloud : ℕ) → (run.last cloud).faults ≡ (old cloud).faults
+counts_unopened old run carried closed cloud =
+    let none = carried.unopened closed in
+    let last : run.last ≡ run.between.peers = subst (λ (o : Option Begun). MatchOption o (run.last ≡ run.between.peers) (λ b. IsPartOf run.setting run.between b run.last)) none.1 carried.begun in
+    let between : run.between ≡ opening old = subst (λ (h : List Answered). Turns run.setting (opening old) h run.between) none.0 carried.answered in
+    ap (λ (p : ℕ → Peer). (p cloud).faults) last ∙ ap (λ (v : Vault). (v.peers cloud).faults) between
+
 -- ---- each cause
 
 module _ (call : Call) (run : Session) (well : GoesWell call) where
@@ -93,14 +102,6 @@ module _ (call : Call) (run : Session) (well : GoesWell call) where
             (subst (λ (s : Shape). IsWrong s later.1.0 fault) same later.1.2)
       ]
 
-  -- before the clouds are opened, their counts are those of the start
-  counts_unopened : IsRun call.old run → run.opened ≡ false → (cloud : ℕ) → (run.last cloud).faults ≡ (call.old cloud).faults
-  counts_unopened carried closed cloud =
-      let none = carried.unopened closed in
-      let last : run.last ≡ run.between.peers = subst (λ (o : Option Begun). MatchOption o (run.last ≡ run.between.peers) (λ b. IsPartOf run.setting run.between b run.last)) none.1 carried.begun in
-      let between : run.between ≡ opening call.old = subst (λ (h : List Answered). Turns run.setting (opening call.old) h run.between) none.0 carried.answered in
-      ap (λ (p : ℕ → Peer). (p cloud).faults) last ∙ ap (λ (v : Vault). (v.peers cloud).faults) between
-
   not_of_script : (line : EndingLine) → run.setting.shape ≡ well.shape → IsDue call run line → IsOfScript line → ⊥
   not_of_script due_lines.NoEnding same is of = of
   not_of_script (due_lines.DoneEnding events) same is of = of
@@ -132,7 +133,7 @@ module _ (call : Call) (run : Session) (well : GoesWell call) where
   not_of_shelf (due_lines.ScriptEnding number fault) carried same is of = of
   not_of_shelf (due_lines.ShelfEnding cloud) carried same is of = elim is.3 [
     | inl closed ↦ not_risen (call.old cloud).faults (call.new cloud).faults (well.counts cloud (below same cloud is.0))
-        (subst (λ (n : ℕ). Rose n (call.new cloud).faults) (counts_unopened carried closed cloud) is.2)
+        (subst (λ (n : ℕ). Rose n (call.new cloud).faults) (counts_unopened call.old run carried closed cloud) is.2)
     | inr may ↦ not_replaced carried cloud (below same cloud is.0) run.begun refl may is.2
   ]
   not_of_shelf (due_lines.StoreEnding cloud area len) carried same is of = of

@@ -1,6 +1,6 @@
 -- From what one command promises to what the words promise.
-use Rattle.std.proofs.Common.{◌≡◌, ℕ, List, length, map, refl, sym, subst}
-use Rattle.command_words.specs.Asked.{AskedRead, AskedServe, AskedFile, Asked, ForReplay, ForRead, ForServe, ForBackup, ForRestore}
+use Rattle.std.proofs.Common.{◌≡◌, ℕ, List, sym, subst}
+use Rattle.command_words.specs.Asked.{AskedRead, AskedServe, AskedFile, AskedSession, Asked, ForReplay, ForRead, ForServe, ForBackup, ForRestore, ForGenerate}
 use Rattle.command_words.specs.Commands.{IsCommand}
 use Rattle.cd_top.specs.Dispatch.{Each, Promises}
 use Rattle.cd_top.specs.Replay.{IsReplay}
@@ -27,6 +27,9 @@ module _ (one : Law) (words : List (List ℕ)) (asked : Asked) (is : IsCommand w
 
   pub is_restored : (f : AskedFile) → IsCommand words (ForRestore f) → each.restored f
   is_restored f other = promised (ForRestore f) other
+
+  pub is_generated : (g : AskedSession) → IsCommand words (ForGenerate g) → each.generated g
+  is_generated g other = promised (ForGenerate g) other
 
 pub promised_as : (asked other : Asked) → asked ≡ other → (each : Each) → Promises other each → Promises asked each
 promised_as asked other is each promised = subst (λ a. Promises a each) (sym is) promised

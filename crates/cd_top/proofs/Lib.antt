@@ -5,3 +5,4 @@ pub mod Completing
 mod ReadClosing
 mod Dispatching
 mod Placing
+mod Generating

@@ -1,33 +1,25 @@
--- Which words are carried out, and what is promised of them.
-use Rattle.std.specs.Prelude.{ℕ, List}
-use Rattle.command_words.specs.Asked.{AskedRead, AskedServe, AskedFile, Asked, ForReplay, ForRead, ForServe, ForBackup, ForRestore, ForGenerate}
-use Rattle.command_words.specs.Commands.{IsCommand, FitsRead, FitsServe, FitsFile}
-
--- All rows of the table are carried out but one: no session is generated yet.
-abbrev pub IsBuilt : Asked → Type 0
-IsBuilt (ForGenerate g) = ⊥
-IsBuilt asked = Unit {0}
-
--- the words are a row of the table that is carried out
-abbrev pub AreBuilt : List (List ℕ) → Type 0
-AreBuilt words = (asked : Asked) × IsCommand words asked × IsBuilt asked
+-- What is promised of the words that are carried out.
+use Rattle.command_words.specs.Asked.{AskedRead, AskedServe, AskedFile, AskedSession, Asked}
+use Rattle.command_words.specs.Asked.{ForReplay, ForRead, ForServe, ForBackup, ForRestore, ForGenerate}
+use Rattle.command_words.specs.Commands.{FitsRead, FitsServe, FitsFile, FitsSession}
 
 -- what is asked for is within its ranges
 abbrev pub IsFit : Asked → Type 0
+IsFit (ForReplay directory) = Unit {0}
 IsFit (ForRead r) = FitsRead r
 IsFit (ForServe s) = FitsServe s
 IsFit (ForBackup f) = FitsFile 3 f
 IsFit (ForRestore f) = FitsFile 2 f
-IsFit asked = Unit {0}
+IsFit (ForGenerate g) = FitsSession g
 
--- what each command promises that is carried out, and what is so of the others
+-- what each command promises
 pub record Each : Type 1 where
   pub replayed : Type 0
   pub read : AskedRead → Type 0
   pub served : AskedServe → Type 0
   pub backed_up : AskedFile → Type 0
   pub restored : AskedFile → Type 0
-  pub idle : Type 0
+  pub generated : AskedSession → Type 0
 
 -- what a call promises of what is asked for
 abbrev pub Promises : Asked → Each → Type 0
@@ -36,4 +28,4 @@ Promises (ForRead r) each = each.read r
 Promises (ForServe s) each = each.served s
 Promises (ForBackup f) each = each.backed_up f
 Promises (ForRestore f) each = each.restored f
-Promises (ForGenerate g) each = each.idle
+Promises (ForGenerate g) each = each.generated g

@@ -4,4 +4,5 @@ pub mod Complete
 pub mod Read
 pub mod Serve
 pub mod Clients
+pub mod Generate
 pub mod Dispatch

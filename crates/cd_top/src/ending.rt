@@ -1,11 +1,10 @@
-//! The status of a replay, and its last line.
+//! The status of a session that ended, and its last line.
 
-ghost use Rattle.std.specs.Prelude.{◌≡◌, ℕ, List, Option, IfSome, IfNone};
+ghost use Rattle.std.specs.Prelude.{◌≡◌, IfSome, IfNone};
 ghost use Rattle.transcript.specs.Endings.{ending_text as text_of_ending};
-ghost use Rattle.replay_core.specs.Endings.{Call};
-ghost use Rattle.replay_core.specs.Replayed.{Replays, status_of as status_due, ending_of};
-ghost use Rattle.cd_top.specs.Replay.{IsReplayed, ending_text, until, WritesLast};
-ghost use Rattle.cd_top.specs.Ends.{WantsLast, WantsNone};
+ghost use Rattle.replay_core.specs.Replayed.{status_of as status_due, ending_of};
+ghost use Rattle.cd_top.specs.Replay.{ending_text, WritesLast};
+ghost use Rattle.cd_top.specs.Ends.{Closes, WantsLast, WantsNone};
 
 use cd_base::{Bytes, NoMemory};
 use cd_edges::{Sink, write_all};
@@ -20,7 +19,7 @@ pub enum LastErr {
     NoMemory,
 }
 
-// The status of a replay that ended so.
+// The status of a session that ended so.
 fn status_of(end: &ReplayEnd) -> u8
     ensures { result ≡ status_due end.now }
 {
@@ -36,7 +35,7 @@ fn status_of(end: &ReplayEnd) -> u8
     }
 }
 
-// The last line of a replay that ended so, if one is still to be written.
+// The last line of a session that ended so, if one is still to be written.
 fn last_line(end: &ReplayEnd) -> Option<Ending>
     ensures line { IfSome result (λ last. ending_text (ending_of end.now) ≡ text_of_ending last) }
     ensures some { IfSome result (λ last. WantsLast end.now) }
@@ -82,12 +81,10 @@ pub fn write_last<K: Sink>(alloc: Global, last: &Ending, sink: &mut K) -> Result
     }
 }
 
-/// Writes the last line of a replay that ended so, if one is still to be written, and answers the status: 4 where the sink failed in
-/// this line, and 6 where memory ran out before it.
+/// Writes the last line of a session that ended so, if one is still to be written, whatever stands before it, and answers the
+/// status: 4 where the sink failed in this line, and 6 where memory ran out before it.
 pub fn finish<K: Sink>(alloc: Global, end: &ReplayEnd, sink: &mut K) -> u8
-    ensures { (call : Call) (before : Option (List ℕ)) → K.faults sink.old ≡ call.sink_after
-        → Replays end.now call before (K.written sink.old)
-        → IsReplayed result (until call (K.faults sink.new)) before (K.written sink.new) }
+    ensures { Closes end.now result (K.written sink.old) (K.written sink.new) (K.faults sink.old) (K.faults sink.new) }
 {
     match last_line(end) {
         None => status_of(end),

@@ -3,6 +3,7 @@
 
 mod clients;
 mod ending;
+mod generate;
 mod read;
 mod serve;
 mod top;

@@ -133,6 +133,29 @@ const ROWS: [Row; 16] = [
     },
 ];
 
+// Runs words over a source, a sink and a shelf, and answers the status.
+fn ran(
+    alloc: Global,
+    words: &[&str],
+    source: &mut MemSource,
+    sink: &mut MemSink,
+    shelf: &mut MemShelf,
+) -> Result<u8, Fail> {
+    let mut names = Vec::new(alloc);
+    for word in words {
+        names.push(String::from_str(alloc, word)?)?;
+    }
+    let mut ports = MemPorts::of(alloc, 0, 1, &[])?;
+    Ok(run(alloc, &names, source, sink, shelf, &mut ports))
+}
+
+// What was written into a sink, with a status.
+fn with_text(alloc: Global, status: u8, sink: &MemSink) -> Result<(u8, Vec<u8>), Fail> {
+    let mut text = Vec::new(alloc);
+    text.extend_from_slice(sink.written())?;
+    Ok((status, text))
+}
+
 // Runs words and a script over a shelf, and answers the status and what was written. The source and the sink pass at most so many
 // bytes at once, and these reads of the source fail.
 fn ended(
@@ -145,17 +168,10 @@ fn ended(
 ) -> Result<(u8, Vec<u8>), Fail>
     requires { 1 ≤ most }
 {
-    let mut names = Vec::new(alloc);
-    for word in words {
-        names.push(String::from_str(alloc, word)?)?;
-    }
     let mut source = MemSource::of(alloc, script, most, fails)?;
     let mut sink = MemSink::of(alloc, 4096, most, &[])?;
-    let mut ports = MemPorts::of(alloc, 0, 1, &[])?;
-    let status = run(alloc, &names, &mut source, &mut sink, shelf, &mut ports);
-    let mut text = Vec::new(alloc);
-    text.extend_from_slice(sink.written())?;
-    Ok((status, text))
+    let status = ran(alloc, words, &mut source, &mut sink, shelf)?;
+    with_text(alloc, status, &sink)
 }
 
 // The same for the words `replay d`.
@@ -269,6 +285,8 @@ fn other_words_are_1_and_a_store_that_is_not_empty_is_7(rt: HostRuntime) -> Resu
         ["replay", "d", "d"].as_slice(),
         &["replay"],
         &["read", "d"],
+        &["gen", "1", "0", "1", "d"],
+        &["gen", "1", "1000", "132", "d"],
         &[],
     ] {
         let (status, text) = ended(rt.alloc(), words, b"", 1, &[], &mut clouds)?;
@@ -312,5 +330,76 @@ fn a_failed_replacement_is_5(rt: HostRuntime) -> Result<(), Fail> {
     }
     assert!(rt; ended);
     assert!(rt; answered);
+    Ok(())
+}
+
+// Makes the session of so many files and pieces that the number 1 gives, and answers the status and what was written. These writes
+// of the sink fail, of seven bytes each.
+fn generated(
+    alloc: Global,
+    files: &str,
+    pieces: &str,
+    fails: &[u64],
+    shelf: &mut MemShelf,
+) -> Result<(u8, Vec<u8>), Fail> {
+    let mut source = MemSource::of(alloc, b"", 1, &[])?;
+    let mut sink = MemSink::of(alloc, 4096, 7, fails)?;
+    let words = ["gen", "1", files, pieces, "d"];
+    let status = ran(alloc, words.as_slice(), &mut source, &mut sink, shelf)?;
+    with_text(alloc, status, &sink)
+}
+
+// Four clouds with room for a generated session.
+fn four_clouds(alloc: Global, fails: &[(CloudNo, u64)]) -> Result<MemShelf, Fail> {
+    Ok(MemShelf::of(alloc, 4, 200_000, 2_000, fails)?)
+}
+
+// Three users bring three pieces each, and the first one a version more, of which one piece is new. So each cloud has four shares,
+// of 2,742 bytes.
+#[test]
+fn a_generated_session_has_its_summary_and_then_its_store_is_not_empty(
+    rt: HostRuntime,
+) -> Result<(), Fail> {
+    let want = b"files 4\nbytes 98304\nstored 4\nsent 40\nknown 8\nequal 4\n".as_slice();
+    let mut clouds = four_clouds(rt.alloc(), &[])?;
+    let (status, text) = generated(rt.alloc(), "4", "3", &[], &mut clouds)?;
+    assert_eq!(rt; text.as_slice(), want);
+    assert_eq!(rt; status, 0);
+    for cloud in 0..4 {
+        let [journal, shares, recipes] = lengths(&mut clouds, cloud);
+        assert!(rt; journal != 0);
+        assert_eq!(rt; shares, 10_968);
+        assert!(rt; recipes != 0);
+    }
+    let [journal, _, _] = lengths(&mut clouds, 0);
+    let want = format!(in rt.alloc(); "store 0 journal {journal}\n")?;
+    let (status, text) = generated(rt.alloc(), "4", "3", &[], &mut clouds)?;
+    assert_eq!(rt; text.as_slice(), want.as_bytes());
+    assert_eq!(rt; status, 7);
+    Ok(())
+}
+
+// Where the sink fails in the summary, and where it does in the last line.
+#[test]
+fn a_sink_that_fails_is_4(rt: HostRuntime) -> Result<(), Fail> {
+    let mut clouds = four_clouds(rt.alloc(), &[])?;
+    let (status, text) = generated(rt.alloc(), "1", "1", &[3], &mut clouds)?;
+    assert_eq!(rt; text.as_slice(), b"files 1\nbytes ".as_slice());
+    assert_eq!(rt; status, 4);
+    let (status, text) = generated(rt.alloc(), "1", "1", &[2], &mut clouds)?;
+    assert_eq!(rt; text.as_slice(), b"store 0".as_slice());
+    assert_eq!(rt; status, 4);
+    Ok(())
+}
+
+// Where the first device call of the check that the clouds are empty fails, and where the first of an opening does.
+#[test]
+fn a_shelf_that_fails_before_the_session_is_5(rt: HostRuntime) -> Result<(), Fail> {
+    for call in [1, 4] {
+        let mut clouds = four_clouds(rt.alloc(), &[(CloudNo(2), call)])?;
+        let (status, text) = generated(rt.alloc(), "1", "1", &[], &mut clouds)?;
+        assert_eq!(rt; text.as_slice(), b"shelf 2\n".as_slice());
+        assert_eq!(rt; status, 5);
+    }
     Ok(())
 }

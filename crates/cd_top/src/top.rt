@@ -1,8 +1,9 @@
 //! The top call.
 
 ghost use Rattle.std.specs.Prelude.{◌≡◌, ◌≢◌, ◌≤◌, ◌⊎◌, ℕ, List, map, string_bytes};
-ghost use Rattle.command_words.specs.Asked.{AskedFile, AskedRead, AskedServe, ForBackup, ForRead, ForRestore, ForServe};
-ghost use Rattle.command_words.specs.Commands.{IsCommand};
+ghost use Rattle.command_words.specs.Asked.{AskedFile, AskedRead, AskedServe, AskedSession};
+ghost use Rattle.command_words.specs.Asked.{ForBackup, ForGenerate, ForRead, ForRestore, ForServe};
+ghost use Rattle.command_words.specs.Commands.{IsAnyCommand, IsCommand};
 ghost use Rattle.command_words.specs.Views.{asked_of};
 ghost use Rattle.replay_core.specs.Endings.{Call};
 ghost use Rattle.cd_top.specs.Complete.{GoesWell};
@@ -10,13 +11,15 @@ ghost use Rattle.backup_command.specs.Reading.{input_of};
 ghost use Rattle.backup_command.specs.Writing.{output_of as output_by};
 ghost use Rattle.serve_command.specs.Served.{output_of};
 ghost use Rattle.cd_top.specs.Clients.{BacksUp, Restores, lines_of};
-ghost use Rattle.cd_top.specs.Dispatch.{AreBuilt, IsFit, Promises};
+ghost use Rattle.cd_top.specs.Dispatch.{IsFit, Promises};
+ghost use Rattle.cd_top.specs.Generate.{IsGenerated};
 ghost use Rattle.cd_top.specs.Serve.{Serves, serving};
 ghost use Rattle.cd_top.specs.Read.{Around, IsRead};
 ghost use Rattle.cd_top.specs.Replay.{IsReplay, IsReplayed};
 
 use crate::clients::{backup_to, restore_from};
 use crate::ending::finish;
+use crate::generate::generate_in;
 use crate::read::read_in;
 use crate::serve::serve_in;
 use cd_base::NoMemory;
@@ -96,8 +99,14 @@ fn carry_out<S: Source, K: Sink, V: Shelf, P: Ports>(
       restored = λ asked. (source.new ≡ source.old) × (shelf.new ≡ shelf.old) × Restores result asked
           (lines_of (P.tells ports.old) (P.tells ports.new) (P.faults ports.old) (P.faults ports.new))
           (K.written sink.old) (K.written sink.new) (K.faults sink.old) (K.faults sink.new);
-      idle = (result ≡ 1) × (source.new ≡ source.old) × (sink.new ≡ sink.old) × (shelf.new ≡ shelf.old)
-          × (ports.new ≡ ports.old);
+      generated = λ asked. (source.new ≡ source.old) × (ports.new ≡ ports.old) × IsGenerated result (record {
+        sink_before = K.faults sink.old;
+        sink_after = K.faults sink.new;
+        total_before = V.faults shelf.old;
+        total_after = V.faults shelf.new;
+        old = V.cloud_at shelf.old;
+        new = V.cloud_at shelf.new;
+      }) asked (K.written sink.old) (K.written sink.new);
     }) }
 {
     match command {
@@ -106,7 +115,7 @@ fn carry_out<S: Source, K: Sink, V: Shelf, P: Ports>(
         Command::Serve(asked) => serve_in(alloc, asked, sink, shelf, ports),
         Command::Backup(asked) => backup_to(alloc, asked, source, sink, ports),
         Command::Restore(asked) => restore_from(alloc, asked, sink, ports),
-        Command::Generate(_) => 1,
+        Command::Generate(asked) => generate_in(alloc, asked, sink, shelf),
     }
 }
 
@@ -120,21 +129,21 @@ fn carry_out<S: Source, K: Sink, V: Shelf, P: Ports>(
 /// | `serve DIR CLOUD N K ADDR COUNT` | serves COUNT connections to a cloud in DIR, which is begun if it is new |
 /// | `backup USER PATH VERSION ADDR..` | stores the source's bytes on the n clouds behind the addresses |
 /// | `restore USER PATH VERSION ADDR..` | writes a version of a file, from the k clouds behind the addresses |
-///
-/// The last row of the table (`command_words`), `gen`, isn't carried out yet: it is answered as words that are none.
+/// | `gen SEED FILES PIECES DIR` | makes a session of FILES backups over four empty clouds in DIR, and writes its summary |
 ///
 /// | Status | Comes | Last line |
 /// |---|---|---|
 /// | 0 | the script was read to its end and each line answered | `done E` |
 /// | 0 | the file was written, or is stored on all clouds; COUNT connections were served | none, `end 1 stored`, `connection COUNT WORD` |
+/// | 0 | the generated session was made to its end | `equal X`, the last of six lines |
 /// | 1 | exactly where the words are none of the above; nothing is done then | none |
 /// | 2 | a line that was reached is wrong, or a limit is passed; all before it are answered | `script LINE PLACE BYTE` |
 /// | 3 | only where the source's count of faults rose | none |
 /// | 4 | only where the sink's count of faults rose | none |
 /// | 5 | only where the shelf's count rose outside a request and a `restart` | `shelf CLOUD`; none where DIR failed |
 /// | 6 | memory ran out | none |
-/// | 7 | replay: an area of a cloud wasn't empty | `store CLOUD AREA LEN` |
-/// | 7 | replay: the first opening found damage, of a cloud that isn't told | `damaged CLOUD AT BYTE` |
+/// | 7 | replay, gen: an area of a cloud wasn't empty | `store CLOUD AREA LEN` |
+/// | 7 | replay, gen: the first opening found damage, of a cloud that isn't told | `damaged CLOUD AT BYTE` |
 /// | 7 | read: a cloud has no store | `notbegun CLOUD LEN` |
 /// | 7 | read: a cloud's journal is damaged | `damaged CLOUD AT BYTE` |
 /// | 7 | read: a cloud is of another store, or another cloud of it | `other CLOUD FORMAT N K OWN`, as found |
@@ -158,9 +167,9 @@ pub fn run<S: Source, K: Sink, V: Shelf, P: Ports>(
 ) -> u8
     ensures numbers { result ≤ 9 }
     ensures replay_numbers { IsReplay (map string_bytes words.now) → result ≤ 7 }
-    // 1 comes exactly where the words are none that are carried out. Nothing is done then.
-    ensures usage { AreBuilt (map string_bytes words.now) → result ≢ 1 }
-    ensures unused { ¬ AreBuilt (map string_bytes words.now)
+    // 1 comes exactly where the words are none of the table. Nothing is done then.
+    ensures usage { IsAnyCommand (map string_bytes words.now) → result ≢ 1 }
+    ensures unused { ¬ IsAnyCommand (map string_bytes words.now)
         → (result ≡ 1) × (source.new ≡ source.old) × (sink.new ≡ sink.old) × (shelf.new ≡ shelf.old)
         × (ports.new ≡ ports.old) }
     // A replay and a read connect to nothing.
@@ -221,6 +230,18 @@ pub fn run<S: Source, K: Sink, V: Shelf, P: Ports>(
         → (source.new ≡ source.old) × (shelf.new ≡ shelf.old) × Restores result asked
         (lines_of (P.tells ports.old) (P.tells ports.new) (P.faults ports.old) (P.faults ports.new))
         (K.written sink.old) (K.written sink.new) (K.faults sink.old) (K.faults sink.new) }
+    // The session that is made is the generated one; the summary has its numbers, or what is written says why there is
+    // none, and the status has its cause. Where nothing fails, it is made to its end or memory ran out. Source and ports
+    // aren't touched.
+    ensures generate { (asked : AskedSession) → IsCommand (map string_bytes words.now) (ForGenerate asked)
+        → (source.new ≡ source.old) × (ports.new ≡ ports.old) × IsGenerated result (record {
+          sink_before = K.faults sink.old;
+          sink_after = K.faults sink.new;
+          total_before = V.faults shelf.old;
+          total_after = V.faults shelf.new;
+          old = V.cloud_at shelf.old;
+          new = V.cloud_at shelf.new;
+        }) asked (K.written sink.old) (K.written sink.new) }
 {
     law_of_words();
     let command = match read_words(alloc, words) {

@@ -1,6 +1,6 @@
-use Rattle.command_words.specs.Asked.{ForReplay, ForRead, ForServe, ForBackup, ForRestore}
+use Rattle.command_words.specs.Asked.{ForReplay, ForRead, ForServe, ForBackup, ForRestore, ForGenerate}
 use Rattle.cd_top.proofs.Completing.{completes}
-use Rattle.cd_top.proofs.Dispatching.{is_replayed, is_read, is_served, is_backed_up, is_restored}
+use Rattle.cd_top.proofs.Dispatching.{is_replayed, is_read, is_served, is_backed_up, is_restored, is_generated}
 use Rattle.cd_top.proofs.top.run.Goals as goal
 
 pub returns-in-Ok-None-clause-headline : goal.returns-in-Ok-None-clause-headline
@@ -27,9 +27,13 @@ pub returns-in-Ok-None-clause-restore : goal.returns-in-Ok-None-clause-restore
 returns-in-Ok-None-clause-restore g c = λ asked is.
     absurd ((rw c.in-Ok-None.field-0-is at c.in-Ok-None.ensures.none) (ForRestore asked) is)
 
+pub returns-in-Ok-None-clause-generate : goal.returns-in-Ok-None-clause-generate
+returns-in-Ok-None-clause-generate g c = λ asked is.
+    absurd ((rw c.in-Ok-None.field-0-is at c.in-Ok-None.ensures.none) (ForGenerate asked) is)
+
 pub returns-in-Err-clause-unused : goal.returns-in-Err-clause-unused
 returns-in-Err-clause-unused g c = λ other.
-    absurd (other (ForRead c.in-Err.ensures.memory.0, c.in-Err.ensures.memory.1, tt))
+    absurd (other (ForRead c.in-Err.ensures.memory.0, c.in-Err.ensures.memory.1))
 
 pub returns-clause-complete : goal.returns-clause-complete
 returns-clause-complete g c = λ replay well.
@@ -64,4 +68,9 @@ returns-clause-backup g c = λ asked other.
 pub returns-clause-restore : goal.returns-clause-restore
 returns-clause-restore g c = λ asked other.
     is_restored c.law_of_words.ensures.one _ _
+    (rw c.in-Ok-Some.field-0-is at c.in-Ok-Some.ensures.some) _ c.carry_out.ensures asked other
+
+pub returns-clause-generate : goal.returns-clause-generate
+returns-clause-generate g c = λ asked other.
+    is_generated c.law_of_words.ensures.one _ _
     (rw c.in-Ok-Some.field-0-is at c.in-Ok-Some.ensures.some) _ c.carry_out.ensures asked other
