@@ -18,6 +18,7 @@ usage: cdstore serve DIR CLOUD N K ADDR COUNT           serve a cloud in DIR, be
        cdstore restore USER PATH VERSION ADDR..         write the version from the k clouds at these addresses
        cdstore read DIR N K USER PATH VERSION CLOUDS    write the version from the folders of k clouds, such as 0,2,3
        cdstore replay DIR                               run the script on standard input over empty clouds in DIR
+       cdstore gen SEED FILES PIECES DIR                run a generated session over four empty clouds in DIR, and sum it up
 
 N clouds, of which any K give a file back; addresses in the order of the clouds. A script's first line is
 `cdstore 1 N K`, or, with the most that each cloud may hold,
@@ -35,7 +36,7 @@ N clouds, of which any K give a file back; addresses in the order of the clouds.
   rebuild USER CLOUD CLOUDS        bring the user's versions to it from K other clouds, such as 0,1,3
 
 status: 0 done, 1 wrong words, 2 a wrong line or too long a file, 3 input failed, 4 output failed, 5 a disk failed,
-        6 out of memory, 7 a cloud can't be opened, 8 refused, 9 a connection failed
+        6 out of memory, 7 a cloud can't be opened or isn't empty, 8 refused, 9 a connection failed
 ";
 
 // How many seconds the other side of a connection may be silent.
