@@ -7,7 +7,7 @@ export CDSTORE="${CDSTORE:-$top/crates/cdstore/out/cdstore}"
     echo "examples: not run, since there is no program at $CDSTORE"
     exit 0
 }
-for tool in awk cmp diff find grep head mktemp od paste sed seq sha256sum sort stat tail timeout tr; do
+for tool in awk cmp diff find grep head mktemp od paste sed seq sha256sum sort stat tail tee timeout tr; do
     command -v "$tool" > /dev/null || {
         echo "examples: not run, since there is no $tool"
         exit 0
@@ -17,7 +17,8 @@ done
 log="$(mktemp)"
 trap 'rm -f "$log"' EXIT
 status=0
-for example in "first_screen.sh --check" "round_trip.sh" "read_back.sh" "any_three.sh" "session.sh" "kill.sh 20" "four_clouds.sh" "folder.sh"; do
+for example in "first_screen.sh --check" "round_trip.sh" "read_back.sh" "any_three.sh" "session.sh" "month.sh" "kill.sh 20" \
+    "four_clouds.sh" "folder.sh"; do
     # shellcheck disable=SC2086
     if timeout 300 "$top/examples/"$example > "$log" 2>&1; then
         echo "examples: $example ran"
