@@ -17,7 +17,7 @@ done
 log="$(mktemp)"
 trap 'rm -f "$log"' EXIT
 status=0
-for example in "first_screen.sh --check" "round_trip.sh" "read_back.sh" "any_three.sh" "session.sh" "month.sh" "kill.sh 20" \
+for example in "first_screen.sh --check" "round_trip.sh" "read_back.sh" "refill.sh" "any_three.sh" "session.sh" "month.sh" "kill.sh 20" \
     "four_clouds.sh" "folder.sh"; do
     # shellcheck disable=SC2086
     if timeout 300 "$top/examples/"$example > "$log" 2>&1; then

@@ -18,7 +18,7 @@ struct Row {
     areas: Option<[u64; 3]>,
 }
 
-const ROWS: [Row; 16] = [
+const ROWS: [Row; 18] = [
     // empty file
     Row {
         script: "cdstore 1 4 3 9000 9000 9000 90 90 90\nupload 7 61 1 -\nstep 1 0\nstep 1 1\nstep 1 2\nstep 1 3\nget 7 61 1 0,1,2\n",
@@ -110,11 +110,25 @@ const ROWS: [Row; 16] = [
         status: 2,
         areas: None,
     },
-    // a line that isn't carried out yet
+    // nothing to bring
     Row {
         script: "cdstore 1 4 3 9000 9000 9000 90 90 90\nrebuild 7 3 0,1,2\n",
-        text: "open 4 3\nscript 2 0 72\n",
-        status: 2,
+        text: "open 4 3\nrebuilt 7 3 0 0\ndone 1\n",
+        status: 0,
+        areas: None,
+    },
+    // a replaced cloud is filled again
+    Row {
+        script: "cdstore 1 4 3 9000 9000 9000 90 90 90\nupload 7 61 1 41\nfinish 1\nreplace 2\nget 7 61 1 0,1,2\nrebuild 7 2 0,1,3\nget 7 61 1 1,2,3\nlist 8 2\n",
+        text: "open 4 3\njob 1\nstep 1 0 known 0 1\nstep 1 0 stored 1 1\nstep 1 0 committed\nstep 1 1 known 0 1\nstep 1 1 stored 1 1\nstep 1 1 committed\nstep 1 2 known 0 1\nstep 1 2 stored 1 1\nstep 1 2 committed\nstep 1 3 known 0 1\nstep 1 3 stored 1 1\nstep 1 3 committed\nstored 1\nend 1 stored\nreplaced 2\nrefused missing 2\nrebuilt 7 2 1 0\ngot 41\nentries 8 2 0\ndone 7\n",
+        status: 0,
+        areas: Some([165, 11, 61]),
+    },
+    // a rebuild skips what isn't whole
+    Row {
+        script: "cdstore 1 4 3 9000 9000 9000 90 90 90\nupload 7 61 1 -\nupload 7 61 1 41\nstep 1 0\nstep 1 1\nfinish 2\nfinish 1\nget 7 61 1 0,1,2\nrebuild 7 3 0,1,2\n",
+        text: "open 4 3\njob 1\njob 2\nstep 1 0 committed\nstep 1 1 committed\nstep 2 0 known 0 1\nstep 2 0 stored 1 1\nstep 2 0 exists\nstep 2 1 known 0 1\nstep 2 1 stored 1 1\nstep 2 1 exists\nstep 2 2 known 0 1\nstep 2 2 stored 1 1\nstep 2 2 committed\nstep 2 3 known 0 1\nstep 2 3 stored 1 1\nstep 2 3 committed\nend 2 open\nstep 1 2 exists\nstep 1 3 exists\nend 1 open\nrefused recipesdiffer 0 2 1\nrebuilt 7 3 0 1\nskipped 5d68886a3c18c6681152c8912b098df2772886cc297ca017f379493ac7b5822e 1 recipesdiffer\ndone 8\n",
+        status: 0,
         areas: None,
     },
     // listing
