@@ -7,15 +7,15 @@ use mem_ports::MemPorts;
 use std::alloc::Global;
 use std::test::Fail;
 
-// The frame of a reply to Hello.
-fn hello(n: u8, k: u8, cloud: u8) -> [u8; 9] {
+/// The frame of a reply to Hello.
+pub fn hello(n: u8, k: u8, cloud: u8) -> [u8; 9] {
     [0, 0, 0, 5, 0x81, n, k, cloud, 1]
 }
 
 const PATH: &[u8] = b"a";
 
-// Nothing is known there yet, it was new, and the version is entered.
-const TAKES: &[u8] = &[
+/// Nothing is known there yet, it was new, and the version is entered.
+pub const TAKES: &[u8] = &[
     0, 0, 0, 4, 0x82, 0, 1, 0, 0, 0, 0, 3, 0x83, 0, 1, 0, 0, 0, 1, 0x84,
 ];
 
@@ -62,8 +62,8 @@ step 1 2 lacking 0\n\
 step 1 3 strange 00\n\
 end 1 open\n";
 
-// Ports on which these replies come, each behind a Hello of four clouds, 30 bytes a call.
-fn ports_of(
+/// Ports on which these replies come, each behind a Hello of four clouds, 30 bytes a call.
+pub fn ports_of(
     alloc: Global,
     hellos: &[[u8; 9]],
     replies: &[&[u8]],
@@ -115,8 +115,8 @@ fn status(
     ))
 }
 
-// What a backup comes to over these ports, where these calls of the source and the sink fail.
-fn comes_to(
+/// What a backup comes to over these ports, where these calls of the source and the sink fail.
+pub fn comes_to(
     alloc: Global,
     ports: &mut MemPorts,
     source_fails: &[u64],
@@ -128,8 +128,8 @@ fn comes_to(
     Ok(status == wanted.0 && sink.written() == wanted.1)
 }
 
-// The Hellos of four clouds, in order.
-fn right() -> [[u8; 9]; 4] {
+/// The Hellos of four clouds, in order.
+pub fn right() -> [[u8; 9]; 4] {
     [
         hello(4, 3, 0),
         hello(4, 3, 1),
