@@ -55,8 +55,8 @@ fn ports_of(alloc: Global, streams: &[Bytes], fails: &[u64]) -> Result<MemPorts,
     Ok(ports)
 }
 
-// What a restore comes to over streams that are given, and a sink that passes two bytes a call.
-fn comes_to(
+/// What a restore comes to over streams that are given, and a sink that passes two bytes a call.
+pub fn comes_to(
     alloc: Global,
     version: u64,
     streams: &[Bytes],

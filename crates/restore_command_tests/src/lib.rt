@@ -4,4 +4,8 @@
 #[cfg(test)]
 mod command;
 #[cfg(test)]
+mod refusals;
+#[cfg(test)]
 mod servers;
+#[cfg(test)]
+mod streams;
