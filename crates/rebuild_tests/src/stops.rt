@@ -1,11 +1,11 @@
 //! A rebuild that is stopped, and run again.
 
 use crate::ground::{counts, link, rebuilt, restored, rooms, shelf, stop, store};
-use cd_base::{Bytes, CloudNo, Room, Rooms};
+use cd_base::{Bytes, CloudNo, Room, Rooms, UserId, Version, is_path};
 use cd_fakes::MemShelf;
 use frames::ReplyBuf;
 use local_link::{Fate, LocalLink};
-use rebuild::RebuildErr;
+use rebuild::{RebuildErr, bring};
 use restore_job::RestoreErr;
 use std::alloc::Global;
 use std::test::Fail;
@@ -79,6 +79,51 @@ fn a_lost_ask_of_the_first_cloud(rt: HostRuntime) -> Result<(), Fail> {
     );
     let again = rebuilt(rt.alloc(), &mut link, 7, 3, &[0, 1, 2])?;
     assert_eq!(rt; counts(&again), Some((2, 0)));
+    Ok(())
+}
+
+// Brings the target a version of a file.
+fn brought(
+    alloc: Global,
+    link: &mut LocalLink<'_, MemShelf>,
+    path: &[u8],
+    file: &[u8],
+) -> Result<Result<bool, RebuildErr>, Fail> {
+    let shape = link.shape();
+    if TARGET.0 >= shape.n || !is_path(path) || file.len() > 1_000 {
+        return Err(Fail::new("no such file"));
+    }
+    let mut content = Bytes::new(alloc);
+    let mut reply = ReplyBuf::make(alloc)?;
+    let mut told = Vec::new(alloc);
+    Ok(bring(
+        alloc,
+        link,
+        shape,
+        UserId(7),
+        TARGET,
+        Version(1),
+        path,
+        file,
+        &mut content,
+        &mut reply,
+        &mut told,
+    ))
+}
+
+#[test]
+fn a_lost_ask_of_the_target(rt: HostRuntime) -> Result<(), Fail> {
+    let mut shelf = shelf(rt.alloc())?;
+    let mut link = link(rt.alloc(), &mut shelf)?;
+    store_two(rt.alloc(), &mut link)?;
+    link.next_fate(Fate::LoseReply);
+    let lost = brought(rt.alloc(), &mut link, b"one", b"A")?;
+    assert_eq!(rt; lost, Err(RebuildErr::TargetLost));
+    let again = rebuilt(rt.alloc(), &mut link, 7, 3, &[0, 1, 2])?;
+    assert_eq!(rt; counts(&again), Some((2, 0)));
+    // another file under the version that stands there
+    let other = brought(rt.alloc(), &mut link, b"one", b"C")?;
+    assert_eq!(rt; other, Ok(false));
     Ok(())
 }
 
