@@ -1,0 +1,5 @@
+pub mod Current
+pub mod Laying
+pub mod OneByte
+pub mod Settling
+pub mod Turning
