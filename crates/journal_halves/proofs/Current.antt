@@ -75,5 +75,5 @@ one_chain journal w v c d =
     let begun : HasStart journal w.half v.start = subst (λ (h : ℕ). HasStart journal h v.start) (sym half) d.current.begun in
     let start = one_start journal w.half w.start v.start c.current.begun begun in
     let bodies = tail_same (start_bytes w.start) (start_bytes v.start) w.bodies v.bodies
-        (one_journal (all_bodies w) (all_bodies v) (half_of w.half journal) c.chain_is (subst (λ (h : ℕ). IsJournal (all_bodies v) (half_of h journal)) (sym half) d.chain_is)) in
+    (one_journal (all_bodies w) (all_bodies v) (half_of w.half journal) c.chain_is (subst (λ (h : ℕ). IsJournal (all_bodies v) (half_of h journal)) (sym half) d.chain_is)) in
     λ i. record { half = half i; start = start i; bodies = bodies i }
