@@ -1,0 +1,5 @@
+pub mod ItemLaws
+pub mod BodyLaws
+pub mod Cuts
+pub mod Spelled
+pub mod Walks

@@ -1,0 +1,167 @@
+//! Writing a body.
+
+ghost use Rattle.std.specs.Prelude.{◌≡◌, ◌+◌, ◌≤◌, ◌++◌, [], length, IfOk};
+ghost use Rattle.record_body.specs.Spelling.{put_front, placed_bytes, item_bytes, place_bytes};
+ghost use Rattle.record_bodies.specs.Spelling.{Commit, Delete, Spent, kept_front, kept_bytes, body_bytes};
+
+use crate::{CommitBody, DeleteBody, KeptItem, PutItem, SpentBody};
+use cd_base::{NoMemory, UserId};
+use share_index::Place;
+use std::alloc::Global;
+use std::marker::Model;
+
+/// The body of a record that is being made, of up to 65,535 bytes. Contracts see the list of its bytes.
+#[derive(Debug, Drop)]
+pub struct BodyBuf {
+    bytes: Vec<u8>,
+}
+
+impl Model for BodyBuf {
+    ghost use Rattle.std.specs.Prelude.{ℕ, ◌≤◌, List, length, vec_capacity};
+
+    ghost Value = { List ℕ };
+
+    ghost view = { λ b. b.bytes.items };
+
+    ghost invariant = { λ b. (length b.bytes.items ≤ 65535) × (65535 ≤ vec_capacity b.bytes) };
+}
+
+impl BodyBuf {
+    /// No bytes, with memory for 65,535 of them. The only error is want of memory.
+    pub fn make(alloc: Global) -> Result<BodyBuf, NoMemory>
+        ensures { IfOk result (λ buf. buf ≡ []) }
+    {
+        let bytes = Vec::with_capacity(alloc, 65_535)?;
+        Ok(BodyBuf { bytes })
+    }
+
+    /// The bytes.
+    pub fn as_slice(&self) -> &[u8]
+        ensures value { result.now ≡ self.now }
+        ensures few { length self.now ≤ 65535 }
+    {
+        self.bytes.as_slice()
+    }
+
+    /// How many bytes there are.
+    pub fn len(&self) -> usize
+        ensures value { result ≡ length self.now }
+        ensures few { result ≤ 65535 }
+    {
+        self.bytes.len()
+    }
+
+    // Drops the bytes, and keeps the memory.
+    fn clear(&mut self)
+        ensures { self.new ≡ [] }
+    {
+        self.bytes.clear();
+    }
+
+    // Appends bytes. It takes no memory.
+    fn put(&mut self, bytes: &[u8])
+        requires { length self.old + length bytes.now ≤ 65535 }
+        ensures { self.new ≡ self.old ++ bytes.now }
+    {
+        let _ = self.bytes.extend_from_slice(bytes);
+    }
+
+    // Appends a place: 12 bytes.
+    fn put_place(&mut self, place: &Place)
+        requires { length self.old + 12 ≤ 65535 }
+        ensures { self.new ≡ self.old ++ place_bytes place.now }
+    {
+        self.put(&place.at.to_be_bytes());
+        self.put(&place.len.to_be_bytes());
+    }
+
+    // Appends a flag, and the place behind flag 1.
+    fn put_placed(&mut self, place: &Option<Place>)
+        requires { length self.old + 13 ≤ 65535 }
+        ensures { self.new ≡ self.old ++ placed_bytes place.now }
+    {
+        match place {
+            None => self.put(&[0]),
+            Some(place) => {
+                self.put(&[1]);
+                self.put_place(place);
+            }
+        }
+    }
+
+    /// Begins a Put of so many items in place of what stood here. Its items follow by `put_item`, and with as many as were
+    /// named the bytes are the Put's body (`record_body::laws::written_laws`).
+    pub fn start_put(&mut self, user: UserId, count: u16)
+        ensures { self.new ≡ put_front user count }
+    {
+        self.clear();
+        self.put(&[1]);
+        self.put(&user.0.to_be_bytes());
+        self.put(&count.to_be_bytes());
+    }
+
+    /// Appends an item of a Put. An item takes 33 bytes, or 45 with a place.
+    pub fn put_item(&mut self, item: &PutItem)
+        requires { length self.old + 45 ≤ 65535 }
+        ensures { self.new ≡ self.old ++ item_bytes item.now }
+    {
+        self.put(&item.fp.0);
+        self.put_placed(&item.place);
+    }
+
+    /// Writes a Commit in place of what stood here: 89 bytes.
+    pub fn write_commit(&mut self, commit: &CommitBody)
+        ensures { self.new ≡ body_bytes (Commit commit.now) }
+    {
+        self.clear();
+        self.put(&[2]);
+        self.put(&commit.user.0.to_be_bytes());
+        self.put(&commit.tag.0);
+        self.put(&commit.version.0.to_be_bytes());
+        self.put(&commit.at.to_be_bytes());
+        self.put(&commit.len.to_be_bytes());
+        self.put(&commit.fp.0);
+    }
+
+    /// Writes a Delete in place of what stood here: 45 bytes.
+    pub fn write_delete(&mut self, delete: &DeleteBody)
+        ensures { self.new ≡ body_bytes (Delete delete.now) }
+    {
+        self.clear();
+        self.put(&[3]);
+        self.put(&delete.user.0.to_be_bytes());
+        self.put(&delete.tag.0);
+        self.put(&delete.version.0.to_be_bytes());
+    }
+
+    /// Begins a Kept of so many items in place of what stood here. Its items follow by `put_kept`, and with as many as were
+    /// named the bytes are the Kept's body (`laws::written_laws`).
+    pub fn start_kept(&mut self, count: u16)
+        ensures { self.new ≡ kept_front count }
+    {
+        self.clear();
+        self.put(&[4]);
+        self.put(&count.to_be_bytes());
+    }
+
+    /// Appends an item of a Kept: 44 bytes.
+    pub fn put_kept(&mut self, item: &KeptItem)
+        requires { length self.old + 44 ≤ 65535 }
+        ensures { self.new ≡ self.old ++ kept_bytes item.now }
+    {
+        self.put(&item.fp.0);
+        self.put_place(&item.place);
+    }
+
+    /// Writes a Spent in place of what stood here: 25 bytes.
+    pub fn write_spent(&mut self, spent: &SpentBody)
+        ensures { self.new ≡ body_bytes (Spent spent.now) }
+    {
+        self.clear();
+        self.put(&[5]);
+        self.put(&spent.user.0.to_be_bytes());
+        self.put(&spent.owners.to_be_bytes());
+        self.put(&spent.shares.to_be_bytes());
+        self.put(&spent.recipes.to_be_bytes());
+    }
+}
