@@ -4,6 +4,7 @@
 //! Only `CheckpointWriter::make` takes memory.
 #![tactic(auto)]
 
+mod area;
 mod piece;
 mod writer;
 

@@ -2,108 +2,19 @@
 
 ghost use Rattle.std.specs.Prelude.{◌≡◌, ◌≢◌, ◌⊎◌, ℕ, ◌+◌, ◌-◌, ◌*◌, ◌<◌, ◌≤◌, List, [], ◌∷◌, ◌++◌, length, true, false, IsTrue, IfOk, OnOk, OnErr};
 ghost use Rattle.cd_edges.specs.declared.area.Area.{Area};
-ghost use Rattle.cd_edges.specs.Disk.{LeavesOnly, IsAtArea, MayLeave, moment, overwritten};
-ghost use Rattle.cd_edges.specs.Shelf.{IsCall, HasFailed, KeepsCounts, Stays, Writes, wrote, stable};
+ghost use Rattle.cd_edges.specs.Shelf.{IsCall, HasFailed, KeepsCounts};
 ghost use Rattle.commit_journal.specs.Records.{sized};
 ghost use Rattle.journal_start.specs.Ranges.{IsStart};
 ghost use Rattle.journal_start.specs.Spelling.{start_bytes, records_of};
 ghost use Rattle.journal_halves.specs.Halves.{half_len};
-ghost use Rattle.journal_halves.specs.Journals.{Where, HasChain, IsEither, Stands, MayFollow, IsClosedAt, IsOpenAt, with_body};
 
 use crate::PIECE;
+use crate::area::{close, first_place, write_last, write_piece};
 use crate::piece::Piece;
 use cd_base::{CloudNo, NoMemory};
 use cd_edges::{Area, Failed, Shelf, write_synced};
-use journal_halves::HALF_LEN;
 use journal_start::Start;
 use std::alloc::Global;
-
-// The first place of a half.
-fn first_place(half: u8) -> u64
-    requires { half ≤ 1 }
-    ensures { result ≡ half * half_len }
-{
-    half as u64 * HALF_LEN
-}
-
-// Whether a half's first place is there and doesn't open it.
-fn is_closed<V: Shelf>(shelf: &mut V, cloud: CloudNo, half: u8) -> Result<bool, Failed>
-    requires { half ≤ 1 }
-    ensures closed { IsTrue (V.cloud_at shelf.old cloud.0).told → IfOk result (λ closed. closed ≡ true → IsClosedAt ((V.cloud_at shelf.old cloud.0).now Area.Journal).read half) }
-    ensures opened { IsTrue (V.cloud_at shelf.old cloud.0).told → IfOk result (λ closed. closed ≡ false → IsOpenAt ((V.cloud_at shelf.old cloud.0).now Area.Journal).read half) }
-    ensures stays { Stays (V.cloud_at shelf.old cloud.0) (V.cloud_at shelf.new cloud.0) }
-    ensures call { IsCall (V.cloud_at shelf.old) (V.cloud_at shelf.new) cloud.0 (V.faults shelf.old) (V.faults shelf.new) }
-    ensures failed { OnErr result (HasFailed (V.cloud_at shelf.old cloud.0) (V.cloud_at shelf.new cloud.0) (V.faults shelf.old) (V.faults shelf.new)) }
-    ensures uncounted { OnOk result (KeepsCounts (V.cloud_at shelf.old cloud.0) (V.cloud_at shelf.new cloud.0) (V.faults shelf.old) (V.faults shelf.new)) }
-{
-    let mut first = [1];
-    let count = shelf.read(cloud, Area::Journal, first_place(half), &mut first)?;
-    Ok(count == 1 && first[0] != 1)
-}
-
-// Makes sure that a half's first place is there and doesn't open it, by a write and a sync where it isn't so.
-fn close<V: Shelf>(shelf: &mut V, cloud: CloudNo, half: u8) -> Result<(), Failed>
-    requires { half ≤ 1 }
-    ensures any_moment { IsTrue (V.cloud_at shelf.old cloud.0).told → (w : Where) → Stands ((V.cloud_at shelf.old cloud.0).now Area.Journal) w → half ≡ 1 - w.half
-        → LeavesOnly (V.cloud_at shelf.old cloud.0) (V.cloud_at shelf.new cloud.0) (IsAtArea (V.cloud_at shelf.old cloud.0).now Area.Journal (λ image. HasChain image w)) }
-    ensures closed { IsTrue (V.cloud_at shelf.old cloud.0).told → (w : Where) → Stands ((V.cloud_at shelf.old cloud.0).now Area.Journal) w → half ≡ 1 - w.half
-        → OnOk result (Stands ((V.cloud_at shelf.new cloud.0).now Area.Journal) w × IsClosedAt ((V.cloud_at shelf.new cloud.0).now Area.Journal).read half) }
-    ensures spared { IsTrue (V.cloud_at shelf.old cloud.0).told → IsClosedAt ((V.cloud_at shelf.old cloud.0).now Area.Journal).read half → Stays (V.cloud_at shelf.old cloud.0) (V.cloud_at shelf.new cloud.0) }
-    ensures moments { IsTrue (V.cloud_at shelf.old cloud.0).told → IsOpenAt ((V.cloud_at shelf.old cloud.0).now Area.Journal).read half → OnOk result (moment (V.cloud_at shelf.new cloud.0) ≡ moment (V.cloud_at shelf.old cloud.0) + 2) }
-    ensures others { IsTrue (V.cloud_at shelf.old cloud.0).told → OnOk result ((other : Area) → other ≢ Area.Journal → (V.cloud_at shelf.new cloud.0).now other ≡ (V.cloud_at shelf.old cloud.0).now other) }
-    ensures call { IsCall (V.cloud_at shelf.old) (V.cloud_at shelf.new) cloud.0 (V.faults shelf.old) (V.faults shelf.new) }
-    ensures failed { OnErr result (HasFailed (V.cloud_at shelf.old cloud.0) (V.cloud_at shelf.new cloud.0) (V.faults shelf.old) (V.faults shelf.new)) }
-    ensures uncounted { OnOk result (KeepsCounts (V.cloud_at shelf.old cloud.0) (V.cloud_at shelf.new cloud.0) (V.faults shelf.old) (V.faults shelf.new)) }
-{
-    if is_closed(shelf, cloud, half)? {
-        return Ok(());
-    }
-    write_synced(shelf, cloud, Area::Journal, first_place(half), &[0])
-}
-
-// Writes what waits; after Ok nothing waits.
-fn write_piece<V: Shelf>(
-    shelf: &mut V,
-    cloud: CloudNo,
-    at: u64,
-    waiting: &mut Piece,
-) -> Result<(), Failed>
-    ensures write { IsTrue (V.cloud_at shelf.old cloud.0).told → Writes (V.cloud_at shelf.old cloud.0) (V.cloud_at shelf.new cloud.0) Area.Journal at waiting.old result }
-    ensures done { OnOk result (waiting.new ≡ []) }
-    ensures kept { OnErr result (waiting.new ≡ waiting.old) }
-    ensures call { IsCall (V.cloud_at shelf.old) (V.cloud_at shelf.new) cloud.0 (V.faults shelf.old) (V.faults shelf.new) }
-    ensures failed { OnErr result (HasFailed (V.cloud_at shelf.old cloud.0) (V.cloud_at shelf.new cloud.0) (V.faults shelf.old) (V.faults shelf.new)) }
-    ensures uncounted { OnOk result (KeepsCounts (V.cloud_at shelf.old cloud.0) (V.cloud_at shelf.new cloud.0) (V.faults shelf.old) (V.faults shelf.new)) }
-{
-    shelf.write(cloud, Area::Journal, at, waiting.as_slice())?;
-    waiting.clear();
-    Ok(())
-}
-
-// Writes what waits and a closed gate, and syncs. Nothing waits then.
-fn write_last<V: Shelf>(
-    shelf: &mut V,
-    cloud: CloudNo,
-    at: u64,
-    waiting: &mut Piece,
-) -> Result<(), Failed>
-    requires { length waiting.old < 4194304 }
-    ensures any_moment { IsTrue (V.cloud_at shelf.old cloud.0).told → LeavesOnly (V.cloud_at shelf.old cloud.0) (V.cloud_at shelf.new cloud.0)
-        (IsAtArea (V.cloud_at shelf.old cloud.0).now Area.Journal (MayLeave (wrote ((V.cloud_at shelf.old cloud.0).now Area.Journal) at (waiting.old ++ 0 ∷ [])))) }
-    ensures written { IsTrue (V.cloud_at shelf.old cloud.0).told → OnOk result ((V.cloud_at shelf.new cloud.0).now Area.Journal
-        ≡ stable (overwritten ((V.cloud_at shelf.old cloud.0).now Area.Journal).read at (waiting.old ++ 0 ∷ []))) }
-    ensures others { IsTrue (V.cloud_at shelf.old cloud.0).told → OnOk result ((other : Area) → other ≢ Area.Journal → (V.cloud_at shelf.new cloud.0).now other ≡ (V.cloud_at shelf.old cloud.0).now other) }
-    ensures moments { IsTrue (V.cloud_at shelf.old cloud.0).told → OnOk result (moment (V.cloud_at shelf.new cloud.0) ≡ moment (V.cloud_at shelf.old cloud.0) + 2) }
-    ensures none { waiting.new ≡ [] }
-    ensures call { IsCall (V.cloud_at shelf.old) (V.cloud_at shelf.new) cloud.0 (V.faults shelf.old) (V.faults shelf.new) }
-    ensures failed { OnErr result (HasFailed (V.cloud_at shelf.old cloud.0) (V.cloud_at shelf.new cloud.0) (V.faults shelf.old) (V.faults shelf.new)) }
-    ensures uncounted { OnOk result (KeepsCounts (V.cloud_at shelf.old cloud.0) (V.cloud_at shelf.new cloud.0) (V.faults shelf.old) (V.faults shelf.new)) }
-{
-    waiting.put(&[0]);
-    let result = write_synced(shelf, cloud, Area::Journal, at, waiting.as_slice());
-    waiting.clear();
-    result
-}
 
 /// Writes a checkpoint into a half of a cloud's journal, in pieces of up to 4 MiB.
 #[derive(Drop)]
@@ -121,7 +32,8 @@ pub struct CheckpointWriter {
 }
 
 impl CheckpointWriter {
-    ghost use Rattle.checkpoint_writing.specs.States.{state_of, used_of, begun_with, IsLaying};
+    ghost use Rattle.checkpoint_writing.specs.States.{state_of, used_of};
+    ghost use Rattle.checkpoint_writing.specs.Leaving.{KeepsStanding, KeepsLaid, KeepsOrSettles, HasTurned, IsLaidStill, HasLaid, HasSettled, IsFull, OthersStay, IsLater, IsSpared, IsLaterOpen};
 
     /// A writer with memory for a piece of 4 MiB, which is all that it ever takes. The only error is want of memory.
     pub fn make(alloc: Global) -> Result<CheckpointWriter, NoMemory>
@@ -137,7 +49,8 @@ impl CheckpointWriter {
 
     /// How many bytes of its half the checkpoint takes so far, with its closed gate.
     pub fn used(&self) -> u64
-        ensures { result ≡ used_of (state_of self.now) }
+        ensures value { result ≡ used_of (state_of self.now) }
+        ensures within { result ≤ half_len }
     {
         self.written + self.waiting.len() as u64 + 2
     }
@@ -164,17 +77,20 @@ impl CheckpointWriter {
     ) -> Result<(), Failed>
         requires { half ≤ 1 }
 
-        ensures any_moment { IsTrue (V.cloud_at shelf.old cloud.0).told → (w : Where) → Stands ((V.cloud_at shelf.old cloud.0).now Area.Journal) w → half ≡ 1 - w.half
-            → LeavesOnly (V.cloud_at shelf.old cloud.0) (V.cloud_at shelf.new cloud.0) (IsAtArea (V.cloud_at shelf.old cloud.0).now Area.Journal (λ image. HasChain image w)) }
-        ensures turned { IsTrue (V.cloud_at shelf.old cloud.0).told → (w : Where) → Stands ((V.cloud_at shelf.old cloud.0).now Area.Journal) w → MayFollow w half start.now
-            → OnOk result (IsLaying (state_of self.new) ((V.cloud_at shelf.new cloud.0).now Area.Journal) w (begun_with half start.now)) }
-        ensures state { OnOk result (((state_of self.new).left ≡ records_of start.now.checkpoint) × (used_of (state_of self.new) ≡ length (start_bytes start.now) + 6)) }
-        ensures spared { IsTrue (V.cloud_at shelf.old cloud.0).told → IsClosedAt ((V.cloud_at shelf.old cloud.0).now Area.Journal).read half → Stays (V.cloud_at shelf.old cloud.0) (V.cloud_at shelf.new cloud.0) }
-        ensures moments { IsTrue (V.cloud_at shelf.old cloud.0).told → IsOpenAt ((V.cloud_at shelf.old cloud.0).now Area.Journal).read half → OnOk result (moment (V.cloud_at shelf.new cloud.0) ≡ moment (V.cloud_at shelf.old cloud.0) + 2) }
-        ensures others { IsTrue (V.cloud_at shelf.old cloud.0).told → OnOk result ((other : Area) → other ≢ Area.Journal → (V.cloud_at shelf.new cloud.0).now other ≡ (V.cloud_at shelf.old cloud.0).now other) }
-        ensures call { IsCall (V.cloud_at shelf.old) (V.cloud_at shelf.new) cloud.0 (V.faults shelf.old) (V.faults shelf.new) }
-        ensures failed { OnErr result (HasFailed (V.cloud_at shelf.old cloud.0) (V.cloud_at shelf.new cloud.0) (V.faults shelf.old) (V.faults shelf.new)) }
-        ensures uncounted { OnOk result (KeepsCounts (V.cloud_at shelf.old cloud.0) (V.cloud_at shelf.new cloud.0) (V.faults shelf.old) (V.faults shelf.new)) }
+        ensures any_moment { KeepsStanding half (V.cloud_at shelf.old cloud.0) (V.cloud_at shelf.new cloud.0) }
+        ensures turned { HasTurned (state_of self.new) half start.now
+            (V.cloud_at shelf.old cloud.0) (V.cloud_at shelf.new cloud.0) result }
+        ensures state { OnOk result (((state_of self.new).left ≡ records_of start.now.checkpoint)
+            × (used_of (state_of self.new) ≡ length (start_bytes start.now) + 6)) }
+        ensures spared { IsSpared half (V.cloud_at shelf.old cloud.0) (V.cloud_at shelf.new cloud.0) }
+        ensures moments { IsLaterOpen 2 half (V.cloud_at shelf.old cloud.0) (V.cloud_at shelf.new cloud.0) result }
+        ensures others { OthersStay (V.cloud_at shelf.old cloud.0) (V.cloud_at shelf.new cloud.0) result }
+        ensures call { IsCall (V.cloud_at shelf.old) (V.cloud_at shelf.new) cloud.0
+            (V.faults shelf.old) (V.faults shelf.new) }
+        ensures failed { OnErr result (HasFailed (V.cloud_at shelf.old cloud.0) (V.cloud_at shelf.new cloud.0)
+            (V.faults shelf.old) (V.faults shelf.new)) }
+        ensures uncounted { OnOk result (KeepsCounts (V.cloud_at shelf.old cloud.0) (V.cloud_at shelf.new cloud.0)
+            (V.faults shelf.old) (V.faults shelf.new)) }
     {
         close(shelf, cloud, half)?;
         self.begin(half, start);
@@ -184,7 +100,12 @@ impl CheckpointWriter {
     // Begins anew with this start.
     fn begin(&mut self, half: u8, start: &Start)
         requires { half ≤ 1 }
-        ensures { state_of self.new ≡ record { half = half; written = 0; waiting = sized (start_bytes start.now); left = records_of start.now.checkpoint } }
+        ensures { state_of self.new ≡ record {
+          half = half;
+          written = 0;
+          waiting = sized (start_bytes start.now);
+          left = records_of start.now.checkpoint;
+        } }
     {
         let bytes = start.bytes();
         let _len = bytes.len();
@@ -211,15 +132,19 @@ impl CheckpointWriter {
         requires few { length body.now ≤ 65535 }
         requires room { used_of (state_of self.old) + length body.now + 5 ≤ 134217728 }
 
-        ensures any_moment { IsTrue (V.cloud_at shelf.old cloud.0).told → (w next : Where) → IsLaying (state_of self.old) ((V.cloud_at shelf.old cloud.0).now Area.Journal) w next
-            → LeavesOnly (V.cloud_at shelf.old cloud.0) (V.cloud_at shelf.new cloud.0) (IsAtArea (V.cloud_at shelf.old cloud.0).now Area.Journal (λ image. HasChain image w)) }
-        ensures laid { IsTrue (V.cloud_at shelf.old cloud.0).told → (w next : Where) → IsLaying (state_of self.old) ((V.cloud_at shelf.old cloud.0).now Area.Journal) w next
-            → OnOk result (IsLaying (state_of self.new) ((V.cloud_at shelf.new cloud.0).now Area.Journal) w (with_body next body.now)) }
-        ensures state { OnOk result (((state_of self.new).left + 1 ≡ (state_of self.old).left) × (used_of (state_of self.new) ≡ used_of (state_of self.old) + length body.now + 5)) }
-        ensures others { IsTrue (V.cloud_at shelf.old cloud.0).told → OnOk result ((other : Area) → other ≢ Area.Journal → (V.cloud_at shelf.new cloud.0).now other ≡ (V.cloud_at shelf.old cloud.0).now other) }
-        ensures call { IsCall (V.cloud_at shelf.old) (V.cloud_at shelf.new) cloud.0 (V.faults shelf.old) (V.faults shelf.new) }
-        ensures failed { OnErr result (HasFailed (V.cloud_at shelf.old cloud.0) (V.cloud_at shelf.new cloud.0) (V.faults shelf.old) (V.faults shelf.new)) }
-        ensures uncounted { OnOk result (KeepsCounts (V.cloud_at shelf.old cloud.0) (V.cloud_at shelf.new cloud.0) (V.faults shelf.old) (V.faults shelf.new)) }
+        ensures any_moment { KeepsLaid (state_of self.old)
+            (V.cloud_at shelf.old cloud.0) (V.cloud_at shelf.new cloud.0) }
+        ensures laid { HasLaid (state_of self.old) (state_of self.new) body.now
+            (V.cloud_at shelf.old cloud.0) (V.cloud_at shelf.new cloud.0) result }
+        ensures state { OnOk result (((state_of self.new).left + 1 ≡ (state_of self.old).left)
+            × (used_of (state_of self.new) ≡ used_of (state_of self.old) + length body.now + 5)) }
+        ensures others { OthersStay (V.cloud_at shelf.old cloud.0) (V.cloud_at shelf.new cloud.0) result }
+        ensures call { IsCall (V.cloud_at shelf.old) (V.cloud_at shelf.new) cloud.0
+            (V.faults shelf.old) (V.faults shelf.new) }
+        ensures failed { OnErr result (HasFailed (V.cloud_at shelf.old cloud.0) (V.cloud_at shelf.new cloud.0)
+            (V.faults shelf.old) (V.faults shelf.new)) }
+        ensures uncounted { OnOk result (KeepsCounts (V.cloud_at shelf.old cloud.0) (V.cloud_at shelf.new cloud.0)
+            (V.faults shelf.old) (V.faults shelf.new)) }
     {
         self.make_room(shelf, cloud, body.len())?;
         self.add(body);
@@ -234,17 +159,20 @@ impl CheckpointWriter {
         len: usize,
     ) -> Result<(), Failed>
         requires { len ≤ 65535 }
-        ensures any_moment { IsTrue (V.cloud_at shelf.old cloud.0).told → (w next : Where) → IsLaying (state_of self.old) ((V.cloud_at shelf.old cloud.0).now Area.Journal) w next
-            → LeavesOnly (V.cloud_at shelf.old cloud.0) (V.cloud_at shelf.new cloud.0) (IsAtArea (V.cloud_at shelf.old cloud.0).now Area.Journal (λ image. HasChain image w)) }
-        ensures still { IsTrue (V.cloud_at shelf.old cloud.0).told → (w next : Where) → IsLaying (state_of self.old) ((V.cloud_at shelf.old cloud.0).now Area.Journal) w next
-            → OnOk result (IsLaying (state_of self.new) ((V.cloud_at shelf.new cloud.0).now Area.Journal) w next) }
-        ensures others { IsTrue (V.cloud_at shelf.old cloud.0).told → OnOk result ((other : Area) → other ≢ Area.Journal → (V.cloud_at shelf.new cloud.0).now other ≡ (V.cloud_at shelf.old cloud.0).now other) }
+        ensures any_moment { KeepsLaid (state_of self.old)
+            (V.cloud_at shelf.old cloud.0) (V.cloud_at shelf.new cloud.0) }
+        ensures still { IsLaidStill (state_of self.old) (state_of self.new)
+            (V.cloud_at shelf.old cloud.0) (V.cloud_at shelf.new cloud.0) result }
+        ensures others { OthersStay (V.cloud_at shelf.old cloud.0) (V.cloud_at shelf.new cloud.0) result }
         ensures room { OnOk result (length (state_of self.new).waiting + len + 5 < 4194304) }
         ensures used { used_of (state_of self.new) ≡ used_of (state_of self.old) }
         ensures left { (state_of self.new).left ≡ (state_of self.old).left }
-        ensures call { IsCall (V.cloud_at shelf.old) (V.cloud_at shelf.new) cloud.0 (V.faults shelf.old) (V.faults shelf.new) }
-        ensures failed { OnErr result (HasFailed (V.cloud_at shelf.old cloud.0) (V.cloud_at shelf.new cloud.0) (V.faults shelf.old) (V.faults shelf.new)) }
-        ensures uncounted { OnOk result (KeepsCounts (V.cloud_at shelf.old cloud.0) (V.cloud_at shelf.new cloud.0) (V.faults shelf.old) (V.faults shelf.new)) }
+        ensures call { IsCall (V.cloud_at shelf.old) (V.cloud_at shelf.new) cloud.0
+            (V.faults shelf.old) (V.faults shelf.new) }
+        ensures failed { OnErr result (HasFailed (V.cloud_at shelf.old cloud.0) (V.cloud_at shelf.new cloud.0)
+            (V.faults shelf.old) (V.faults shelf.new)) }
+        ensures uncounted { OnOk result (KeepsCounts (V.cloud_at shelf.old cloud.0) (V.cloud_at shelf.new cloud.0)
+            (V.faults shelf.old) (V.faults shelf.new)) }
     {
         let waits = self.waiting.len();
         if waits + len + 5 < PIECE {
@@ -262,7 +190,10 @@ impl CheckpointWriter {
         requires few { length body.now ≤ 65535 }
         requires room { length (state_of self.old).waiting + length body.now + 5 < 4194304 }
         requires within { used_of (state_of self.old) + length body.now + 5 ≤ 134217728 }
-        ensures { state_of self.new ≡ record (state_of self.old) { waiting = (state_of self.old).waiting ++ 1 ∷ sized body.now; left = (state_of self.old).left - 1 } }
+        ensures { state_of self.new ≡ record (state_of self.old) {
+          waiting = (state_of self.old).waiting ++ 1 ∷ sized body.now;
+          left = (state_of self.old).left - 1;
+        } }
     {
         self.waiting.put(&[1]);
         self.waiting.put_sized(body);
@@ -277,17 +208,19 @@ impl CheckpointWriter {
     pub fn settle<V: Shelf>(&mut self, shelf: &mut V, cloud: CloudNo) -> Result<(), Failed>
         requires { (state_of self.old).left ≡ 0 }
 
-        ensures any_moment { IsTrue (V.cloud_at shelf.old cloud.0).told → (w next : Where) → IsLaying (state_of self.old) ((V.cloud_at shelf.old cloud.0).now Area.Journal) w next
-            → LeavesOnly (V.cloud_at shelf.old cloud.0) (V.cloud_at shelf.new cloud.0) (IsAtArea (V.cloud_at shelf.old cloud.0).now Area.Journal (IsEither w next)) }
-        ensures settled { IsTrue (V.cloud_at shelf.old cloud.0).told → (w next : Where) → IsLaying (state_of self.old) ((V.cloud_at shelf.old cloud.0).now Area.Journal) w next
-            → OnOk result (Stands ((V.cloud_at shelf.new cloud.0).now Area.Journal) next) }
-        ensures full { IsTrue (V.cloud_at shelf.old cloud.0).told → (w next : Where) → IsLaying (state_of self.old) ((V.cloud_at shelf.old cloud.0).now Area.Journal) w next
-            → length next.bodies ≡ records_of next.start.checkpoint }
-        ensures moments { IsTrue (V.cloud_at shelf.old cloud.0).told → OnOk result (moment (V.cloud_at shelf.new cloud.0) ≡ moment (V.cloud_at shelf.old cloud.0) + 4) }
-        ensures others { IsTrue (V.cloud_at shelf.old cloud.0).told → OnOk result ((other : Area) → other ≢ Area.Journal → (V.cloud_at shelf.new cloud.0).now other ≡ (V.cloud_at shelf.old cloud.0).now other) }
-        ensures call { IsCall (V.cloud_at shelf.old) (V.cloud_at shelf.new) cloud.0 (V.faults shelf.old) (V.faults shelf.new) }
-        ensures failed { OnErr result (HasFailed (V.cloud_at shelf.old cloud.0) (V.cloud_at shelf.new cloud.0) (V.faults shelf.old) (V.faults shelf.new)) }
-        ensures uncounted { OnOk result (KeepsCounts (V.cloud_at shelf.old cloud.0) (V.cloud_at shelf.new cloud.0) (V.faults shelf.old) (V.faults shelf.new)) }
+        ensures any_moment { KeepsOrSettles (state_of self.old)
+            (V.cloud_at shelf.old cloud.0) (V.cloud_at shelf.new cloud.0) }
+        ensures settled { HasSettled (state_of self.old)
+            (V.cloud_at shelf.old cloud.0) (V.cloud_at shelf.new cloud.0) result }
+        ensures full { IsFull (state_of self.old) (V.cloud_at shelf.old cloud.0) }
+        ensures moments { IsLater 4 (V.cloud_at shelf.old cloud.0) (V.cloud_at shelf.new cloud.0) result }
+        ensures others { OthersStay (V.cloud_at shelf.old cloud.0) (V.cloud_at shelf.new cloud.0) result }
+        ensures call { IsCall (V.cloud_at shelf.old) (V.cloud_at shelf.new) cloud.0
+            (V.faults shelf.old) (V.faults shelf.new) }
+        ensures failed { OnErr result (HasFailed (V.cloud_at shelf.old cloud.0) (V.cloud_at shelf.new cloud.0)
+            (V.faults shelf.old) (V.faults shelf.new)) }
+        ensures uncounted { OnOk result (KeepsCounts (V.cloud_at shelf.old cloud.0) (V.cloud_at shelf.new cloud.0)
+            (V.faults shelf.old) (V.faults shelf.new)) }
     {
         let place = first_place(self.half);
         let at = place + 1 + self.written;

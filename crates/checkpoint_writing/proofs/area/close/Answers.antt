@@ -6,7 +6,7 @@ use Rattle.cd_edges.proofs.Moments.{told_on}
 use Rattle.journal_halves.specs.Halves.{half_len}
 use Rattle.journal_halves.specs.Journals.{Stands, IsOpenAt}
 use Rattle.checkpoint_writing.proofs.Calls.{on_ok, unmoved, closing, read_left, closed_now}
-use Rattle.checkpoint_writing.proofs.writer.close.Goals as goal
+use Rattle.checkpoint_writing.proofs.area.close.Goals as goal
 
 pub returns-in_err-is_closed-clause-any_moment : goal.returns-in_err-is_closed-clause-any_moment
 returns-in_err-is_closed-clause-any_moment g c told w stands other =
