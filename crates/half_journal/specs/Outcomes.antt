@@ -1,0 +1,104 @@
+-- What the calls of a journal answer, and what they leave of a told cloud.
+use Rattle.std.specs.Prelude.{◌≡◌, ◌≢◌, ◌⊎◌, ℕ, ◌+◌, ◌-◌, ◌*◌, ◌<◌, ◌≤◌, Bool, true, false, IsTrue, List, [], ◌∷◌, ◌==◌, slice_index, if◌then◌else◌, Result, Ok, Err, OnOk, is_ok}
+use Rattle.std.specs.Int.{w32, to_be_bytes}
+use Rattle.cd_edges.specs.declared.area.Area.TheVariants.{Journal}
+use Rattle.cd_edges.specs.Disk.{Store, Cloud, LeavesOnly, IsAtArea}
+use Rattle.commit_journal.specs.Records.{IsDamage}
+use Rattle.journal_start.specs.declared.start.Header.{Header}
+use Rattle.journal_start.specs.declared.start.Start.{Start}
+use Rattle.journal_start.specs.Spelling.{records_of}
+use Rattle.journal_halves.specs.Halves.{half_len}
+use Rattle.journal_halves.specs.Journals.{Where, HasChain, IsEither, with_body}
+use Rattle.half_records.specs.declared.errors.JournalErr.{JournalErr}
+use Rattle.half_records.specs.declared.errors.JournalErr.TheVariants.{Failed, Damaged}
+use Rattle.half_records.specs.Outcomes.{gate_at, rest_of}
+use Rattle.half_journal.specs.declared.journal.Stage.{Stage}
+use Rattle.half_journal.specs.declared.journal.Stage.TheVariants.{Shut, Reading, AtEnd}
+use Rattle.half_journal.specs.States.{State, IsReading, IsEnded, IsLaying, next_of}
+
+-- ---- reading
+
+-- the first place of the number of records in a start's record
+abbrev pub records_place : Start → ℕ
+records_place start = if start.header.format == 1 then 29 else 57
+
+-- The chain closes before all records of its checkpoint: the first place of their number in the start, and its byte.
+pub record EndsEarly (state : State) (at byte : ℕ) : Type 0 where
+  pub more : 0 < state.left
+  pub place : at ≡ state.current.half * half_len + records_place state.start
+  pub byte_is : byte ≡ slice_index (to_be_bytes w32 (records_of state.start.checkpoint)) 0
+
+-- a record is damaged, or the chain closes early
+abbrev pub IsDamaged : State → Store → ℕ → ℕ → Type 0
+IsDamaged state store at byte = IsDamage (rest_of state.current store) (gate_at state.current) at byte ⊎ EndsEarly state at byte
+
+-- one record was read, or the gate is closed: what follows
+abbrev pub TookIs : State → State → Bool → Result Bool JournalErr → Type 0
+TookIs old new true (Ok true) = new ≡ record old { left = old.left - 1 }
+TookIs old new false (Ok false) = (old.left ≡ 0) × (new ≡ record old { stage = AtEnd })
+TookIs old new false (Err (Damaged at byte)) = EndsEarly old at byte
+TookIs old new true (Ok false) = ⊥
+TookIs old new true (Err e) = ⊥
+TookIs old new false (Ok true) = ⊥
+TookIs old new false (Err Failed) = ⊥
+
+-- The next record is added to those that were read; or the gate is closed, behind all records of the checkpoint; or there
+-- is damage.
+abbrev pub NextIs : State → State → Store → Where → Result Bool JournalErr → Type 0
+NextIs old new store w (Ok true) = IsReading new store (with_body w new.current.body)
+NextIs old new store w (Ok false) = IsEnded new store w
+NextIs old new store w (Err (Damaged at byte)) = IsDamaged old store at byte
+NextIs old new store w (Err Failed) = Unit {0}
+
+-- how far the journal is read after an answer
+abbrev pub stage_of : Result Bool JournalErr → Stage
+stage_of (Ok true) = Reading
+stage_of (Ok false) = AtEnd
+stage_of (Err e) = Shut
+
+-- the stage after a call that is Ok, and after one that isn't
+abbrev pub stage_after : {T E : Type 0} → Stage → Result T E → Stage
+stage_after stage (Ok value) = stage
+stage_after stage (Err e) = Shut
+
+-- whatever chain was read so far
+abbrev pub ReadsNext : State → State → Cloud → Result Bool JournalErr → Type 0
+ReadsNext before after old result = IsTrue old.told → (w : Where) → IsReading before (old.now Journal) w → NextIs before after (old.now Journal) w result
+
+-- ---- writing
+
+-- Whatever chain the journal has: each image since has it, or it with this record.
+abbrev pub KeepsOrAdds : State → List ℕ → Cloud → Cloud → Type 0
+KeepsOrAdds state body old new = IsTrue old.told → (w : Where) → IsEnded state (old.now Journal) w
+    → LeavesOnly old new (IsAtArea old.now Journal (IsEither w (with_body w body)))
+
+abbrev pub HasAdded : {T E : Type 0} → State → State → List ℕ → Cloud → Cloud → Result T E → Type 0
+HasAdded before after body old new result = IsTrue old.told → (w : Where) → IsEnded before (old.now Journal) w
+    → OnOk result (IsEnded after (new.now Journal) (with_body w body))
+
+-- Whatever chain the journal has: each image since has it.
+abbrev pub KeepsChain : State → Cloud → Cloud → Type 0
+KeepsChain state old new = IsTrue old.told → (w : Where) → IsEnded state (old.now Journal) w
+    → LeavesOnly old new (IsAtArea old.now Journal (λ image. HasChain image w))
+
+abbrev pub HasTurned : {T E : Type 0} → State → State → Header → ℕ → ℕ → ℕ → Cloud → Cloud → Result T E → Type 0
+HasTurned before after header commands records region old new result = IsTrue old.told → (w : Where) → IsEnded before (old.now Journal) w
+    → OnOk result (IsLaying after (new.now Journal) w (next_of w header commands records region))
+
+-- Whatever chain has a checkpoint laid behind it: each image since has that chain.
+abbrev pub KeepsLaid : State → Cloud → Cloud → Type 0
+KeepsLaid state old new = IsTrue old.told → (w next : Where) → IsLaying state (old.now Journal) w next
+    → LeavesOnly old new (IsAtArea old.now Journal (λ image. HasChain image w))
+
+abbrev pub HasLaid : {T E : Type 0} → State → State → List ℕ → Cloud → Cloud → Result T E → Type 0
+HasLaid before after body old new result = IsTrue old.told → (w next : Where) → IsLaying before (old.now Journal) w next
+    → OnOk result (IsLaying after (new.now Journal) w (with_body next body))
+
+-- Each image since has that chain, or the checkpoint's.
+abbrev pub KeepsOrSettles : State → Cloud → Cloud → Type 0
+KeepsOrSettles state old new = IsTrue old.told → (w next : Where) → IsLaying state (old.now Journal) w next
+    → LeavesOnly old new (IsAtArea old.now Journal (IsEither w next))
+
+abbrev pub HasSettled : {T E : Type 0} → State → State → Cloud → Cloud → Result T E → Type 0
+HasSettled before after old new result = IsTrue old.told → (w next : Where) → IsLaying before (old.now Journal) w next
+    → OnOk result (IsEnded after (new.now Journal) next)
