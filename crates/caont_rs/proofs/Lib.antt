@@ -1,3 +1,4 @@
 pub mod Packages
 pub mod Openings
 pub mod Opened
+pub mod Exactly

@@ -49,7 +49,7 @@ fewest k len more m pos e =
       | inr le ↦ let at_most : k * q ≤ k * m = mul-le-mul_left k le in omega arith
     ]
 
-length-added : (xs ys : List ℕ) → length xs ≡ length ys → length (added xs ys) ≡ length xs
+pub length-added : (xs ys : List ℕ) → length xs ≡ length ys → length (added xs ys) ≡ length xs
 length-added xs ys e = length-zip2 bit_xor xs ys e
 
 pub length-body_of : (x : List ℕ) → length (body_of x) ≡ length x
@@ -127,7 +127,7 @@ position_none xs h =
     ap (λ (m : ℕ). cond (nat_lt m n) (Some m) None) e ∙ ap (λ (b : Bool). cond b (Some n) None) (le-ltb n n (omega arith))
 
 -- where the first such byte is at i
-position_some : (xs : List ℕ) (i : ℕ) → i < length xs → slice_index xs i ≢ 0 → ((k : ℕ) → k < i → slice_index xs k ≡ 0) → position (λ byte. not (byte == 0)) xs ≡ Some i
+pub position_some : (xs : List ℕ) (i : ℕ) → i < length xs → slice_index xs i ≢ 0 → ((k : ℕ) → k < i → slice_index xs k ≡ 0) → position (λ byte. not (byte == 0)) xs ≡ Some i
 position_some xs i l other h =
     let e : position_or_len (λ byte. not (byte == 0)) xs ≡ i =
     prefix_len_is (λ byte. not (not (byte == 0))) xs i 0 (omega arith) (λ k b. ap (λ (b : Bool). not (not b)) (eq-eqb _ _ (h k b)))
@@ -139,7 +139,7 @@ zero_at zero i = refl
 zero_at (suc n) zero = refl
 zero_at (suc n) (suc i) = zero_at n i
 
-both : (b : Bool) → (b ≡ true) ⊎ (b ≡ false)
+pub both : (b : Bool) → (b ≡ true) ⊎ (b ≡ false)
 both true = inl refl
 both false = inr refl
 

@@ -1,7 +1,7 @@
 //! The laws of the dispersal, for the proofs of callers. The calls do nothing: their clauses are theorems on the
 //! definitions.
 
-ghost use Rattle.std.specs.Prelude.{◌≡◌, ◌≢◌, ℕ, List, ◌+◌, ◌*◌, ◌/◌, ◌<◌, ◌≤◌, length, take, slice_index, All};
+ghost use Rattle.std.specs.Prelude.{◌≡◌, ◌≢◌, ◌↔◌, ℕ, List, ◌+◌, ◌*◌, ◌/◌, ◌<◌, ◌≤◌, length, take, slice_index, All};
 ghost use Rattle.cd_base.specs.declared.shape.Shape.{Shape};
 ghost use Rattle.cd_base.specs.Lengths.{share_len_of};
 ghost use Rattle.cd_base.specs.Limits.{IsPath};
@@ -30,6 +30,8 @@ pub fn sharing_laws()
 pub fn opening_laws()
     // any k shares of a text, in any order, give it back
     ensures gives_back { (s : Shape) (text points given : List ℕ) → AreChoice s points → All (λ b. b < 256) text → All (λ b. b < 256) given → length given ≡ s.k * share_len_of s.k (length text) → ((t : ℕ) → t < s.k → row (share_len_of s.k (length text)) t given ≡ share s (slice_index points t) text) → opened s (length text) points given ≡ Ok text }
+    // k given rows give a text exactly where it is as long as asked and they are its shares
+    ensures exactly { (s : Shape) (len : ℕ) (text points given : List ℕ) → AreChoice s points → All (λ b. b < 256) text → All (λ b. b < 256) given → length given ≡ s.k * share_len_of s.k len → (opened s len points given ≡ Ok text) ↔ ((length text ≡ len) × ((t : ℕ) → t < s.k → row (share_len_of s.k len) t given ≡ share s (slice_index points t) text)) }
     // k given rows are the shares of one package, and of no other
     ensures has_shares { (s : Shape) (points given : List ℕ) → AreChoice s points → All (λ b. b < 256) given → length given ≡ s.k * (length given / s.k) → (t : ℕ) → t < s.k → share_of s (package_at s points given) (slice_index points t) ≡ row (length given / s.k) t given }
     ensures only_one { (s : Shape) (points given p : List ℕ) → AreChoice s points → All (λ b. b < 256) given → All (λ b. b < 256) p → length given ≡ s.k * (length given / s.k) → length p ≡ length given → ((t : ℕ) → t < s.k → share_of s p (slice_index points t) ≡ row (length given / s.k) t given) → p ≡ package_at s points given }

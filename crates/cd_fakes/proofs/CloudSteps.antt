@@ -1,5 +1,5 @@
 -- What one step more does to what is told of a cloud.
-use Rattle.std.proofs.Common.{Result, Ok, Err, IsErr, OnOk, OnErr, ◌≡◌, ◌≢◌, inl, inr, ⊎_elim, ℕ, ◌-◌, ◌≤◌, List, [], ◌∷◌, ◌++◌, length, sym, ◌∙◌, ap, subst, arith}
+use Rattle.std.proofs.Common.{Bool, Result, Ok, Err, IsErr, OnOk, OnErr, ◌≡◌, ◌≢◌, inl, inr, ⊎_elim, ℕ, ◌-◌, ◌≤◌, List, [], ◌∷◌, ◌++◌, length, sym, ◌∙◌, ap, subst, arith}
 use Rattle.std.proofs.lemmas.Bool.Decides.{nat_tests}
 use Rattle.std.proofs.lemmas.Bool.{false≢true}
 use Rattle.cd_edges.specs.declared.area.Area.{Area}
@@ -8,11 +8,14 @@ use Rattle.cd_edges.specs.Shelf.{wrote, stable, Changes, IsCutShort, counted_dow
 use Rattle.cd_edges.proofs.Shrinks.{area_cases}
 use Rattle.cd_edges.proofs.Since.{image_of_wrote}
 use Rattle.cd_fakes.specs.declared.cloud.MemCloud.{MemCloud}
-use Rattle.cd_fakes.specs.declared.disk.MemDisk.{MemDisk}
-use Rattle.cd_fakes.specs.History.{Step, Write, Sync, Empty, nothing, after, now_of, past_of}
-use Rattle.cd_fakes.specs.Disks.{history_of}
-use Rattle.cd_fakes.specs.Clouds.{cloud_of, Puts}
-use Rattle.cd_fakes.proofs.Noted.{now_more, past_more, with_area_here, with_area_there}
+use Rattle.mem_disk.specs.declared.disk.MemDisk.{MemDisk}
+use Rattle.mem_disk.specs.History.{Step, Write, Sync, Empty, Crash, nothing, after, now_of, past_of}
+use Rattle.mem_disk.specs.StepsImage.{reads_image, nothing_image}
+use Rattle.mem_disk.specs.Crashed.{crashed}
+use Rattle.mem_disk.proofs.Filled.{crashed_image}
+use Rattle.mem_disk.specs.Disks.{history_of}
+use Rattle.cd_fakes.specs.Clouds.{cloud_of, Puts, Crashes}
+use Rattle.mem_disk.proofs.Noted.{now_more, past_more, with_area_here, with_area_there}
 
 -- a longer range leaves more
 longer : (store : Store) (place : ℕ) (short long image : List ℕ) → length short ≤ length long → MayLeave (wrote store place short) image → MayLeave (wrote store place long) image
@@ -84,6 +87,19 @@ module _ (m m' : MemCloud) where
     };
     err = tt;
   }
+
+  pub crashes : (fill : ℕ) (whole : Bool) → m' ≡ record m { disk = m'.disk } → m'.disk.told ≡ m.disk.told → history_of m'.disk ≡ history_of m.disk ++ Crash fill whole ∷ [] → Crashes (cloud_of m) (cloud_of m') fill whole
+  crashes fill whole rest told more =
+      let now : (cloud_of m').now ≡ after (cloud_of m).now (Crash fill whole) = now_is (Crash fill whole) more in
+      record {
+        now = λ area. ap (λ (a : Areas). a area) now;
+        image = λ area. subst (λ (a : Areas). MayLeave ((cloud_of m).now area) (a area).read) (sym now) (crashed_image fill whole ((cloud_of m).now area) (reads_image nothing (history_of m.disk) nothing_image area));
+        past = past_is (Crash fill whole) more;
+        told = told;
+        faults = ap (λ (x : MemCloud). x.faults) rest;
+        armings = ap (λ (x : MemCloud). x.armings) rest;
+        armed = ap (λ (x : MemCloud). arming_of x.cut x.keep) rest;
+      }
 
 counted : (calls keep : ℕ) → arming_of (calls - 1) keep ≡ counted_down (arming_of calls keep)
 counted calls keep = grind (arith, nat_tests)

@@ -1,5 +1,2 @@
 pub mod CloudSteps
 pub mod CloudsAt
-mod Copied
-pub mod DiskSteps
-pub mod Noted

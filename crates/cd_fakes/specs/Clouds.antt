@@ -1,15 +1,16 @@
 -- What is told of the clouds in memory, and what makes their calls fail.
-use Rattle.std.specs.Prelude.{◌≡◌, ◌≢◌, ◌++◌, ℕ, ◌+◌, ◌<◌, ◌≤◌, false, IsTrue, List, [], ◌∷◌, length, take, min, vec_len, vec_capacity}
+use Rattle.std.specs.Prelude.{◌≡◌, ◌≢◌, ◌++◌, ℕ, Bool, ◌+◌, ◌<◌, ◌≤◌, false, IsTrue, List, [], ◌∷◌, length, take, min, vec_len, vec_capacity}
 use Rattle.cd_base.specs.declared.ids.CloudNo.{CloudNo}
 use Rattle.cd_edges.specs.declared.area.Area.{Area}
-use Rattle.cd_edges.specs.Disk.{Cloud, overwritten}
-use Rattle.cd_edges.specs.Shelf.{arming_of}
+use Rattle.cd_edges.specs.Disk.{Cloud, IsImage, reads, overwritten}
+use Rattle.cd_edges.specs.Shelf.{arming_of, stable}
 use Rattle.cd_fakes.specs.declared.cloud.MemCloud.{MemCloud}
-use Rattle.cd_fakes.specs.declared.disk.MemDisk.{MemDisk}
+use Rattle.mem_disk.specs.declared.disk.MemDisk.{MemDisk}
 use Rattle.cd_fakes.specs.Counts.{counted_up, is_named}
-use Rattle.cd_fakes.specs.Areas.{area_of, held_of, log_of}
-use Rattle.cd_fakes.specs.Disks.{history_of}
-use Rattle.cd_fakes.specs.History.{past_of, now_of, nothing, Write}
+use Rattle.mem_disk.specs.Areas.{has_place, area_of, held_of, log_of}
+use Rattle.mem_disk.specs.Crashed.{crashed}
+use Rattle.mem_disk.specs.Disks.{history_of}
+use Rattle.mem_disk.specs.History.{past_of, now_of, nothing, Write}
 
 -- what is told of a cloud
 abbrev pub cloud_of : MemCloud → Cloud
@@ -29,7 +30,7 @@ pub data IsRefused (fails : List (CloudNo × ℕ)) (number : ℕ) (m : MemCloud)
 
 -- There is no room for a write, or none for its note.
 pub data PutFails (left : ℕ) (m : MemCloud) (area : Area) (place len : ℕ) : Type 0 where
-  PastRoom : (area_of m.disk.areas area).room < place + len → PutFails left m area place len
+  PastRoom : has_place (area_of m.disk.areas area) place len ≡ false → PutFails left m area place len
   PastLog : (area_of m.disk.areas area).room < vec_len (area_of m.disk.areas area).log + len → PutFails left m area place len
   PastNotes : left ≡ 0 → PutFails left m area place len
 
@@ -67,3 +68,20 @@ pub record Puts (old new : MemDisk) (area : Area) (place : ℕ) (bytes : List �
 pub data KeepsPart (fails : List (CloudNo × ℕ)) (left later number : ℕ) (old new : MemCloud) (area : Area) (place : ℕ) (bytes : List ℕ) : Type 0 where
   Kept : old.cut ≡ 1 → ¬ IsRefused fails number old → Puts old.disk new.disk area place (take (min (length bytes) old.keep) bytes) → later + 1 ≡ left → KeepsPart fails left later number old new area place bytes
   Kept_nothing : (old.cut ≡ 1 → ¬ IsRefused fails number old → PutFails left old area place (min (length bytes) old.keep)) → new.disk ≡ old.disk → later ≡ left → KeepsPart fails left later number old new area place bytes
+
+-- A crash needs a cloud that is there and told, and room for its note.
+pub record CanCrash (left : ℕ) (m : MemCloud) : Type 0 where
+  pub there : IsTrue m.is_there
+  pub told : IsTrue m.disk.told
+  pub noted : 0 < left
+
+-- One moment later each area is what a crash leaves of it, with this byte wherever one was written since the last sync, and
+-- with what lies past the synced length or without; and a crash then leaves it so.
+pub record Crashes (old new : Cloud) (fill : ℕ) (whole : Bool) : Type 0 where
+  pub now : (area : Area) → new.now area ≡ stable (crashed fill whole (old.now area))
+  pub image : IsImage old.now (reads new.now)
+  pub past : new.past ≡ old.past ++ old.now ∷ []
+  pub told : new.told ≡ old.told
+  pub faults : new.faults ≡ old.faults
+  pub armings : new.armings ≡ old.armings
+  pub armed : new.armed ≡ old.armed

@@ -2,10 +2,10 @@
 use Rattle.std.proofs.Common.{ℕ, zero, suc, List, [], ◌∷◌}
 use Rattle.cd_edges.specs.Disk.{IsImage, reads}
 use Rattle.cd_fakes.specs.declared.cloud.MemCloud.{MemCloud}
-use Rattle.cd_fakes.specs.Disks.{history_of}
-use Rattle.cd_fakes.specs.History.{nothing}
+use Rattle.mem_disk.specs.Disks.{history_of}
+use Rattle.mem_disk.specs.History.{nothing}
 use Rattle.cd_fakes.specs.Shelves.{clouds_of}
-use Rattle.cd_fakes.specs.StepsImage.{reads_image, nothing_image}
+use Rattle.mem_disk.specs.StepsImage.{reads_image, nothing_image}
 
 pub clouds_read : (ms : List MemCloud) (number : ℕ) → IsImage (clouds_of ms number).now (reads (clouds_of ms number).now)
 clouds_read [] number = nothing_image

@@ -1,9 +1,5 @@
-pub mod Areas
 pub mod Clouds
 pub mod CloudsRead
 pub mod Counts
-pub mod Disks
-pub mod History
 pub mod Shelves
-pub mod StepsImage
 pub mod Untold

@@ -3,9 +3,10 @@ use Rattle.std.specs.Prelude.{◌≡◌, ℕ, suc, zero, ◌<◌, false, nat_lt,
 use Rattle.cd_edges.specs.declared.area.Area.{Area}
 use Rattle.cd_edges.specs.Disk.{Cloud}
 use Rattle.cd_fakes.specs.declared.cloud.MemCloud.{MemCloud}
-use Rattle.cd_fakes.specs.Areas.{area_of, held_of, log_of}
-use Rattle.cd_fakes.specs.Disks.{history_of}
-use Rattle.cd_fakes.specs.History.{nothing}
+use Rattle.mem_disk.specs.Areas.{area_of, held_of, log_of}
+use Rattle.mem_disk.specs.Numbers.{number_of}
+use Rattle.mem_disk.specs.Disks.{history_of}
+use Rattle.mem_disk.specs.History.{nothing}
 use Rattle.cd_fakes.specs.Clouds.{cloud_of, HasSpare}
 
 -- of a number past the last one
@@ -42,3 +43,4 @@ pub record IsNew (clouds bytes number : ℕ) (m : MemCloud) : Type 0 where
   pub faults : m.faults ≡ 0
   pub armings : m.armings ≡ 0
   pub cut : m.cut ≡ 0
+  pub reads : (area : Area) → number_of m.reads area ≡ 0

@@ -1,17 +1,18 @@
 //! One cloud in memory.
 
-ghost use Rattle.std.specs.Prelude.{◌≡◌, ◌≢◌, ◌↔◌, ℕ, ◌+◌, ◌-◌, ◌^◌, ◌≤◌, ◌<◌, List, [], ◌∷◌, ◌++◌, length, min, take, IsTrue, IsOk, IsErr, IfOk, OnOk, OnErr, is_ok, if◌then◌else◌, vec_len, vec_capacity, slice_set, false};
+ghost use Rattle.std.specs.Prelude.{◌≡◌, ◌≢◌, ◌↔◌, ℕ, ◌+◌, ◌-◌, ◌^◌, ◌≤◌, ◌<◌, List, [], ◌∷◌, ◌++◌, length, min, take, IsTrue, IsOk, IsErr, IfOk, OnOk, OnErr, is_ok, if◌then◌else◌, vec_len, vec_capacity, cond, slice_set, false};
 ghost use Rattle.cd_edges.specs.declared.area.Area.{Area};
 ghost use Rattle.cd_edges.specs.Causes.{HasCause};
 ghost use Rattle.cd_edges.specs.Shelf.{Writes, Syncs, Refreshes, Arms, ReadsFrom};
 ghost use Rattle.cd_fakes.specs.Counts.{counted_up, is_named};
-ghost use Rattle.cd_fakes.specs.Areas.{Fits, area_of, held_of, log_of};
-ghost use Rattle.cd_fakes.specs.History.{Write, Sync, Empty};
-ghost use Rattle.cd_fakes.specs.Disks.{history_of};
+ghost use Rattle.mem_disk.specs.Areas.{Fits, damaged, area_of, held_of, log_of};
+ghost use Rattle.mem_disk.specs.History.{Write, Sync, Empty, Crash};
+ghost use Rattle.mem_disk.specs.Disks.{history_of};
+ghost use Rattle.mem_disk.specs.Numbers.{number_of};
 
-use crate::MemDisk;
 use cd_base::{CloudNo, NoMemory};
 use cd_edges::{Area, Failed};
+use mem_disk::{MemDisk, PerArea};
 use std::alloc::Global;
 
 /// A cloud in memory: what it holds, and what was said of its calls.
@@ -31,6 +32,8 @@ pub struct MemCloud {
     pub cut: u32,
     /// How many bytes a cut write keeps.
     pub keep: u32,
+    /// How many reads came of each area.
+    pub reads: PerArea,
 }
 
 // Whether the call of this number on the cloud is one that fails.
@@ -42,22 +45,8 @@ fn names(fails: &[(CloudNo, u64)], number: CloudNo, call: u64) -> bool
         .any(|entry| entry.0.0 == number.0 && entry.1 == call)
 }
 
-// Puts what there is from a place in front of a buffer.
-fn copy_from(held: &[u8], at: u64, out: &mut [u8]) -> usize
-    ensures bytes { ReadsFrom held.now at result out.new }
-    ensures bound { result ≤ length out.new }
-{
-    if at >= held.len() as u64 {
-        return 0;
-    }
-    let rest = &held[at as usize..];
-    let count = out.len().min(rest.len());
-    out[..count].copy_from_slice(&rest[..count]);
-    count
-}
-
 impl MemCloud {
-    ghost use Rattle.cd_fakes.specs.Clouds.{cloud_of, IsRefused, PutFails, WriteFails, SyncFails, FreshFails, HasSpare, Puts, KeepsPart};
+    ghost use Rattle.cd_fakes.specs.Clouds.{cloud_of, IsRefused, PutFails, WriteFails, SyncFails, FreshFails, HasSpare, Puts, KeepsPart, CanCrash, Crashes};
 
     /// An empty cloud of this room in each area, with memory for so many notes.
     pub fn of(alloc: Global, is_there: bool, room: u64, notes: u32) -> Result<MemCloud, NoMemory>
@@ -68,6 +57,7 @@ impl MemCloud {
         ensures log { IfOk result (λ m. (area : Area) → log_of m.disk.areas area ≡ []) }
         ensures history { IfOk result (λ m. history_of m.disk ≡ []) }
         ensures counts { IfOk result (λ m. (m.calls ≡ 0) × (m.faults ≡ 0) × (m.armings ≡ 0) × (m.cut ≡ 0)) }
+        ensures reads { IfOk result (λ m. (area : Area) → number_of m.reads area ≡ 0) }
         ensures spare { IfOk result (HasSpare notes) }
     {
         Ok(MemCloud {
@@ -78,6 +68,7 @@ impl MemCloud {
             armings: 0,
             cut: 0,
             keep: 0,
+            reads: PerArea::ZEROS,
         })
     }
 
@@ -145,10 +136,10 @@ impl MemCloud {
         if self.begin(fails, number) {
             return self.refuse();
         }
-        Ok(self.disk.areas.get(area).bytes.len() as u64)
+        Ok(self.disk.areas.get(area).len())
     }
 
-    /// Puts what the area has from a place in front of a buffer.
+    /// Puts what the area has from a place in front of a buffer. Each such call is counted for its area.
     pub fn read(
         &mut self,
         fails: &[(CloudNo, u64)],
@@ -159,15 +150,23 @@ impl MemCloud {
     ) -> Result<usize, Failed>
         ensures bytes { IfOk result (λ count. ReadsFrom (held_of self.old.disk.areas area) at count out.new) }
         ensures bound { IfOk result (λ count. count ≤ length out.new) }
-        ensures rest { self.new ≡ record self.old { calls = counted_up self.old.calls; faults = self.new.faults } }
+        ensures rest { self.new ≡ record self.old {
+          calls = counted_up self.old.calls;
+          faults = self.new.faults;
+          reads = self.new.reads;
+        } }
+        ensures reads { number_of self.new.reads area ≡ counted_up (number_of self.old.reads area) }
+        ensures other_reads { (other : Area) → other ≢ area →
+            number_of self.new.reads other ≡ number_of self.old.reads other }
         ensures cause { HasCause self.old.faults self.new.faults result }
         ensures faults { self.new.faults ≡ (if is_ok result then self.old.faults else counted_up self.old.faults) }
         ensures fails { IsErr result ↔ IsRefused fails.now number.0 self.old }
     {
+        self.reads.set(area, self.reads.get(area).saturating_add(1));
         if self.begin(fails, number) {
             return self.refuse();
         }
-        let count = copy_from(&self.disk.areas.get(area).bytes, at, out);
+        let count = self.disk.areas.get(area).read(at, out);
         Ok(count)
     }
 
@@ -185,6 +184,7 @@ impl MemCloud {
         ensures write { IsTrue self.old.disk.told → Writes (cloud_of self.old) (cloud_of self.new) area at bytes.now result }
         ensures told { self.new.disk.told ≡ self.old.disk.told }
         ensures is_there { self.new.is_there ≡ self.old.is_there }
+        ensures reads { self.new.reads ≡ self.old.reads }
         ensures armings { self.new.armings ≡ self.old.armings }
         ensures cause { HasCause self.old.faults self.new.faults result }
         ensures faults { self.new.faults ≡ (if is_ok result then self.old.faults else counted_up self.old.faults) }
@@ -225,6 +225,7 @@ impl MemCloud {
         ensures sync { IsTrue self.old.disk.told → Syncs (cloud_of self.old) (cloud_of self.new) area result }
         ensures told { self.new.disk.told ≡ self.old.disk.told }
         ensures is_there { self.new.is_there ≡ self.old.is_there }
+        ensures reads { self.new.reads ≡ self.old.reads }
         ensures armings { self.new.armings ≡ self.old.armings }
         ensures cause { HasCause self.old.faults self.new.faults result }
         ensures faults { self.new.faults ≡ (if is_ok result then self.old.faults else counted_up self.old.faults) }
@@ -258,6 +259,7 @@ impl MemCloud {
         ensures fresh { IsTrue self.old.disk.told → Refreshes (cloud_of self.old) (cloud_of self.new) result }
         ensures told { self.new.disk.told ≡ self.old.disk.told }
         ensures is_there { self.new.is_there ≡ self.old.is_there }
+        ensures reads { self.new.reads ≡ self.old.reads }
         ensures armings { self.new.armings ≡ self.old.armings }
         ensures cause { HasCause self.old.faults self.new.faults result }
         ensures faults { self.new.faults ≡ (if is_ok result then self.old.faults else counted_up self.old.faults) }
@@ -295,20 +297,37 @@ impl MemCloud {
         }
     }
 
-    /// Changes a byte that is there; where it isn't there no byte changes. From then on the cloud tells nothing.
+    /// Leaves the areas as a crash leaves them, and says whether it did: not where the cloud isn't there, is told no
+    /// more, or where no note is left.
+    pub fn crash(&mut self, left: &mut u32, fill: u8, whole: bool) -> bool
+        requires { HasSpare left.old self.old }
+        ensures crashes { IsTrue result → Crashes (cloud_of self.old) (cloud_of self.new) fill whole }
+        ensures did { IsTrue result ↔ CanCrash left.old self.old }
+        ensures rest { self.new ≡ record self.old { disk = self.new.disk } }
+        ensures left { left.new + (if result then 1 else 0) ≡ left.old }
+        ensures stays { result ≡ false → self.new ≡ self.old }
+        ensures spare { HasSpare left.new self.new }
+        ensures later { left.new ≤ left.old }
+    {
+        if !self.is_there || !self.disk.told || *left == 0 {
+            return false;
+        }
+        self.disk.crash(fill, whole);
+        *left -= 1;
+        true
+    }
+
+    /// Changes a byte that is in one of the area's ranges; elsewhere nothing changes. From then on the cloud tells
+    /// nothing.
     pub fn set_byte(&mut self, area: Area, at: u64, byte: u8)
         ensures rest { self.new ≡ record self.old { disk = self.new.disk } }
         ensures told { self.new.disk.told ≡ false }
-        ensures held { held_of self.new.disk.areas area ≡ slice_set (held_of self.old.disk.areas area) at byte }
+        ensures held { held_of self.new.disk.areas area ≡ damaged (area_of self.old.disk.areas area) at byte }
         ensures log { log_of self.new.disk.areas area ≡ log_of self.old.disk.areas area }
         ensures room { (area_of self.new.disk.areas area).room ≡ (area_of self.old.disk.areas area).room }
         ensures others { (other : Area) → other ≢ area → area_of self.new.disk.areas other ≡ area_of self.old.disk.areas other }
         ensures notes { self.new.disk.notes ≡ self.old.disk.notes }
     {
-        if at < self.disk.areas.get(area).bytes.len() as u64 {
-            self.disk.set_byte(area, at, byte);
-        } else {
-            self.disk.told = false;
-        }
+        self.disk.set_byte(area, at, byte);
     }
 }

@@ -1,14 +1,15 @@
 //! Clouds in memory, one for each number.
 
-ghost use Rattle.std.specs.Prelude.{◌≡◌, ◌≢◌, ◌↔◌, ℕ, ◌+◌, ◌-◌, ◌^◌, ◌≤◌, ◌<◌, List, [], ◌∷◌, ◌++◌, length, min, slice_get, slice_set, Some, IfOk, OnOk, OnErr, IsOk, IsErr, IsTrue, is_ok, if◌then◌else◌, false};
+ghost use Rattle.std.specs.Prelude.{◌≡◌, ◌≢◌, ◌↔◌, ℕ, ◌+◌, ◌-◌, ◌^◌, ◌≤◌, ◌<◌, List, [], ◌∷◌, ◌++◌, length, min, slice_get, slice_set, Some, IfOk, OnOk, OnErr, IsOk, IsErr, IsTrue, is_ok, if◌then◌else◌, cond, false};
 ghost use Rattle.cd_edges.specs.declared.area.Area.{Area};
 ghost use Rattle.cd_edges.specs.Causes.{HasCause};
 ghost use Rattle.cd_edges.specs.Shelf.{IsCall, HasFailed, KeepsCounts, Stays, Writes, Syncs, Refreshes, Arms, ReadsFrom};
 ghost use Rattle.cd_fakes.specs.declared.cloud.MemCloud.{MemCloud};
 ghost use Rattle.cd_fakes.specs.Counts.{counted_up};
-ghost use Rattle.cd_fakes.specs.Areas.{area_of, held_of, log_of};
-ghost use Rattle.cd_fakes.specs.Disks.{history_of};
-ghost use Rattle.cd_fakes.specs.Clouds.{HasSpare, IsRefused, WriteFails, SyncFails, FreshFails, Puts, KeepsPart};
+ghost use Rattle.mem_disk.specs.Areas.{damaged, area_of, held_of, log_of};
+ghost use Rattle.mem_disk.specs.Disks.{history_of};
+ghost use Rattle.mem_disk.specs.Numbers.{number_of};
+ghost use Rattle.cd_fakes.specs.Clouds.{HasSpare, IsRefused, WriteFails, SyncFails, FreshFails, Puts, KeepsPart, CanCrash, Crashes};
 ghost use Rattle.cd_fakes.specs.Shelves.{clouds_of, AllSpare, At, AtBoth, IsNew};
 ghost use Rattle.cd_fakes.specs.CloudsRead.{clouds_read};
 
@@ -24,7 +25,7 @@ pub struct MemShelf {
     pub clouds: Vec<MemCloud>,
     /// The calls that fail, each by its cloud and its number among that cloud's calls, from 1.
     pub fails: Vec<(CloudNo, u64)>,
-    /// How many writes, syncs and fresh calls can still be noted.
+    /// How many writes, syncs, fresh calls and crashes can still be noted.
     pub left: u32,
     /// How many calls failed in all.
     pub total: u64,
@@ -51,10 +52,10 @@ fn new_cloud(
 }
 
 impl MemShelf {
-    /// The clouds below `clouds` are there, with `room` bytes in each area and as many for the notes of what was written
-    /// into it; `calls` writes, syncs and fresh calls can be noted in all. `fails` names calls of any kind but `arm`, by
-    /// their cloud and by their number among its calls, from 1. A call fails exactly where it is named, where its cloud
-    /// isn't there, where one of these rooms is used up, or where it is cut.
+    /// The clouds below `clouds` are there, with `room` bytes in each of an area's two ranges and as many for the notes
+    /// of what was written into it; `calls` writes, syncs, fresh calls and crashes can be noted in all. `fails` names
+    /// calls of any kind but `arm`, by their cloud and by their number among its calls, from 1. A call fails exactly
+    /// where it is named, where its cloud isn't there, where one of these rooms is used up, or where it is cut.
     pub fn of(
         alloc: Global,
         clouds: u8,
@@ -80,10 +81,36 @@ impl MemShelf {
         })
     }
 
-    /// Damages a byte that is there; where it isn't there no byte changes. From then on the cloud tells nothing.
+    /// How many reads came of a cloud's area, also of those that failed.
+    pub fn reads(&self, cloud: CloudNo, area: Area) -> u64
+        ensures { At self.now.clouds.items cloud.0 (λ m. result ≡ number_of m.reads area) }
+    {
+        self.clouds[cloud.0 as usize].reads.get(area)
+    }
+
+    /// Leaves a cloud as a crash leaves it: each byte written since the last Ok sync of its area holds `fill`, and what
+    /// lies past the synced length stays (`whole`) or goes. A call that was cut is no Ok sync. All of it is synced
+    /// then; counts and arming stay. Says whether it did: nothing changes on a cloud that isn't there or is told no more, or
+    /// where no note is left.
+    pub fn crash(&mut self, cloud: CloudNo, fill: u8, whole: bool) -> bool
+        ensures crashes { IsTrue result →
+            Crashes (clouds_of self.old.clouds.items cloud.0) (clouds_of self.new.clouds.items cloud.0) fill whole }
+        ensures did { At self.old.clouds.items cloud.0 (λ m. IsTrue result ↔ CanCrash self.old.left m) }
+        ensures stays { result ≡ false → AtBoth self.old.clouds.items self.new.clouds.items cloud.0 (λ m m'. m' ≡ m) }
+        ensures counts { AtBoth self.old.clouds.items self.new.clouds.items cloud.0 (λ m m'. m' ≡ record m { disk = m'.disk }) }
+        ensures others_stay { (other : ℕ) → other ≢ cloud.0 → slice_get self.new.clouds.items other ≡ slice_get self.old.clouds.items other }
+        ensures left { self.new.left + (if result then 1 else 0) ≡ self.old.left }
+        ensures rest { (self.new.fails ≡ self.old.fails) × (self.new.total ≡ self.old.total) }
+    {
+        self.clouds[cloud.0 as usize].crash(&mut self.left, fill, whole)
+    }
+
+    /// Damages a byte that is in one of the area's ranges; elsewhere nothing changes. From then on the cloud tells
+    /// nothing.
     pub fn set_byte(&mut self, cloud: CloudNo, area: Area, at: u64, byte: u8)
         ensures told { AtBoth self.old.clouds.items self.new.clouds.items cloud.0 (λ m m'. m'.disk.told ≡ false) }
-        ensures held { AtBoth self.old.clouds.items self.new.clouds.items cloud.0 (λ m m'. held_of m'.disk.areas area ≡ slice_set (held_of m.disk.areas area) at byte) }
+        ensures held { AtBoth self.old.clouds.items self.new.clouds.items cloud.0 (λ m m'.
+            held_of m'.disk.areas area ≡ damaged (area_of m.disk.areas area) at byte) }
         ensures others { AtBoth self.old.clouds.items self.new.clouds.items cloud.0 (λ m m'. (other : Area) → other ≢ area → area_of m'.disk.areas other ≡ area_of m.disk.areas other) }
         ensures counts { AtBoth self.old.clouds.items self.new.clouds.items cloud.0 (λ m m'. m' ≡ record m { disk = m'.disk }) }
         ensures others_stay { (other : ℕ) → other ≢ cloud.0 → slice_get self.new.clouds.items other ≡ slice_get self.old.clouds.items other }
@@ -119,6 +146,7 @@ impl Shelf for MemShelf {
         ensures stays { (number : ℕ) → clouds_of self.new.clouds.items number ≡ clouds_of self.old.clouds.items number }
         ensures cause { HasCause self.old.total self.new.total result }
         ensures succeeds { IsOk result }
+        ensures same { self.new ≡ self.old }
     {
         Ok(())
     }
@@ -132,6 +160,7 @@ impl Shelf for MemShelf {
 
         ensures fails { At self.old.clouds.items cloud.0 (λ m. IsErr result ↔ IsRefused self.old.fails.items cloud.0 m) }
         ensures counts { AtBoth self.old.clouds.items self.new.clouds.items cloud.0 (λ m m'. (m'.calls ≡ counted_up m.calls) × (m'.faults ≡ (if is_ok result then m.faults else counted_up m.faults))) }
+        ensures reads { AtBoth self.old.clouds.items self.new.clouds.items cloud.0 (λ m m'. m'.reads ≡ m.reads) }
         ensures total { self.new.total ≡ (if is_ok result then self.old.total else counted_up self.old.total) }
         ensures fails_stay { self.new.fails ≡ self.old.fails }
         ensures others_stay { (other : ℕ) → other ≢ cloud.0 → slice_get self.new.clouds.items other ≡ slice_get self.old.clouds.items other }
@@ -151,6 +180,10 @@ impl Shelf for MemShelf {
 
         ensures fails { At self.old.clouds.items cloud.0 (λ m. IsErr result ↔ IsRefused self.old.fails.items cloud.0 m) }
         ensures counts { AtBoth self.old.clouds.items self.new.clouds.items cloud.0 (λ m m'. (m'.calls ≡ counted_up m.calls) × (m'.faults ≡ (if is_ok result then m.faults else counted_up m.faults))) }
+        ensures reads { AtBoth self.old.clouds.items self.new.clouds.items cloud.0 (λ m m'.
+            number_of m'.reads area ≡ counted_up (number_of m.reads area)) }
+        ensures other_reads { AtBoth self.old.clouds.items self.new.clouds.items cloud.0 (λ m m'.
+            (other : Area) → other ≢ area → number_of m'.reads other ≡ number_of m.reads other) }
         ensures total { self.new.total ≡ (if is_ok result then self.old.total else counted_up self.old.total) }
         ensures fails_stay { self.new.fails ≡ self.old.fails }
         ensures others_stay { (other : ℕ) → other ≢ cloud.0 → slice_get self.new.clouds.items other ≡ slice_get self.old.clouds.items other }
@@ -168,6 +201,7 @@ impl Shelf for MemShelf {
 
         ensures fails { At self.old.clouds.items cloud.0 (λ m. IsErr result ↔ WriteFails self.old.fails.items self.old.left cloud.0 m area at (length bytes.now)) }
         ensures counts { AtBoth self.old.clouds.items self.new.clouds.items cloud.0 (λ m m'. (m'.calls ≡ counted_up m.calls) × (m'.faults ≡ (if is_ok result then m.faults else counted_up m.faults))) }
+        ensures reads { AtBoth self.old.clouds.items self.new.clouds.items cloud.0 (λ m m'. m'.reads ≡ m.reads) }
         ensures total { self.new.total ≡ (if is_ok result then self.old.total else counted_up self.old.total) }
         ensures fails_stay { self.new.fails ≡ self.old.fails }
         ensures others_stay { (other : ℕ) → other ≢ cloud.0 → slice_get self.new.clouds.items other ≡ slice_get self.old.clouds.items other }
@@ -193,6 +227,7 @@ impl Shelf for MemShelf {
 
         ensures fails { At self.old.clouds.items cloud.0 (λ m. IsErr result ↔ SyncFails self.old.fails.items self.old.left cloud.0 m) }
         ensures counts { AtBoth self.old.clouds.items self.new.clouds.items cloud.0 (λ m m'. (m'.calls ≡ counted_up m.calls) × (m'.faults ≡ (if is_ok result then m.faults else counted_up m.faults))) }
+        ensures reads { AtBoth self.old.clouds.items self.new.clouds.items cloud.0 (λ m m'. m'.reads ≡ m.reads) }
         ensures total { self.new.total ≡ (if is_ok result then self.old.total else counted_up self.old.total) }
         ensures fails_stay { self.new.fails ≡ self.old.fails }
         ensures others_stay { (other : ℕ) → other ≢ cloud.0 → slice_get self.new.clouds.items other ≡ slice_get self.old.clouds.items other }
@@ -211,6 +246,7 @@ impl Shelf for MemShelf {
 
         ensures fails { At self.old.clouds.items cloud.0 (λ m. IsErr result ↔ FreshFails self.old.fails.items self.old.left cloud.0 m) }
         ensures counts { AtBoth self.old.clouds.items self.new.clouds.items cloud.0 (λ m m'. (m'.calls ≡ counted_up m.calls) × (m'.faults ≡ (if is_ok result then m.faults else counted_up m.faults))) }
+        ensures reads { AtBoth self.old.clouds.items self.new.clouds.items cloud.0 (λ m m'. m'.reads ≡ m.reads) }
         ensures total { self.new.total ≡ (if is_ok result then self.old.total else counted_up self.old.total) }
         ensures fails_stay { self.new.fails ≡ self.old.fails }
         ensures others_stay { (other : ℕ) → other ≢ cloud.0 → slice_get self.new.clouds.items other ≡ slice_get self.old.clouds.items other }
@@ -221,7 +257,16 @@ impl Shelf for MemShelf {
         self.count(outcome)
     }
 
-    fn arm(&mut self, cloud: CloudNo, calls: u32, keep: u32) {
+    fn arm(&mut self, cloud: CloudNo, calls: u32, keep: u32)
+        ensures arms { Arms (clouds_of self.old.clouds.items cloud.0)
+            (clouds_of self.new.clouds.items cloud.0) calls keep }
+        ensures others { (other : ℕ) → other ≢ cloud.0 →
+            clouds_of self.new.clouds.items other ≡ clouds_of self.old.clouds.items other }
+        ensures total { self.new.total ≡ self.old.total }
+
+        ensures reads { AtBoth self.old.clouds.items self.new.clouds.items cloud.0 (λ m m'. m'.reads ≡ m.reads) }
+        ensures others_stay { (other : ℕ) → other ≢ cloud.0 → slice_get self.new.clouds.items other ≡ slice_get self.old.clouds.items other }
+    {
         self.clouds[cloud.0 as usize].arm(calls, keep);
     }
 }

@@ -81,10 +81,12 @@ other_status status now old new run other r = record {
   counts = λ cloud lt. record { faults = (r.counts cloud lt).faults; armings = (r.counts cloud lt).armings; same = λ zero. absurd (other zero) };
   others = r.others;
   given = r.given;
+  more = r.more;
   kept = r.kept;
   disks = r.disks;
   reads_so = λ zero. absurd (other zero);
   private = r.private;
+  faults = r.faults;
 }
 
 pub rose_since : (before middle now : ℕ) → middle ≡ before → Rose middle now → Rose before now

@@ -1,5 +1,5 @@
 -- Where nothing fails, a replay answers 0 or runs out of memory: each other status has a cause that isn't there.
-use Rattle.std.proofs.Common.{◌≡◌, ◌<◌, ◌≤◌, ℕ, zero, suc, ◌+◌, true, false, List, [], ◌∷◌, length, Option, Some, None, Result, Ok, Err, inl, inr, refl, sym, ap, ◌∙◌, subst, arith}
+use Rattle.std.proofs.Common.{◌≡◌, ◌<◌, ◌≤◌, ◌-◌, ◌^◌, ℕ, zero, suc, ◌+◌, true, false, List, [], ◌∷◌, length, Option, Some, None, Result, Ok, Err, inl, inr, refl, sym, ap, ◌∙◌, subst, arith}
 use Rattle.std.specs.Prelude.{◌≢◌, ◌⊎◌, IfSome, MatchOption, IsTrue}
 use Rattle.cd_base.specs.declared.rooms.Rooms.{Rooms}
 use Rattle.cd_base.specs.declared.shape.Shape.{Shape}
@@ -119,8 +119,11 @@ module _ (call : Call) (run : Session) (well : GoesWell call) where
   not_replaced carried cloud lt (Some b) has may rose =
       let still = well.counts cloud lt in
       past (call.old cloud).faults (run.last cloud).faults (call.new cloud).faults still
-      (counts_last (call.old cloud).faults still.1 run.setting cloud call.old run b (cloud_no cloud) carried refl has may (same_le (call.old cloud).faults)) rose
+      (counts_last (call.old cloud).faults (below_top (call.old cloud).faults still.1) run.setting cloud call.old run carried refl (same_le (call.old cloud).faults)) rose
     where
+      below_top : (n : ℕ) → n < 2 ^ 64 - 1 → n < 2 ^ 64
+      below_top n lt = omega (arith, lt)
+
       same_le : (n : ℕ) → n ≤ n
       same_le n = omega arith
 

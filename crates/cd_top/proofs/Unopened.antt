@@ -103,10 +103,12 @@ module _ (call : Call) (same : (cloud : ℕ) → call.new cloud ≡ call.old clo
     };
     others = λ cloud le. same cloud;
     given = λ earlier later a clouds v history get kept clashes. no_line earlier later a history;
+    more = λ earlier later a clouds v history get each clashes. no_line earlier later a history;
     kept = λ cloud v image list lt kept clashes now settles stands. absurd kept.kept;
     disks = disks;
     reads_so = λ zero. absurd (omega (arith, zero));
     private = λ m contains. absurd (omega (arith, contains.1));
+    faults = λ a line cloud among. absurd (omega (arith, among.1));
   }
 
   cause : Rose call.total_before call.total_after → call.sink_after ≡ call.sink_before → HasCause 5 call run NoEnding

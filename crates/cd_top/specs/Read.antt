@@ -1,17 +1,16 @@
 -- What the words `read DIR N K USER PATH VERSION CLOUDS` promise.
-use Rattle.std.specs.Prelude.{◌≡◌, ℕ, ◌⊎◌, List, [], ◌++◌, IsTrue, Option, Result}
+use Rattle.std.specs.Prelude.{◌≡◌, ℕ, ◌⊎◌, List, [], ◌++◌, IsTrue, Option}
 use Rattle.cd_edges.specs.Disk.{Cloud}
 use Rattle.std.specs.Io.KnownBytes.{Appends}
 use Rattle.cd_edges.specs.Causes.{Rose}
 use Rattle.kept_files.specs.Kept.{key_of}
-use Rattle.restore_job.specs.Restored.{Unrestored, restored_file}
 use Rattle.transcript.specs.declared.ending.Ending.TheVariants as endings
 use Rattle.transcript.specs.Endings.{ending_text}
 use Rattle.user_dedup.specs.declared.command.Command.{Command}
 use Rattle.disk_reading.specs.declared.end.ReadEnd.{ReadEnd}
 use Rattle.disk_reading.specs.declared.end.ReadEnd.TheVariants as ends
 use Rattle.disk_reading.specs.Disks.{AreReadable, IsSpared, KeepsDisks}
-use Rattle.disk_reading.specs.Ends.{Outside, CountsSink, Gives, IsOfOpening, Says}
+use Rattle.disk_reading.specs.Ends.{Outside, CountsSink, Due, Gives, IsOfOpening, Says, due_of}
 use Rattle.command_words.specs.Asked.{AskedRead}
 use Rattle.cd_top.specs.Replay.{WritesFront}
 
@@ -56,9 +55,9 @@ last_line (ends.Other cloud found) =
 last_line (ends.Rooms cloud room limit) = ending_text (endings.Rooms cloud room limit)
 last_line end = []
 
--- what lists give of the version that is asked for
-abbrev pub given_of : AskedRead → (ℕ → List Command) → Result (List ℕ) Unrestored
-given_of r lists = restored_file r.shape lists r.user (key_of r.shape r.path r.version) r.clouds
+-- what lists give of the version that is asked for: any K of the clouds, and each choice of K of them
+abbrev pub given_of : AskedRead → (ℕ → List Command) → Due
+given_of r lists = due_of r.shape r.user (key_of r.shape r.path r.version) r.clouds lists
 
 -- The text is that of the end: whatever is told, by what the named clouds' disks open to; and over named clouds that are
 -- told, begun and stand for lists, by what these lists give.

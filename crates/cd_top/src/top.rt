@@ -125,10 +125,10 @@ fn carry_out<S: Source, K: Sink, V: Shelf, P: Ports>(
 /// | Words | |
 /// |---|---|
 /// | `replay DIR` | runs the script in the source over empty clouds in DIR, and writes its transcript |
-/// | `read DIR N K USER PATH VERSION CLOUDS` | writes a version of a file, from the disks of K clouds of DIR alone |
+/// | `read DIR N K USER PATH VERSION CLOUDS` | writes a version of a file, from the disks of any K of these clouds of DIR alone |
 /// | `serve DIR CLOUD N K ADDR COUNT` | serves COUNT connections to a cloud in DIR, which is begun if it is new |
 /// | `backup USER PATH VERSION ADDR..` | stores the source's bytes on the n clouds behind the addresses |
-/// | `restore USER PATH VERSION ADDR..` | writes a version of a file, from the k clouds behind the addresses |
+/// | `restore USER PATH VERSION ADDR..` | writes a version of a file, from any k of the clouds behind the addresses |
 /// | `gen SEED FILES PIECES DIR` | makes a session of FILES backups over four empty clouds in DIR, and writes its summary |
 ///
 /// | Status | Comes | Last line |

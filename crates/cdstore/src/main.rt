@@ -15,8 +15,8 @@ use std::time::Duration;
 const HELP: &str = "\
 usage: cdstore serve DIR CLOUD N K ADDR COUNT           serve a cloud in DIR, begun if new, for COUNT connections
        cdstore backup USER PATH VERSION ADDR..          store standard input on the n clouds at these addresses
-       cdstore restore USER PATH VERSION ADDR..         write the version from the k clouds at these addresses
-       cdstore read DIR N K USER PATH VERSION CLOUDS    write the version from the folders of k clouds, such as 0,2,3
+       cdstore restore USER PATH VERSION ADDR..         write the version from any k of the clouds at these addresses
+       cdstore read DIR N K USER PATH VERSION CLOUDS    write the version from any k of these clouds' folders, such as 0,2,3
        cdstore replay DIR                               run the script on standard input over empty clouds in DIR
        cdstore gen SEED FILES PIECES DIR                run a generated session over four empty clouds in DIR, and sum it up
 

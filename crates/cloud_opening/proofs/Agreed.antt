@@ -11,6 +11,7 @@ use Rattle.user_dedup.specs.declared.command.Command.{Command}
 use Rattle.cloud_store.specs.Records.{bodies_in}
 use Rattle.cloud_index.specs.declared.index.CloudIndex.{CloudIndex}
 use Rattle.command_log.specs.Logs.{Logs, IsOn}
+use Rattle.command_log.proofs.Current.{none_current}
 use Rattle.cloud_opening.specs.Steps.{IsLoaded, EndAt}
 
 pub is_on : (header : Header) (list : List Command) (rooms : Rooms) (journal : journals.State) (cloud : Cloud) (index : CloudIndex) (log new : Logs) (shares_end recipes_end : ℕ)
@@ -24,4 +25,6 @@ is_on header list rooms journal cloud index log new shares_end recipes_end told 
   ended = subst (λ (s : journals.State). journals.IsEnded s (cloud.now Journal) (header_bytes header ∷ bodies_in list)) (sym (e.journal ∙ same)) l.all.ended;
   shares_end_at = record { area_is = ap (λ (s : logs.State). s.area) e.shares ∙ shares; end_is = ap (λ (s : logs.State). s.end) e.shares ∙ one ∙ l.all.remembers.shares_end };
   recipes_end_at = record { area_is = ap (λ (s : logs.State). s.area) e.recipes ∙ recipes; end_is = ap (λ (s : logs.State). s.end) e.recipes ∙ two ∙ l.all.remembers.recipes_end };
+  shares_current = none_current new.shares cloud.now (ap (λ (s : logs.State). s.kept) e.shares);
+  recipes_current = none_current new.recipes cloud.now (ap (λ (s : logs.State). s.kept) e.recipes);
 }

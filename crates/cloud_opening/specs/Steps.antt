@@ -159,7 +159,7 @@ pub data HeaderAs (limits : Rooms) (areas : AreaLengths) (store : Store) (journa
 -- They end here, with nothing staged; all else is as it was.
 pub record EndAt (old new : Logs) (shares_end recipes_end : ℕ) : Type 0 where
   pub journal : new.journal ≡ old.journal
-  pub shares : new.shares ≡ record old.shares { end = shares_end; staged = [] }
-  pub recipes : new.recipes ≡ record old.recipes { end = recipes_end; staged = [] }
+  pub shares : new.shares ≡ record old.shares { end = shares_end; staged = []; kept = [] }
+  pub recipes : new.recipes ≡ record old.recipes { end = recipes_end; staged = []; kept = [] }
   pub shares_staged : HasStaged new.shares []
   pub recipes_staged : HasStaged new.recipes []

@@ -24,6 +24,7 @@ use Rattle.cloud_store.proofs.Distinct.{distinct-append}
 use Rattle.cloud_store.proofs.Lists.{strings_more, recipes_more, bodies_more}
 use Rattle.command_log.specs.Held.{EndsAt, HoldBoth, IsHeld}
 use Rattle.command_log.specs.Logs.{Logs, IsOn, IsPrepared, IsWithOrWithout}
+use Rattle.command_log.proofs.Current.{current_as}
 use Rattle.command_log.proofs.Holding.{front_laid}
 use Rattle.command_log.proofs.Both.{as_read}
 
@@ -36,8 +37,8 @@ pub hold_both : (header : Header) (list : List Command) (log : Logs) (cloud : Cl
     → HoldBoth (distinct (strings_in list)) (recipes_in list) log.shares log.recipes cloud.now
 hold_both header list log cloud on = record {
   journal = on.on_disk Journal;
-  shares_held = record { ends = on.shares_end_at; on_disk = on.on_disk Shares; laid = on.has.shares };
-  recipes_held = record { ends = on.recipes_end_at; on_disk = on.on_disk Recipes; laid = on.has.recipes };
+  shares_held = record { ends = on.shares_end_at; on_disk = on.on_disk Shares; laid = on.has.shares; current = on.shares_current };
+  recipes_held = record { ends = on.recipes_end_at; on_disk = on.on_disk Recipes; laid = on.has.recipes; current = on.recipes_current };
 }
 
 -- what is laid once the command is there
@@ -115,6 +116,8 @@ module _ (header : Header) (list : List Command) (command : Command) (log : Logs
     ended = subst (λ (bodies : List (List ℕ)). journals.IsEnded new.journal (c2.now Journal) (header_bytes header ∷ bodies)) (ap (λ (b : List ℕ). bodies_in list ++ b ∷ []) p.body_is ∙ sym (bodies_more list command)) ended;
     shares_end_at = subst (λ (blobs : List (List ℕ)). EndsAt Shares (end_of_laid 0 (lengths blobs)) new.shares) (sym (shares_more list command)) h.shares_held.ends;
     recipes_end_at = subst (λ (blobs : List (List ℕ)). EndsAt Recipes (end_of_laid 0 (lengths blobs)) new.recipes) (sym (recipes_more list command)) h.recipes_held.ends;
+    shares_current = current_as new.shares new.shares c1.now c2.now refl refl (subst (λ (a : Area). c2.now a ≡ c1.now a) (sym h.shares_held.ends.area_is) (others Shares (λ e. cc))) h.shares_held.current;
+    recipes_current = current_as new.recipes new.recipes c1.now c2.now refl refl (subst (λ (a : Area). c2.now a ≡ c1.now a) (sym h.recipes_held.ends.area_is) (others Recipes (λ e. cc))) h.recipes_held.current;
   }
     where
       disk : (area : Area) → c2.now area ≡ stable (c2.now area).read

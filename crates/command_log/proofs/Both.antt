@@ -1,5 +1,5 @@
 -- Both logs, flushed one after the other.
-use Rattle.std.proofs.Common.{◌≡◌, ◌≢◌, ℕ, ◌+◌, List, ◌++◌, Result, Ok, Err, sym, ap, ◌∙◌, subst, arith}
+use Rattle.std.proofs.Common.{◌≡◌, ◌≢◌, ℕ, ◌+◌, List, ◌++◌, Result, Ok, Err, refl, sym, ap, ◌∙◌, subst, arith}
 use Rattle.std.specs.Prelude.{All, OnOk, OnErr}
 use Rattle.cd_edges.specs.declared.area.Area.{Area}
 use Rattle.cd_edges.specs.declared.area.Area.TheVariants.{Journal, Shares, Recipes}
@@ -11,6 +11,7 @@ use Rattle.cd_edges.proofs.Torn.{only}
 use Rattle.container_log.specs.Laying.{placed, IsAt}
 use Rattle.container_log.specs.States.{State}
 use Rattle.command_log.specs.Held.{Holds, HoldBoth, IsHeld}
+use Rattle.command_log.proofs.Current.{current_as}
 use Rattle.command_log.proofs.Holding.{front_laid}
 
 -- an area on the disk has one image
@@ -26,6 +27,7 @@ held_still area blobs log old new same h = record {
   ends = h.ends;
   on_disk = subst (λ (s : Store). s ≡ stable s.read) (sym same) h.on_disk;
   laid = subst (λ (s : Store). LieIn blobs s.read) (sym same) h.laid;
+  current = current_as log log old new refl refl (subst (λ (a : Area). new a ≡ old a) (sym h.ends.area_is) same) h.current;
 }
 
 -- ---- a call behind one that was Ok

@@ -9,7 +9,7 @@ use Rattle.cd_edges.proofs.Moments.{weaker}
 use Rattle.container_log.specs.Kept.{KeepsBelow}
 use Rattle.container_log.specs.Places.{end_of_laid}
 use Rattle.container_log.specs.Laying.{lengths, placed, IsAt}
-use Rattle.container_log.specs.States.{State, after_flush}
+use Rattle.container_log.specs.States.{State, after_flush, Agrees}
 use Rattle.cloud_store.proofs.Laying.{end-append, placed-append, written_behind, crashed_behind}
 use Rattle.command_log.specs.Held.{Holds, write_moments, flush_moments}
 
@@ -47,9 +47,10 @@ pub flushed : {T E : Type 0} (r : Result T E) (old new : State) (c0 c1 : Cloud) 
     → (old.staged ≡ [] → c1 ≡ c0)
     → (old.staged ≢ [] → OnOk r (c1.now old.area ≡ stable (overwritten (c0.now old.area).read old.end old.staged)))
     → OnOk r (All (IsAt (c1.now old.area).read) (placed old.end staged))
+    → (Agrees old (c0.now old.area).read → Agrees new (c1.now new.area).read)
     → OnOk r (Holds old.area (blobs ++ staged) new c1.now)
-flushed (Err e) old new c0 c1 blobs staged h log end nothing written lie = tt
-flushed (Ok v) old new c0 c1 blobs staged h log end nothing written lie = by_staged old.staged refl
+flushed (Err e) old new c0 c1 blobs staged h log end nothing written lie agrees = tt
+flushed (Ok v) old new c0 c1 blobs staged h log end nothing written lie agrees = by_staged old.staged refl
   where
     together : c1.now old.area ≡ stable (c1.now old.area).read → All (IsAt (c1.now old.area).read) (placed 0 blobs) → Holds old.area (blobs ++ staged) new c1.now
     together disk laid = record {
@@ -61,6 +62,7 @@ flushed (Ok v) old new c0 c1 blobs staged h log end nothing written lie = by_sta
       laid = subst (All (IsAt (c1.now old.area).read)) (sym (placed-append 0 blobs staged))
           (All-append (IsAt (c1.now old.area).read) (placed 0 blobs) (placed (end_of_laid 0 (lengths blobs)) staged) laid
           (subst (λ (n : ℕ). All (IsAt (c1.now old.area).read) (placed n staged)) h.ends.end_is lie));
+      current = record { agrees = agrees h.current.agrees };
     }
 
     by_staged : (bytes : List ℕ) → old.staged ≡ bytes → Holds old.area (blobs ++ staged) new c1.now

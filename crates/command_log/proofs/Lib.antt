@@ -1,4 +1,5 @@
 pub mod Holding
 pub mod Both
+pub mod Current
 pub mod Adding
 pub mod Standing

@@ -1,5 +1,5 @@
 -- What a command log that stands for a list knows of its cloud, and calls that change no more than what is staged.
-use Rattle.std.proofs.Common.{◌≡◌, ℕ, ◌+◌, List, [], ◌∷◌, length, drop, Result, Ok, Err, sym, ap, ◌∙◌, subst, arith, length-append, length-take, length-drop}
+use Rattle.std.proofs.Common.{◌≡◌, ℕ, ◌+◌, List, [], ◌∷◌, length, drop, Result, Ok, Err, refl, sym, ap, ◌∙◌, subst, arith, length-append, length-take, length-drop}
 use Rattle.std.specs.Prelude.{IfOk, OnOk, OnErr}
 use Rattle.std.specs.List.{sum_by}
 use Rattle.std.specs.Int.{w32, to_be_bytes}
@@ -23,6 +23,7 @@ use Rattle.cloud_store.specs.Standing.{ImagesNow, IsReady}
 use Rattle.cloud_store.specs.Store.{HasList, StandsFor}
 use Rattle.command_log.specs.Logs.{Logs, IsOn}
 use Rattle.command_log.proofs.Both.{as_read}
+use Rattle.command_log.proofs.Current.{current_as}
 use Rattle.command_log.proofs.Adding.{stands}
 
 -- all of it on the disk, a cloud has one image
@@ -62,8 +63,8 @@ used_on header list log cloud on =
 
 pub on_alike : (header : Header) (list : List Command) (old new : Logs) (cloud : Cloud) → new.journal ≡ old.journal
     → new.shares.area ≡ old.shares.area → new.shares.end ≡ old.shares.end → new.recipes.area ≡ old.recipes.area → new.recipes.end ≡ old.recipes.end
-    → IsOn header list old cloud → IsOn header list new cloud
-on_alike header list old new cloud journal shares_area shares_end recipes_area recipes_end on = record {
+    → new.shares.kept ≡ old.shares.kept → new.recipes.kept ≡ old.recipes.kept → IsOn header list old cloud → IsOn header list new cloud
+on_alike header list old new cloud journal shares_area shares_end recipes_area recipes_end shares_kept recipes_kept on = record {
   told = on.told;
   sound = on.sound;
   has = on.has;
@@ -71,6 +72,8 @@ on_alike header list old new cloud journal shares_area shares_end recipes_area r
   ended = subst (λ (s : journals.State). journals.IsEnded s (cloud.now Journal) (header_bytes header ∷ bodies_in list)) (sym journal) on.ended;
   shares_end_at = record { area_is = shares_area ∙ on.shares_end_at.area_is; end_is = shares_end ∙ on.shares_end_at.end_is };
   recipes_end_at = record { area_is = recipes_area ∙ on.recipes_end_at.area_is; end_is = recipes_end ∙ on.recipes_end_at.end_is };
+  shares_current = current_as old.shares new.shares cloud.now cloud.now shares_area shares_kept refl on.shares_current;
+  recipes_current = current_as old.recipes new.recipes cloud.now cloud.now recipes_area recipes_kept refl on.recipes_current;
 }
 
 pub stage_area : {T E : Type 0} (r : Result T E) (old new : logs.State) (blob : List ℕ) → OnOk r (new ≡ logs.with_blob old blob) → OnErr r (new ≡ old) → new.area ≡ old.area
@@ -80,6 +83,10 @@ stage_area (Err e) old new blob ok err = ap (λ (s : logs.State). s.area) err
 pub stage_end : {T E : Type 0} (r : Result T E) (old new : logs.State) (blob : List ℕ) → OnOk r (new ≡ logs.with_blob old blob) → OnErr r (new ≡ old) → new.end ≡ old.end
 stage_end (Ok v) old new blob ok err = ap (λ (s : logs.State). s.end) ok
 stage_end (Err e) old new blob ok err = ap (λ (s : logs.State). s.end) err
+
+pub stage_kept : {T E : Type 0} (r : Result T E) (old new : logs.State) (blob : List ℕ) → OnOk r (new ≡ logs.with_blob old blob) → OnErr r (new ≡ old) → new.kept ≡ old.kept
+stage_kept (Ok v) old new blob ok err = ap (λ (s : logs.State). s.kept) ok
+stage_kept (Err e) old new blob ok err = ap (λ (s : logs.State). s.kept) err
 
 -- ---- reads
 
@@ -92,6 +99,8 @@ on_still header list log old new stays same on = record {
   ended = subst (λ (a : Areas). journals.IsEnded log.journal (a Journal) (header_bytes header ∷ bodies_in list)) (sym stays.now) on.ended;
   shares_end_at = on.shares_end_at;
   recipes_end_at = on.recipes_end_at;
+  shares_current = current_as log.shares log.shares old.now new.now refl refl (ap (λ (a : Areas). a log.shares.area) stays.now) on.shares_current;
+  recipes_current = current_as log.recipes log.recipes old.now new.now refl refl (ap (λ (a : Areas). a log.recipes.area) stays.now) on.recipes_current;
 }
 
 pub read_whole : {E : Type 0} (r : Result ℕ E) (held : List ℕ) (b : Placed) (place : ℕ) (out : List ℕ) → IsAt held b → b.place ≡ place

@@ -6,18 +6,23 @@ use Rattle.cd_edges.specs.Disk.{Areas, Image}
 use Rattle.cd_edges.specs.Shelf.{stable}
 use Rattle.container_log.specs.Places.{end_of_laid}
 use Rattle.container_log.specs.Laying.{lengths, placed, IsAt}
-use Rattle.container_log.specs.States.{State}
+use Rattle.container_log.specs.States.{State, Agrees}
 
 -- The log is this area's, and ends here.
 pub record EndsAt (area : Area) (end : ℕ) (log : State) : Type 0 where
   pub area_is : log.area ≡ area
   pub end_is : log.end ≡ end
 
--- The log ends behind these blobs; each lies at its place, and all of the area is on the disk.
+-- Each container that the log keeps is what its area has there.
+pub record IsCurrent (log : State) (now : Areas) : Type 0 where
+  pub agrees : Agrees log (now log.area).read
+
+-- The log ends behind these blobs and keeps what is there; each lies at its place, and all of the area is on the disk.
 pub record Holds (area : Area) (blobs : List (List ℕ)) (log : State) (now : Areas) : Type 0 where
   pub ends : EndsAt area (end_of_laid 0 (lengths blobs)) log
   pub on_disk : now area ≡ stable (now area).read
   pub laid : All (IsAt (now area).read) (placed 0 blobs)
+  pub current : IsCurrent log now
 
 -- Both logs do, and the journal is on the disk too.
 pub record HoldBoth (in_shares in_recipes : List (List ℕ)) (shares recipes : State) (now : Areas) : Type 0 where

@@ -15,7 +15,7 @@ use Rattle.user_dedup.specs.Dedup.{IsSound}
 use Rattle.cloud_store.specs.Contents.{strings_in, fresh_after, shares_end, recipes_of, recipes_end}
 use Rattle.cloud_store.specs.Records.{record_after, bodies_in}
 use Rattle.cloud_store.specs.Store.{HasList}
-use Rattle.command_log.specs.Held.{EndsAt}
+use Rattle.command_log.specs.Held.{EndsAt, IsCurrent}
 
 -- what a command log shows: its journal and its two logs
 pub record Logs : Type 0 where
@@ -24,7 +24,7 @@ pub record Logs : Type 0 where
   pub recipes : logs.State
 
 -- The cloud is told. All of its areas is on the disk, and what they read has a sound list of commands. The journal was read to
--- its end, which has a record for each command, and the logs end behind what the commands brought.
+-- its end, which has a record for each command, and the logs end behind what the commands brought and agree with their areas.
 pub record IsOn (header : Header) (list : List Command) (log : Logs) (cloud : Cloud) : Type 0 where
   pub told : IsTrue cloud.told
   pub sound : IsSound header.shape header.cloud.0 list
@@ -33,6 +33,8 @@ pub record IsOn (header : Header) (list : List Command) (log : Logs) (cloud : Cl
   pub ended : journals.IsEnded log.journal (cloud.now Journal) (header_bytes header ∷ bodies_in list)
   pub shares_end_at : EndsAt Shares (shares_end (strings_in list)) log.shares
   pub recipes_end_at : EndsAt Recipes (recipes_end list) log.recipes
+  pub shares_current : IsCurrent log.shares cloud.now
+  pub recipes_current : IsCurrent log.recipes cloud.now
 
 -- The log stands for the list, and the list is sound with the command behind it too; staged is what the command lays, and the
 -- body is that of its record.

@@ -29,6 +29,9 @@ use container_log::{Log, LogFull};
 use std::alloc::Global;
 use std::marker::Model;
 
+// How many containers each of the two logs keeps: none, since each blob is read alone.
+const KEPT: u32 = 0;
+
 /// A cloud's journal and the logs of its shares and recipes, seen together. On a cloud they stand for a list of commands.
 ///
 /// Each command is added in two steps: first the strings and recipes that it lays are staged, and then `add` writes them and the
@@ -53,13 +56,13 @@ impl CommandLog {
     /// A log that isn't open yet, with nothing staged, in rooms of these sizes. It takes all its memory here.
     pub fn make(alloc: Global, rooms: &Rooms) -> Result<CommandLog, NoMemory>
         ensures journal { IfOk result (λ log. (log.journal.limit ≡ rooms.now.journal) × (log.journal.stage ≡ Shut)) }
-        ensures shares { IfOk result (λ log. log.shares ≡ record { area = Shares; limit = rooms.now.shares; end = 0; staged = [] }) }
-        ensures recipes { IfOk result (λ log. log.recipes ≡ record { area = Recipes; limit = rooms.now.recipes; end = 0; staged = [] }) }
+        ensures shares { IfOk result (λ log. log.shares ≡ record { area = Shares; limit = rooms.now.shares; end = 0; staged = []; keep = 0; kept = [] }) }
+        ensures recipes { IfOk result (λ log. log.recipes ≡ record { area = Recipes; limit = rooms.now.recipes; end = 0; staged = []; keep = 0; kept = [] }) }
     {
         Ok(CommandLog {
             journal: Journal::make(alloc, rooms.journal)?,
-            shares: Log::make(alloc, Area::Shares, rooms.shares)?,
-            recipes: Log::make(alloc, Area::Recipes, rooms.recipes)?,
+            shares: Log::make(alloc, Area::Shares, rooms.shares, KEPT)?,
+            recipes: Log::make(alloc, Area::Recipes, rooms.recipes, KEPT)?,
         })
     }
 
@@ -248,7 +251,7 @@ impl CommandLog {
         ensures failed { OnErr result (HasFailed (V.cloud_at shelf.old cloud.0) (V.cloud_at shelf.new cloud.0) (V.faults shelf.old) (V.faults shelf.new)) }
         ensures uncounted { OnOk result (KeepsCounts (V.cloud_at shelf.old cloud.0) (V.cloud_at shelf.new cloud.0) (V.faults shelf.old) (V.faults shelf.new)) }
     {
-        self.shares.read(shelf, cloud, place, out)
+        self.shares.read_alone(shelf, cloud, place, out)
     }
 
     /// Reads the recipe at a place: puts what Recipes has from there on in front of `out`, and answers how
@@ -273,6 +276,6 @@ impl CommandLog {
         ensures failed { OnErr result (HasFailed (V.cloud_at shelf.old cloud.0) (V.cloud_at shelf.new cloud.0) (V.faults shelf.old) (V.faults shelf.new)) }
         ensures uncounted { OnOk result (KeepsCounts (V.cloud_at shelf.old cloud.0) (V.cloud_at shelf.new cloud.0) (V.faults shelf.old) (V.faults shelf.new)) }
     {
-        self.recipes.read(shelf, cloud, place, out)
+        self.recipes.read_alone(shelf, cloud, place, out)
     }
 }

@@ -1,15 +1,17 @@
 -- Clouds that are judged, and not kept.
-use Rattle.std.proofs.Common.{◌≡◌, ℕ, suc, ◌+◌, ◌-◌, ◌<◌, ◌≤◌, Bool, true, false, eqb, List, [], ◌∷◌, ◌++◌, length}
+use Rattle.std.proofs.Common.{◌≡◌, ℕ, suc, ◌+◌, ◌-◌, ◌<◌, ◌≤◌, Bool, true, false, leb, List, [], ◌∷◌, ◌++◌, length}
 use Rattle.std.proofs.Common.{get_or, drop, Option, Some, None, refl, sym, ap, ◌∙◌, arith, inl, inr, cond}
-use Rattle.std.specs.Prelude.{is_some}
+use Rattle.std.specs.Prelude.{is_some, nat_le}
 use Rattle.std.specs.List.{position_or_len}
 use Rattle.std.specs.List.Sorted.{IsStrictlyIncreasing}
 use Rattle.std.proofs.lemmas.Bool.{cases_lt}
 use Rattle.std.proofs.lemmas.List.{get_or_append_left, length-append}
 use Rattle.cd_base.specs.declared.shape.Shape.{Shape}
-use Rattle.session.specs.Reading.{is_comma, clouds}
-use Rattle.session.proofs.CloudTexts.{goes_on, front, full, starts, no_number, no_rise, last_number, next_number}
+use Rattle.session.specs.Reading.{is_comma, listed, sources}
+use Rattle.session.proofs.CloudTexts.{goes_by, are_so, front, full_by, no_number_by, no_rise_by, last_number_by, next_number_by}
 use Rattle.grammar.specs.Numerals.{number}
+use Rattle.grammar.specs.Words.{keep}
+use Rattle.grammar.proofs.WordLaws.{prepend}
 
 -- So many clouds came, and rise; the next one may be this or more.
 pub record SoFar (shape : Shape) (word rest : List ℕ) (count least : ℕ) : Type 0 where
@@ -21,7 +23,15 @@ pub record SoFar (shape : Shape) (word rest : List ℕ) (count least : ℕ) : Ty
   pub none : length out ≡ 0 → least ≡ 0
   pub few : count ≤ least
   pub within : least ≤ shape.n
-  pub so_far : goes_on shape out rest ≡ clouds shape word
+  pub so_far : goes_by (nat_le shape.k) shape out rest ≡ sources shape word
+
+prepended : {A : Type 0} (p : List A → Bool) (o : Option (List A)) → keep p (prepend [] o) ≡ keep p o
+prepended p None = refl
+prepended p (Some xs) = refl
+
+pub starts_by : (shape : Shape) (word : List ℕ) → goes_by (nat_le shape.k) shape [] word ≡ sources shape word
+unfolding sources
+starts_by shape word = prepended (are_so (nat_le shape.k)) (listed shape word)
 
 pub begins : (shape : Shape) (word : List ℕ) → SoFar shape word word 0 0
 begins shape word = record {
@@ -33,7 +43,7 @@ begins shape word = record {
   none = λ e. refl;
   few = omega arith;
   within = omega arith;
-  so_far = starts shape word;
+  so_far = starts_by shape word;
 }
 
 -- the last of a longer list
@@ -76,33 +86,34 @@ none_is : {A : Type 0} (o : Option A) → None ≡ o → false ≡ is_some o
 none_is None e = refl
 none_is (Some x) e = absurd cc
 
-full_by : (b : Bool) (out : List ℕ) (total : Option (List ℕ)) → cond b (Some out) None ≡ total → b ≡ is_some total
-full_by true out total e = ap (λ (o : Option (List ℕ)). is_some o) e
-full_by false out total e = ap (λ (o : Option (List ℕ)). is_some o) e
+by_count : (b : Bool) (out : List ℕ) (total : Option (List ℕ)) → cond b (Some out) None ≡ total → b ≡ is_some total
+by_count true out total e = ap (λ (o : Option (List ℕ)). is_some o) e
+by_count false out total e = ap (λ (o : Option (List ℕ)). is_some o) e
 
-full_is : (k : ℕ) (out : List ℕ) (total : Option (List ℕ)) → full k out ≡ total → eqb (length out) k ≡ is_some total
-full_is k out total e = full_by (eqb (length out) k) out total e
+full_is : (k : ℕ) (out : List ℕ) (total : Option (List ℕ)) → full_by (nat_le k) out ≡ total
+    → leb k (length out) ≡ is_some total
+full_is k out total e = by_count (leb k (length out)) out total e
 
 pub no_number_left : (shape : Shape) (word rest : List ℕ) (count least : ℕ) → SoFar shape word rest count least
-    → None ≡ number 0 (shape.n - 1) (front rest) → false ≡ is_some (clouds shape word)
-no_number_left shape word rest count least s e = none_is (clouds shape word)
-    (no_number shape s.out rest (clouds shape word) e s.so_far)
+    → None ≡ number 0 (shape.n - 1) (front rest) → false ≡ is_some (sources shape word)
+no_number_left shape word rest count least s e = none_is (sources shape word)
+    (no_number_by (nat_le shape.k) shape s.out rest (sources shape word) e s.so_far)
 
 pub falls_short : (shape : Shape) (word rest : List ℕ) (count least c : ℕ) → SoFar shape word rest count least
-    → Some c ≡ number 0 (shape.n - 1) (front rest) → c < least → false ≡ is_some (clouds shape word)
+    → Some c ≡ number 0 (shape.n - 1) (front rest) → c < least → false ≡ is_some (sources shape word)
 falls_short shape word rest count least c s e lt =
-    none_is (clouds shape word) (no_rise shape s.out rest c (clouds shape word) e
+    none_is (sources shape word) (no_rise_by (nat_le shape.k) shape s.out rest c (sources shape word) e
     (falls s.out c least s.last s.none lt) s.so_far)
 
 pub ends : (shape : Shape) (word rest : List ℕ) (count least c : ℕ) → SoFar shape word rest count least
     → Some c ≡ number 0 (shape.n - 1) (front rest) → least ≤ c
-    → length rest ≤ position_or_len is_comma rest → eqb (count + 1) shape.k ≡ is_some (clouds shape word)
+    → length rest ≤ position_or_len is_comma rest → leb shape.k (count + 1) ≡ is_some (sources shape word)
 ends shape word rest count least c s e le end =
     let len = length-append s.out (c ∷ []) in
     let many : length (s.out ++ c ∷ []) ≡ count + 1 = omega (arith, s.many) in
-    ap (λ (n : ℕ). eqb n shape.k) (sym many)
-    ∙ full_is shape.k (s.out ++ c ∷ []) (clouds shape word)
-    (last_number shape s.out rest c (clouds shape word) e (grows s.out c least s.rising s.above le) end s.so_far)
+    ap (λ (n : ℕ). leb shape.k n) (sym many)
+    ∙ full_is shape.k (s.out ++ c ∷ []) (sources shape word)
+    (last_number_by (nat_le shape.k) shape s.out rest c (sources shape word) e (grows s.out c least s.rising s.above le) end s.so_far)
 
 pub goes_further : (shape : Shape) (word rest : List ℕ) (count least c : ℕ) → SoFar shape word rest count least
     → Some c ≡ number 0 (shape.n - 1) (front rest) → least ≤ c → c < shape.n
@@ -126,5 +137,5 @@ goes_further shape word rest count least c s e le below more =
       none = λ z. absurd (omega arith);
       few = omega (arith, s.few);
       within = omega arith;
-      so_far = next_number shape s.out rest c (clouds shape word) e more s.so_far;
+      so_far = next_number_by (nat_le shape.k) shape s.out rest c (sources shape word) e more s.so_far;
     }

@@ -14,12 +14,12 @@ use Rattle.grammar.proofs.WordLaws.{keep_some, keep_again}
 use Rattle.grammar.proofs.NumeralLaws.{number_reads}
 use Rattle.grammar.proofs.HexadecimalLaws.{chosen}
 use Rattle.transcript.proofs.Shapes.{shape_of_is}
-use Rattle.session.specs.Spelling.{cloud_list, AreClouds}
-use Rattle.session.specs.Reading.{names_file, needed, shape_with, clouds}
+use Rattle.session.specs.Spelling.{cloud_list, AreSources}
+use Rattle.session.specs.Reading.{names_file, needed, shape_with, sources}
 use Rattle.session.proofs.Shapes.{shape_with_some}
 use Rattle.session.proofs.Texts.{names_file_true, names_file_from}
 use Rattle.session.proofs.Events.{u32_reads, u64_reads}
-use Rattle.session.proofs.CloudTexts.{clouds_reads}
+use Rattle.session.proofs.CloudTexts.{sources_reads}
 use Rattle.command_words.specs.Asked.{AskedRead, AskedServe, AskedFile, AskedSession, Asked, ForReplay, ForRead}
 use Rattle.command_words.specs.Asked.{ForServe, ForBackup, ForRestore, ForGenerate}
 use Rattle.command_words.specs.Commands.{read_words, serve_words, file_words, session_words, FitsRead, FitsServe}
@@ -112,14 +112,14 @@ replay_again d = whole_again (lawful_word any_spells) (λ directory. directory) 
 -- ---- `read`
 
 read_laws : Lawful (word_at any ▷ (shape_at ▷▷ λ shape. word_at user ▷ word_at path ▷ word_at version ▷ word_at
-    (clouds shape)))
+    (sources shape)))
     (λ x. (x.0 ∷ []) ++ (shape_words x.1.0 ++ ((decimal x.1.1.0 ∷ []) ++
     ((x.1.1.1.0 ∷ []) ++ ((decimal x.1.1.1.1.0 ∷ []) ++ (cloud_list x.1.1.1.1.1 ∷ []))))))
     (λ x. Unit {0} × (Unit {0} × ((x.1.1.0 < 2 ^ 32) × (IsPath x.1.1.1.0
-    × ((x.1.1.1.1.0 < 2 ^ 64) × AreClouds x.1.0 x.1.1.1.1.1)))))
+    × ((x.1.1.1.1.0 < 2 ^ 64) × AreSources x.1.0 x.1.1.1.1.1)))))
 read_laws = lawful_then (lawful_word any_spells) (lawful_given lawful_shape (λ shape.
     lawful_then (lawful_word (spells_by u32_reads)) (lawful_then (lawful_word path_spells)
-    (lawful_then (lawful_word (spells_by u64_reads)) (lawful_word (spells_by (clouds_reads shape)))))))
+    (lawful_then (lawful_word (spells_by u64_reads)) (lawful_word (spells_by (sources_reads shape)))))))
 
 read_takes : (words : List (List ℕ)) (r : AskedRead) → read_at words ≡ Some r → (words ≡ read_words r) × FitsRead r
 unfolding read_at

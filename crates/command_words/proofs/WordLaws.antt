@@ -5,7 +5,7 @@ use Rattle.std.specs.Prelude.{is_some}
 use Rattle.std.proofs.lemmas.Bool.{cases_Bool}
 use Rattle.cd_base.specs.Limits.{IsPath}
 use Rattle.cd_base.specs.declared.shape.Shape.{Shape}
-use Rattle.session.specs.Reading.{names_file, clouds}
+use Rattle.session.specs.Reading.{names_file, sources}
 use Rattle.session.proofs.Texts.{names_file_true, names_file_from}
 use Rattle.command_words.specs.Reading.{path}
 
@@ -28,12 +28,12 @@ none_of : {A : Type 0} (o : Option A) → false ≡ is_some o → o ≡ None
 none_of None e = refl
 none_of (Some x) e = absurd cc
 
-pub clouds_named : (shape : Shape) (word : List ℕ) → true ≡ is_some (clouds shape word)
-    → (list : List ℕ) × (clouds shape word ≡ Some list) × (clouds shape word ≡ Some list)
-clouds_named shape word e = let s = some_of (clouds shape word) e in (s.0, s.1, s.1)
+pub clouds_named : (shape : Shape) (word : List ℕ) → true ≡ is_some (sources shape word)
+    → (list : List ℕ) × (sources shape word ≡ Some list) × (sources shape word ≡ Some list)
+clouds_named shape word e = let s = some_of (sources shape word) e in (s.0, s.1, s.1)
 
-pub clouds_unnamed : (shape : Shape) (word : List ℕ) → false ≡ is_some (clouds shape word) → clouds shape word ≡ None
-clouds_unnamed shape word e = none_of (clouds shape word) e
+pub clouds_unnamed : (shape : Shape) (word : List ℕ) → false ≡ is_some (sources shape word) → sources shape word ≡ None
+clouds_unnamed shape word e = none_of (sources shape word) e
 
 -- there is a first word
 pub some_words : {X : Type 0} (text : X → List ℕ) (words : List X) → 1 ≤ length words

@@ -3,7 +3,7 @@ use Rattle.std.specs.Prelude.{ℕ, ◌≡◌, ◌<◌, ◌≤◌, ◌*◌, ◌^�
 use Rattle.cd_base.specs.Limits.{IsPath}
 use Rattle.cd_base.specs.declared.ids.UserId.{UserId}
 use Rattle.cd_base.specs.declared.ids.Version.{Version}
-use Rattle.session.specs.Spelling.{cloud_list, AreClouds}
+use Rattle.session.specs.Spelling.{cloud_list, AreSources}
 use Rattle.command_words.specs.Asked.{AskedRead, AskedServe, AskedFile, AskedSession, Asked, ForReplay, ForRead}
 use Rattle.command_words.specs.Asked.{ForServe, ForBackup, ForRestore, ForGenerate}
 
@@ -36,10 +36,10 @@ pub record IsFile (user : UserId) (path : List ℕ) (version : Version) : Type 0
   pub named : IsPath path
   pub version_range : version.0 < 2 ^ 64
 
--- k clouds below n, rising
+-- k clouds below n or more, rising
 pub record FitsRead (r : AskedRead) : Type 0 where
   pub file : IsFile r.user r.path r.version
-  pub chosen : AreClouds r.shape r.clouds
+  pub chosen : AreSources r.shape r.clouds
 
 pub record FitsServe (s : AskedServe) : Type 0 where
   pub cloud : s.cloud.0 < s.shape.n

@@ -5,7 +5,7 @@ use Rattle.std.specs.Str.{bytes_eq}
 use Rattle.cd_base.specs.declared.shape.Shape.{Shape}
 use Rattle.grammar.specs.Words.{keep}
 use Rattle.grammar.specs.Numerals.{number}
-use Rattle.session.specs.Reading.{names_file, needed, clouds}
+use Rattle.session.specs.Reading.{names_file, needed, sources}
 use Rattle.command_words.specs.Asked.{AskedRead, AskedServe, AskedFile, AskedSession, Asked, ForReplay, ForRead}
 use Rattle.command_words.specs.Asked.{ForServe, ForBackup, ForRestore, ForGenerate}
 use Rattle.command_words.specs.declared.rows.Row.{Row}
@@ -90,7 +90,7 @@ make_read x = record {
 
 unfoldable pub read_at : List (List ℕ) → Option AskedRead
 read_at = whole make_read
-    (word_at any ▷ (shape_at ▷▷ λ shape. word_at user ▷ word_at path ▷ word_at version ▷ word_at (clouds shape)))
+    (word_at any ▷ (shape_at ▷▷ λ shape. word_at user ▷ word_at path ▷ word_at version ▷ word_at (sources shape)))
 
 abbrev pub make_serve : List ℕ × (ℕ × (Shape × (List ℕ × ℕ))) → AskedServe
 make_serve x = record {

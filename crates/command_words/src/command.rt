@@ -7,13 +7,13 @@ use cd_base::{CloudNo, Clouds, Shape, UserId, Version};
 pub enum Command<'a> {
     /// The script in the source, over empty clouds in the directory.
     Replay { directory: &'a str },
-    /// A version of a file from the disks of k clouds.
+    /// A version of a file from the disks of k clouds or more.
     Read(ReadWords<'a>),
     /// A cloud's store, for connections.
     Serve(ServeWords<'a>),
     /// A file for n clouds behind addresses.
     Backup(BackupWords<'a>),
-    /// A version of a file from k clouds behind addresses.
+    /// A version of a file from k clouds or more behind addresses.
     Restore(RestoreWords<'a>),
     /// A session that a number gives.
     Generate(GenerateWords<'a>),
@@ -32,7 +32,7 @@ pub struct ReadWords<'a> {
     pub path: &'a [u8],
     /// The version.
     pub version: Version,
-    /// The clouds that are read: k of them below n.
+    /// The clouds that are read: k of them below n, or more.
     pub clouds: Clouds,
 }
 
@@ -73,7 +73,7 @@ pub struct RestoreWords<'a> {
     pub path: &'a [u8],
     /// The version.
     pub version: Version,
-    /// Where k clouds listen, in the order of the clouds: 2 to 16 words.
+    /// Where k clouds or more listen, in the order of the clouds: 2 to 16 words.
     pub addresses: &'a [String],
 }
 

@@ -1,9 +1,9 @@
 //! Readers of single words: a value, and the words behind it.
 
 ghost use Rattle.std.specs.Prelude.{◌≡◌, ◌≤◌, ℕ, List, [], ◌∷◌, Some, None, IfSome, IfOk, MatchOption, is_some, map};
-ghost use Rattle.std.specs.Prelude.{string_bytes, length, if◌then◌else◌, ◌==◌};
+ghost use Rattle.std.specs.Prelude.{string_bytes, length, if◌then◌else◌, nat_le};
 ghost use Rattle.grammar.specs.Numerals.{number};
-ghost use Rattle.session.specs.Reading.{clouds, needed};
+ghost use Rattle.session.specs.Reading.{needed, sources};
 ghost use Rattle.command_words.specs.Reading.{Gives, any, path, shape_at, word_at};
 
 use cd_base::{CloudNo, Clouds, NoMemory, Shape, is_path};
@@ -103,9 +103,9 @@ pub fn shape_words(words: &[String]) -> Option<(Shape, &[String])>
     needed_word(n as u8, words)
 }
 
-// Whether a word is k rising clouds below n with commas between.
+// Whether a word is k rising clouds below n or more, with commas between.
 fn are_clouds(word: &[u8], shape: Shape) -> bool
-    ensures { result ≡ is_some (clouds shape word.now) }
+    ensures { result ≡ is_some (sources shape word.now) }
 {
     let mut rest = word;
     let mut count: u64 = 0;
@@ -121,7 +121,7 @@ fn are_clouds(word: &[u8], shape: Shape) -> bool
         count += 1;
         least = number + 1;
         if end == rest.len() {
-            return count == shape.k as u64;
+            return shape.k as u64 <= count;
         }
         rest = after(rest, end + 1);
     }
@@ -130,8 +130,8 @@ fn are_clouds(word: &[u8], shape: Shape) -> bool
 // The word, where it is clouds.
 #[tactic(auto, using(crate::proofs::WordLaws::clouds_named, crate::proofs::WordLaws::clouds_unnamed))]
 fn judged(word: &[u8], shape: Shape) -> Option<&[u8]>
-    ensures { MatchOption result (clouds shape word.now ≡ None)
-        (λ x. (list : List ℕ) × (clouds shape x.now ≡ Some list) × (clouds shape word.now ≡ Some list)) }
+    ensures { MatchOption result (sources shape word.now ≡ None)
+        (λ x. (list : List ℕ) × (sources shape x.now ≡ Some list) × (sources shape word.now ≡ Some list)) }
 {
     if are_clouds(word, shape) {
         Some(word)
@@ -143,9 +143,9 @@ fn judged(word: &[u8], shape: Shape) -> Option<&[u8]>
 /// A word of clouds, which aren't listed yet.
 #[tactic(auto, unfolding(crate::specs::Reading::word_at))]
 pub fn clouds_word(words: &[String], shape: Shape) -> Option<(&[u8], &[String])>
-    ensures { MatchOption result (word_at (clouds shape) (map string_bytes words.now) ≡ None)
-        (λ x. (list : List ℕ) × (clouds shape x.0.now ≡ Some list)
-        × (word_at (clouds shape) (map string_bytes words.now) ≡ Some (list, map string_bytes x.1.now))) }
+    ensures { MatchOption result (word_at (sources shape) (map string_bytes words.now) ≡ None)
+        (λ x. (list : List ℕ) × (sources shape x.0.now ≡ Some list)
+        × (word_at (sources shape) (map string_bytes words.now) ≡ Some (list, map string_bytes x.1.now))) }
 {
     match words {
         [] => None,
@@ -156,11 +156,11 @@ pub fn clouds_word(words: &[String], shape: Shape) -> Option<(&[u8], &[String])>
     }
 }
 
-// The clouds, where there are k of them.
+// The clouds, where there are k of them or more.
 fn full_of(clouds: Clouds, shape: Shape) -> Option<Clouds>
-    ensures { result ≡ (if length clouds == shape.k then Some clouds else None) }
+    ensures { result ≡ (if nat_le shape.k (length clouds) then Some clouds else None) }
 {
-    if clouds.len() == shape.k as usize {
+    if shape.k as usize <= clouds.len() {
         Some(clouds)
     } else {
         None
@@ -169,7 +169,7 @@ fn full_of(clouds: Clouds, shape: Shape) -> Option<Clouds>
 
 /// The clouds that a word names.
 pub fn clouds_of(alloc: Global, word: &[u8], shape: Shape) -> Result<Option<Clouds>, NoMemory>
-    ensures { IfOk result (λ o. o ≡ clouds shape word.now) }
+    ensures { IfOk result (λ o. o ≡ sources shape word.now) }
 {
     let mut out = Clouds::new(alloc);
     let mut rest = word;

@@ -2,7 +2,7 @@
 
 ghost use Rattle.std.specs.Prelude.{◌≡◌, ◌<◌, ◌≤◌, ℕ, List, Some, None, IfSome, IfNone, IfOk, OnErr, MatchOption};
 ghost use Rattle.std.specs.Prelude.{map, string_bytes};
-ghost use Rattle.session.specs.Reading.{clouds};
+ghost use Rattle.session.specs.Reading.{sources};
 ghost use Rattle.command_words.specs.Asked.{Asked, AskedRead, ForReplay, ForRead};
 ghost use Rattle.command_words.specs.Commands.{IsCommand};
 ghost use Rattle.command_words.specs.Reading.{Gives, named, replay_at, read_at, serve_at, file_at, session_at};
@@ -72,7 +72,7 @@ struct ReadRow<'a> {
 #[tactic(auto, unfolding(crate::specs::Reading::read_at))]
 fn read_row(words: &[String]) -> Option<ReadRow<'_>>
     ensures { MatchOption result (read_at (map string_bytes words.now) ≡ None)
-        (λ row. (list : List ℕ) × (clouds row.shape row.clouds.now ≡ Some list)
+        (λ row. (list : List ℕ) × (sources row.shape row.clouds.now ≡ Some list)
         × (read_at (map string_bytes words.now) ≡ Some (record {
           directory = row.directory.now;
           shape = row.shape;

@@ -29,13 +29,13 @@ ghost use Rattle.commit_command.specs.Steps.{Calls, IsOfEntry, Leaves};
 
 use crate::entering::enter;
 use crate::lacking::first_foreign;
-use crate::replies::put_lacking;
 use crate::stored::put_stored;
 use cd_base::{Tag, UserId, Version};
 use cd_edges::{Failed, Shelf};
 use cloud_state::CloudState;
 use file_index::Entry;
 use frames::ReplyBuf;
+use messages::write_lacking;
 use recipe::RecipeView;
 
 // The reply of a version that has this entry. The server is shut where its recipe can't be read.
@@ -145,7 +145,7 @@ pub fn commit<V: Shelf>(
 {
     match first_foreign(&state.index, user, recipe) {
         Some(place) => {
-            put_lacking(reply, place);
+            write_lacking(reply, place);
             Ok(())
         }
         None => match state.index.entry(user, tag, version) {

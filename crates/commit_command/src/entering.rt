@@ -14,11 +14,11 @@ ghost use Rattle.read_replies.specs.Allowed.{Replies};
 ghost use Rattle.commit_command.specs.Steps.{Calls, IsOfNew, Leaves, Does, IsAnsweredNew};
 
 use crate::adding::add_recorded;
-use crate::replies::{put_committed, put_full};
 use cd_base::{Tag, UserId, Version, sha256};
 use cd_edges::{Failed, Shelf};
 use cloud_state::CloudState;
 use frames::ReplyBuf;
+use messages::{write_committed, write_full};
 
 /// Adds a Commit of a version that has no entry. Full comes where a room is too small: nothing changes then, and no device is
 /// called.
@@ -64,14 +64,14 @@ pub(crate) fn enter<V: Shelf>(
                 recipe,
             ) {
                 Ok(()) => {
-                    put_committed(reply);
+                    write_committed(reply);
                     Ok(())
                 }
                 Err(Failed) => Err(Failed),
             }
         }
         Err(full) => {
-            put_full(reply, &full);
+            write_full(reply, full.room, full.used, full.need, full.limit);
             Ok(())
         }
     }

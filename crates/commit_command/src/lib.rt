@@ -9,7 +9,6 @@ mod adding;
 mod command;
 mod entering;
 mod lacking;
-mod replies;
 mod stored;
 
 pub use command::commit;

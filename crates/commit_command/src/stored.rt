@@ -10,12 +10,12 @@ ghost use Rattle.read_replies.specs.Allowed.{Replies};
 ghost use Rattle.commit_command.specs.Stored.{compared, stored_reply};
 ghost use Rattle.commit_command.specs.Steps.{Calls, IsOfEntry};
 
-use crate::replies::{put_committed, put_exists, put_rotten};
 use cd_base::{CloudNo, sha256};
 use cd_edges::{Failed, Shelf};
 use command_log::CommandLog;
 use file_index::Entry;
 use frames::ReplyBuf;
+use messages::{write_committed, write_exists, write_rotten};
 
 // The most bytes of a recipe.
 const LONGEST: u32 = 1_180_190;
@@ -27,12 +27,12 @@ fn put_compared(there: &[u8], entry: &Entry, recipe: &[u8], reply: &mut ReplyBuf
     let found = sha256(there);
     if there.len() == entry.len as usize && found == entry.fp {
         if there == recipe {
-            put_committed(reply);
+            write_committed(reply);
         } else {
-            put_exists(reply);
+            write_exists(reply);
         }
     } else {
-        put_rotten(reply, entry.fp, found);
+        write_rotten(reply, entry.fp, found);
     }
 }
 
@@ -92,7 +92,7 @@ pub(crate) fn put_stored<V: Shelf>(
             Err(Failed) => Err(Failed),
         }
     } else {
-        put_rotten(reply, entry.fp, sha256(&[]));
+        write_rotten(reply, entry.fp, sha256(&[]));
         Ok(())
     }
 }

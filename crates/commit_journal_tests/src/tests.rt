@@ -6,8 +6,9 @@ ghost use Rattle.commit_journal.specs.States.{state_of};
 
 use cd_base::{CloudNo, Shape};
 use cd_edges::{Area, Failed, Shelf};
-use cd_fakes::{MemShelf, Note};
+use cd_fakes::MemShelf;
 use commit_journal::{Header, Journal, JournalErr, OpenErr};
+use mem_disk::Note;
 use std::alloc::Global;
 use std::test::Fail;
 
@@ -220,7 +221,7 @@ fn calls(shelf: &MemShelf) -> (u64, u32, u32) {
         match note {
             Note::Wrote { .. } => writes = writes.saturating_add(1),
             Note::Synced { .. } => syncs = syncs.saturating_add(1),
-            Note::Emptied => {}
+            Note::Emptied | Note::Crashed { .. } => {}
         }
     }
     (cloud.calls, writes, syncs)

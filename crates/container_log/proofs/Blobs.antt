@@ -1,9 +1,9 @@
 -- Blobs at their places in an area.
 use Rattle.std.proofs.Common.{◌≡◌, ℕ, ◌+◌, ◌-◌, ◌<◌, ◌≤◌, List, ◌++◌, length, take, drop, get_or, sym, ◌∙◌, ap, subst, arith, length-append, length-take, length-drop, get_or-take, get_or-drop}
 use Rattle.std.specs.Prelude.{replicate, All, slice_index_or}
-use Rattle.std.proofs.lemmas.List.{ext_get_or, length-replicate}
+use Rattle.std.proofs.lemmas.List.{ext_get_or, length-replicate, take_all}
 use Rattle.cd_edges.specs.Disk.{overwritten}
-use Rattle.cd_edges.specs.Shelf.{stable}
+use Rattle.cd_edges.specs.Shelf.{stable, ReadsFrom}
 use Rattle.cd_edges.proofs.Overwritten.{length-overwritten, overwritten_before}
 use Rattle.container_log.specs.Kept.{KeepsBelow}
 use Rattle.container_log.specs.Laying.{Placed, laid, placed, IsAt}
@@ -18,6 +18,12 @@ same_at one two b at long same = ext_get_or 0 _ _ (omega (arith, long, length-ta
 
 within : (bytes : List ℕ) (b : Placed) → IsAt bytes b → length b.blob ≤ length bytes - b.place
 within bytes b at = omega (arith, ap length at, length-take (length b.blob) (drop b.place bytes), length-drop b.place bytes)
+
+-- A blob is what is read at its place.
+pub read_at : (bytes : List ℕ) (b : Placed) (place count : ℕ) (out : List ℕ) → IsAt bytes b → length out ≡ length b.blob → b.place ≡ place → ReadsFrom bytes place count out → out ≡ b.blob
+read_at bytes b place count out at long here reads =
+    let all : count ≡ length b.blob = omega (arith, reads.lesser, long, here, within bytes b at) in
+    sym (take_all count out (omega (arith, all, long))) ∙ reads.bytes ∙ ap (λ (n : ℕ). take n (drop place bytes)) all ∙ ap (λ (p : ℕ). take (length b.blob) (drop p bytes)) (sym here) ∙ at
 
 pub later_at : (old : List ℕ) (end : ℕ) (bytes : List ℕ) (b : Placed) → b.place + length b.blob ≤ end → IsAt old b → IsAt (overwritten old end bytes) b
 later_at old end bytes b below at = same_at old (overwritten old end bytes) b at

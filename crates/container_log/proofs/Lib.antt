@@ -1,5 +1,7 @@
+pub mod Agreeing
 pub mod Blobs
 pub mod Laid
 pub mod Least
 pub mod Rooms
 pub mod Staged
+pub mod Turning

@@ -1,3 +1,4 @@
+pub mod Caches
 pub mod Kept
 pub mod Laying
 pub mod Places

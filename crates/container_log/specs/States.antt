@@ -1,8 +1,9 @@
--- What a log is: an area, its limit, its end, and what is staged behind the end.
-use Rattle.std.specs.Prelude.{◌≡◌, ℕ, ◌+◌, ◌-◌, List, [], ◌++◌, length, replicate, Result, is_ok, if◌then◌else◌}
+-- What a log is: an area, its limit, its end, what is staged behind the end, and the containers that are kept.
+use Rattle.std.specs.Prelude.{◌≡◌, ◌⊎◌, ℕ, ◌+◌, ◌-◌, ◌/◌, ◌%◌, ◌≤◌, List, [], ◌++◌, length, replicate, None, Some, Result, is_ok, if◌then◌else◌}
 use Rattle.cd_edges.specs.declared.area.Area.{Area}
-use Rattle.container_log.specs.Places.{place_of, end_after}
+use Rattle.container_log.specs.Places.{container_len, place_of, end_after}
 use Rattle.container_log.specs.Laying.{laid, Fit}
+use Rattle.container_log.specs.Caches.{Kept, AreOf, in_front, with_container, kept_of, kept_over}
 
 -- what a log shows
 pub record State : Type 0 where
@@ -10,6 +11,8 @@ pub record State : Type 0 where
   pub limit : ℕ
   pub end : ℕ
   pub staged : List ℕ  -- the bytes that a flush writes at the end
+  pub keep : ℕ  -- how many containers are kept at most
+  pub kept : List Kept  -- those that are, the last read first
 
 -- These blobs are staged, in this order.
 pub record HasStaged (log : State) (blobs : List (List ℕ)) : Type 0 where
@@ -32,6 +35,26 @@ with_blob log blob = record log { staged = log.staged ++ replicate (place_of (st
 abbrev pub without_staged : State → State
 without_staged log = record log { staged = [] }
 
--- After a flush nothing is staged; after Ok the log ends behind what was.
+-- After a flush nothing is staged. After Ok the log ends behind what was, and those containers are kept that were whole and weren't
+-- written; after an error none is.
 abbrev pub after_flush : {T E : Type 0} → State → Result T E → State
-after_flush log result = record log { end = (if is_ok result then staged_end log else log.end); staged = [] }
+after_flush log result = record log { end = (if is_ok result then staged_end log else log.end); staged = []; kept = (if is_ok result then kept_over log.end log.staged log.kept else []) }
+
+-- Each container that is kept is what these bytes of the log's area have there.
+abbrev pub Agrees : State → List ℕ → Type 0
+Agrees log bytes = AreOf bytes log.kept
+
+-- no container is kept
+abbrev pub without_kept : State → State
+without_kept log = record log { kept = [] }
+
+-- so many bytes from the place on lie in its container, which is kept with these bytes
+abbrev pub IsKept : State → ℕ → ℕ → List ℕ → Type 0
+IsKept log place len bytes = (place % container_len + len ≤ container_len) × (kept_of log.kept (place / container_len) ≡ Some bytes)
+
+-- After a read without an error the containers are as they were, or that of the place is in front now: it was kept, or it is a container
+-- more.
+abbrev pub IsAfterRead : State → ℕ → State → Type 0
+IsAfterRead log place new = (new ≡ log)
+    ⊎ ((new ≡ record log { kept = in_front (place / container_len) log.kept })
+    ⊎ ((bytes : List ℕ) × (kept_of log.kept (place / container_len) ≡ None) × (new ≡ record log { kept = with_container (place / container_len) bytes log.keep log.kept })))

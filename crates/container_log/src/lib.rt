@@ -2,10 +2,13 @@
 //! was there before.
 #![tactic(auto)]
 
+mod cache;
+mod container;
 mod full;
 mod laws;
 mod log;
 mod places;
+mod reading;
 
 pub use full::LogFull;
 pub use laws::{law_of_laying, law_of_places, law_of_reading, law_of_room};

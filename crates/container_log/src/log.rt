@@ -7,10 +7,12 @@ ghost use Rattle.cd_edges.specs.Shelf.{IsCall, HasFailed, KeepsCounts, Stays, Re
 ghost use Rattle.container_log.specs.Kept.{KeepsBelow};
 ghost use Rattle.container_log.specs.Laying.{Placed, lengths, placed, IsAt};
 ghost use Rattle.container_log.specs.Places.{place_of, end_after, end_of_laid};
-ghost use Rattle.container_log.specs.States.{State, HasStaged, staged_end, need_of, with_blob, without_staged, after_flush};
+ghost use Rattle.container_log.specs.States.{State, HasStaged, staged_end, need_of, with_blob, without_staged, after_flush, Agrees, IsKept, IsAfterRead};
 
 use crate::LogFull;
-use crate::places::gap_behind;
+use crate::cache::Cache;
+use crate::places::{CONTAINER, gap_behind};
+use crate::reading::read_kept;
 use cd_base::{CloudNo, NoMemory};
 use cd_edges::{Area, Failed, Shelf, write_synced};
 use std::alloc::Global;
@@ -32,6 +34,7 @@ pub struct Log {
     // The bytes that are staged, in front.
     buffer: Vec<u8>,
     used: usize,
+    cache: Cache,
 }
 
 impl Model for Log {
@@ -40,7 +43,7 @@ impl Model for Log {
 
     ghost Value = { State };
 
-    ghost view = { λ l. record { area = l.area; limit = l.limit; end = l.end; staged = take l.used l.buffer.items } };
+    ghost view = { λ l. record { area = l.area; limit = l.limit; end = l.end; staged = take l.used l.buffer.items; keep = l.cache.keep; kept = l.cache.kept } };
 
     ghost invariant = { λ l. (vec_len l.buffer ≡ 4194304) × (l.used ≤ 4194304) × (l.end + l.used < 2 ^ 64) };
 }
@@ -63,11 +66,14 @@ fn put_behind(buffer: &mut [u8], used: usize, gap: usize, blob: &[u8])
 }
 
 impl Log {
-    /// The log of this area, which has no blob yet and may end at `limit` at most. It takes all its memory here: a buffer of
-    /// 4,194,304 bytes.
-    pub fn make(alloc: Global, area: Area, limit: u64) -> Result<Log, NoMemory>
-        ensures made { IfOk result (λ log. log ≡ record { area = area; limit = limit; end = 0; staged = [] }) }
+    /// The log of this area, which has no blob yet and may end at `limit` at most. It keeps up to `keep` containers that were read
+    /// lately, 16 at most, and none of them yet. It takes a buffer of 4,194,304 bytes here; a read may take as many for a container
+    /// that it keeps, and no other call takes memory.
+    pub fn make(alloc: Global, area: Area, limit: u64, keep: u32) -> Result<Log, NoMemory>
+        requires keep { keep ≤ 16 }
+        ensures made { IfOk result (λ log. log ≡ record { area = area; limit = limit; end = 0; staged = []; keep = keep; kept = [] }) }
         ensures none { IfOk result (λ log. HasStaged log []) }
+        ensures agrees { (bytes : List ℕ) → IfOk result (λ log. Agrees log bytes) }
     {
         Ok(Log {
             area,
@@ -75,16 +81,20 @@ impl Log {
             end: 0,
             buffer: buffer_of(alloc, STAGING)?,
             used: 0,
+            cache: Cache::make(alloc, keep)?,
         })
     }
 
-    /// Says where the log ends, as a place of the area, and forgets what is staged.
+    /// Says where the log ends, as a place of the area, and forgets what is staged and each container that is kept: so the log agrees
+    /// with whatever the area has. It takes no memory.
     pub fn reset(&mut self, end: u64)
-        ensures reset { self.new ≡ record self.old { end = end; staged = [] } }
+        ensures reset { self.new ≡ record self.old { end = end; staged = []; kept = [] } }
         ensures none { HasStaged self.new [] }
+        ensures agrees { (bytes : List ℕ) → Agrees self.new bytes }
     {
         self.end = end;
         self.used = 0;
+        self.cache.forget();
     }
 
     /// The place where the log ends. What is staged isn't counted.
@@ -150,6 +160,9 @@ impl Log {
     /// since is there still, and the other areas are left as they might have been before. An area may be longer than the
     /// log, by what an earlier crash left of a flush: as many bytes of that tail are written over as are staged, and what
     /// lies behind them stays. Where the area is shorter, zeros fill the gap.
+    ///
+    /// Before it writes it forgets each container that it writes, and each that is kept with fewer than 4,194,304 bytes; after Failed it
+    /// has forgotten all. So a log that agrees with the area does so afterwards.
     pub fn flush<V: Shelf>(&mut self, shelf: &mut V, cloud: CloudNo) -> Result<(), Failed>
         ensures any_moment { IsTrue (V.cloud_at shelf.old cloud.0).told → LeavesOnly (V.cloud_at shelf.old cloud.0) (V.cloud_at shelf.new cloud.0)
             (IsAtArea (V.cloud_at shelf.old cloud.0).now self.old.area (KeepsBelow self.old.end ((V.cloud_at shelf.old cloud.0).now self.old.area))) }
@@ -166,6 +179,9 @@ impl Log {
         ensures moments { IsTrue (V.cloud_at shelf.old cloud.0).told → self.old.staged ≢ [] → OnOk result (moment (V.cloud_at shelf.new cloud.0) ≡ moment (V.cloud_at shelf.old cloud.0) + 2) }
         ensures nothing { self.old.staged ≡ [] → (shelf.new ≡ shelf.old) × (self.new ≡ self.old) × IsOk result }
 
+        ensures agrees { IsTrue (V.cloud_at shelf.old cloud.0).told → Agrees self.old ((V.cloud_at shelf.old cloud.0).now self.old.area).read
+            → Agrees self.new ((V.cloud_at shelf.new cloud.0).now self.new.area).read }
+
         ensures log { self.new ≡ after_flush self.old result }
         ensures end { (blobs : List (List ℕ)) → HasStaged self.old blobs → OnOk result (self.new.end ≡ end_of_laid self.old.end (lengths blobs)) }
         ensures none { HasStaged self.new [] }
@@ -177,15 +193,65 @@ impl Log {
             return Ok(());
         }
         let used = mem::take(&mut self.used);
-        write_synced(shelf, cloud, self.area, self.end, &self.buffer[..used])?;
-        self.end += used as u64;
-        Ok(())
+        self.cache.forget_changed(
+            self.end / CONTAINER,
+            (self.end + (used as u64 - 1)) / CONTAINER,
+        );
+        match write_synced(shelf, cloud, self.area, self.end, &self.buffer[..used]) {
+            Ok(()) => {
+                self.end += used as u64;
+                Ok(())
+            }
+            Err(Failed) => {
+                self.cache.forget();
+                Err(Failed)
+            }
+        }
     }
 
-    /// Puts what the area has from place `place` on in front of `out`, by one device call, and answers how many bytes that
-    /// are: fewer than `out.len()` exactly where the area ends there. What is staged isn't seen. Failed comes only where the
-    /// cloud's count of faults rose. It takes no memory.
+    /// Puts what the area has from place `place` on in front of `out`, and answers how many bytes that are: fewer than `out.len()`
+    /// exactly where the area ends there. What is staged isn't seen. Failed comes only where the cloud's count of faults rose.
+    ///
+    /// Where the bytes lie in a container that is kept, no device is called: so the answer is the area's where the log agrees with it. Else
+    /// it makes one device call. Where they lie in one container, it reads that container whole, up to the area's end, and keeps it,
+    /// where containers are to be kept and memory allows; the one that was read longest ago is forgotten for it. Else it reads these bytes
+    /// alone. After Failed it has forgotten all.
     pub fn read<V: Shelf>(
+        &mut self,
+        shelf: &mut V,
+        cloud: CloudNo,
+        place: u64,
+        out: &mut [u8],
+    ) -> Result<usize, Failed>
+        ensures bytes { IsTrue (V.cloud_at shelf.old cloud.0).told → Agrees self.old ((V.cloud_at shelf.old cloud.0).now self.old.area).read
+            → IfOk result (λ count. ReadsFrom ((V.cloud_at shelf.old cloud.0).now self.old.area).read place count out.new) }
+        ensures blob { IsTrue (V.cloud_at shelf.old cloud.0).told → Agrees self.old ((V.cloud_at shelf.old cloud.0).now self.old.area).read
+            → (b : Placed) → b.place ≡ place → length b.blob ≡ length out.old → IsAt ((V.cloud_at shelf.old cloud.0).now self.old.area).read b
+            → OnOk result (out.new ≡ b.blob) }
+        ensures bound { IfOk result (λ count. count ≤ length out.new) }
+        ensures agrees { IsTrue (V.cloud_at shelf.old cloud.0).told → Agrees self.old ((V.cloud_at shelf.old cloud.0).now self.old.area).read
+            → Agrees self.new ((V.cloud_at shelf.new cloud.0).now self.new.area).read }
+        ensures no_call { (bytes : List ℕ) → IsKept self.old place (length out.old) bytes → (shelf.new ≡ shelf.old) × IsOk result }
+        ensures log { self.new ≡ record self.old { kept = self.new.kept } }
+        ensures kept { OnOk result (IsAfterRead self.old place self.new) }
+        ensures forgets { OnErr result (self.new.kept ≡ []) }
+        ensures stays { Stays (V.cloud_at shelf.old cloud.0) (V.cloud_at shelf.new cloud.0) }
+        ensures call { IsCall (V.cloud_at shelf.old) (V.cloud_at shelf.new) cloud.0 (V.faults shelf.old) (V.faults shelf.new) }
+        ensures failed { OnErr result (HasFailed (V.cloud_at shelf.old cloud.0) (V.cloud_at shelf.new cloud.0) (V.faults shelf.old) (V.faults shelf.new)) }
+        ensures uncounted { OnOk result (KeepsCounts (V.cloud_at shelf.old cloud.0) (V.cloud_at shelf.new cloud.0) (V.faults shelf.old) (V.faults shelf.new)) }
+    {
+        match read_kept(&mut self.cache, shelf, cloud, self.area, place, out) {
+            Ok(count) => Ok(count),
+            Err(Failed) => {
+                self.cache.forget();
+                Err(Failed)
+            }
+        }
+    }
+
+    /// The same by one device call that reads these bytes alone, whatever is kept: so the answer is the area's in any case. Nothing is
+    /// kept for it or forgotten, and it takes no memory.
+    pub fn read_alone<V: Shelf>(
         &mut self,
         shelf: &mut V,
         cloud: CloudNo,

@@ -50,7 +50,7 @@ fn calls(shelf: &MemShelf) -> u64 {
 #[test]
 fn a_flush_is_one_write_and_one_sync(rt: HostRuntime) -> Result<(), Fail> {
     let mut shelf = MemShelf::of(rt.alloc(), 3, 10_000, 100, &[])?;
-    let mut log = Log::make(rt.alloc(), Area::Shares, 9_000)?;
+    let mut log = Log::make(rt.alloc(), Area::Shares, 9_000, 0)?;
     assert_eq!(rt; log.flush(&mut shelf, TWO), Ok(()));
     assert_eq!(rt; calls(&shelf), 0);
     let large = blob_of(rt.alloc(), 8_208, 3)?;
@@ -93,7 +93,7 @@ fn a_flush_is_one_write_and_one_sync(rt: HostRuntime) -> Result<(), Fail> {
 #[test]
 fn a_blob_lies_in_one_container(rt: HostRuntime) -> Result<(), Fail> {
     let mut shelf = MemShelf::of(rt.alloc(), 3, 4_194_400, 100, &[])?;
-    let mut log = Log::make(rt.alloc(), Area::Recipes, 4_194_400)?;
+    let mut log = Log::make(rt.alloc(), Area::Recipes, 4_194_400, 0)?;
     assert!(rt; shelf.write(TWO, Area::Recipes, 4_194_300, &[7; 20]).is_ok());
     log.reset(4_194_298);
     assert_eq!(rt; staged(&mut log, &[1]), Ok(4_194_298));
@@ -120,7 +120,7 @@ fn a_blob_lies_in_one_container(rt: HostRuntime) -> Result<(), Fail> {
 
 #[test]
 fn a_limit_is_kept(rt: HostRuntime) -> Result<(), Fail> {
-    let mut log = Log::make(rt.alloc(), Area::Shares, 19)?;
+    let mut log = Log::make(rt.alloc(), Area::Shares, 19, 0)?;
     assert_eq!(rt; staged(&mut log, &[1; 12]), Ok(0));
     let full = Stop::Full {
         used: 0,
@@ -129,7 +129,7 @@ fn a_limit_is_kept(rt: HostRuntime) -> Result<(), Fail> {
     };
     assert_eq!(rt; staged(&mut log, &[2; 8]), Err(full));
     assert_eq!(rt; staged(&mut log, &[2; 7]), Ok(12));
-    let mut log = Log::make(rt.alloc(), Area::Shares, 4_194_308)?;
+    let mut log = Log::make(rt.alloc(), Area::Shares, 4_194_308, 0)?;
     log.reset(4_194_300);
     let full = Stop::Full {
         used: 4_194_300,
@@ -161,7 +161,7 @@ fn a_stopped_flush_leaves_what_was_there(rt: HostRuntime) -> Result<(), Fail> {
         (2, 0, [2, 2, 2]),
     ] {
         let mut shelf = MemShelf::of(rt.alloc(), 3, 100, 100, &[])?;
-        let mut log = Log::make(rt.alloc(), Area::Shares, 100)?;
+        let mut log = Log::make(rt.alloc(), Area::Shares, 100, 0)?;
         assert_eq!(rt; staged(&mut log, &[1; 2]), Ok(0));
         assert_eq!(rt; log.flush(&mut shelf, TWO), Ok(()));
         assert_eq!(rt; staged(&mut log, &[2; 3]), Ok(2));
@@ -184,6 +184,75 @@ fn a_stopped_flush_leaves_what_was_there(rt: HostRuntime) -> Result<(), Fail> {
             eight(&mut log, &mut shelf, 0),
             Ok([1, 1, 5, b, c, 9, 9, 9])
         );
+    }
+    Ok(())
+}
+
+// How many calls a read of eleven bytes makes, where it gives that many of this value.
+fn calls_of_read(log: &mut Log, shelf: &mut MemShelf, place: u64, byte: u8) -> Option<u64> {
+    let before = calls(shelf);
+    let mut out = [0; 11];
+    match log.read(shelf, TWO, place, &mut out) {
+        Ok(11) => {}
+        _ => return None,
+    }
+    if out == [byte; 11] {
+        Some(calls(shelf).saturating_sub(before))
+    } else {
+        None
+    }
+}
+
+#[test]
+fn a_container_is_read_once(rt: HostRuntime) -> Result<(), Fail> {
+    for (keep, again) in [(4, 0), (0, 1)] {
+        let mut shelf = MemShelf::of(rt.alloc(), 3, 10_000, 100, &[])?;
+        let mut log = Log::make(rt.alloc(), Area::Shares, 9_000, keep)?;
+        assert_eq!(rt; staged(&mut log, &[1; 11]), Ok(0));
+        assert_eq!(rt; staged(&mut log, &[2; 11]), Ok(11));
+        assert_eq!(rt; staged(&mut log, &[3; 11]), Ok(22));
+        assert_eq!(rt; log.flush(&mut shelf, TWO), Ok(()));
+        log.reset(33);
+        assert_eq!(rt; calls_of_read(&mut log, &mut shelf, 0, 1), Some(1));
+        assert_eq!(rt; calls_of_read(&mut log, &mut shelf, 11, 2), Some(again));
+        assert_eq!(rt; calls_of_read(&mut log, &mut shelf, 22, 3), Some(again));
+        // The container is short, so it is forgotten where the log is written, and read with the new blob.
+        assert_eq!(rt; staged(&mut log, &[4; 11]), Ok(33));
+        assert_eq!(rt; log.flush(&mut shelf, TWO), Ok(()));
+        assert_eq!(rt; calls_of_read(&mut log, &mut shelf, 33, 4), Some(1));
+        assert_eq!(rt; calls_of_read(&mut log, &mut shelf, 0, 1), Some(again));
+        // Of a cut write nothing that was kept is left.
+        assert_eq!(rt; staged(&mut log, &[5; 11]), Ok(44));
+        shelf.arm(TWO, 1, 0);
+        assert_eq!(rt; log.flush(&mut shelf, TWO), Err(Failed));
+        assert_eq!(rt; calls_of_read(&mut log, &mut shelf, 0, 1), Some(1));
+    }
+    Ok(())
+}
+
+#[test]
+fn the_last_containers_are_kept(rt: HostRuntime) -> Result<(), Fail> {
+    for (keep, again) in [(2, 0), (1, 1)] {
+        let mut shelf = MemShelf::of(rt.alloc(), 3, 4_194_400, 100, &[])?;
+        let mut log = Log::make(rt.alloc(), Area::Recipes, 4_194_400, keep)?;
+        assert!(rt; shelf.write(TWO, Area::Recipes, 0, &[1; 11]).is_ok());
+        assert!(rt; shelf.write(TWO, Area::Recipes, 4_194_304, &[2; 11]).is_ok());
+        log.reset(4_194_315);
+        assert_eq!(rt; calls_of_read(&mut log, &mut shelf, 0, 1), Some(1));
+        assert_eq!(rt; calls_of_read(&mut log, &mut shelf, 4_194_304, 2), Some(1));
+        assert_eq!(rt; calls_of_read(&mut log, &mut shelf, 0, 1), Some(again));
+        // Bytes of two containers are read by one call, and kept of neither.
+        let mut out = [9; 8];
+        let before = calls(&shelf);
+        assert_eq!(rt; log.read(&mut shelf, TWO, 4_194_300, &mut out), Ok(8));
+        assert_eq!(rt; out, [0, 0, 0, 0, 2, 2, 2, 2]);
+        assert_eq!(rt; calls(&shelf), before.saturating_add(1));
+        // The first container is whole and isn't written, so it is kept over a flush of the second.
+        assert_eq!(rt; calls_of_read(&mut log, &mut shelf, 0, 1), Some(0));
+        assert_eq!(rt; staged(&mut log, &[3; 11]), Ok(4_194_315));
+        assert_eq!(rt; log.flush(&mut shelf, TWO), Ok(()));
+        assert_eq!(rt; calls_of_read(&mut log, &mut shelf, 0, 1), Some(0));
+        assert_eq!(rt; calls_of_read(&mut log, &mut shelf, 4_194_315, 3), Some(1));
     }
     Ok(())
 }

@@ -1,5 +1,5 @@
 -- One cloud opened, and clouds in order.
-use Rattle.std.proofs.Common.{◌≡◌, ℕ, ◌<◌, true, false, List, length, refl, sym, subst, inl, inr}
+use Rattle.std.proofs.Common.{◌≡◌, ℕ, ◌<◌, true, false, List, refl, sym, subst, inl, inr}
 use Rattle.std.specs.Prelude.{IsTrue, Some, Result, Ok, Err, IfOk, IsSomeAnd}
 use Rattle.std.specs.List.{Contains}
 use Rattle.cd_base.specs.Limits.{greatest_rooms}
@@ -23,6 +23,7 @@ use Rattle.cloud_store.specs.Standing.{StandsForSome, ImagesNow, ImagesSince}
 use Rattle.cloud_store.specs.Store.{StandsFor}
 use Rattle.cd_base.specs.declared.shape.Shape.{Shape}
 use Rattle.share_server.specs.declared.server.Server.{Server}
+use Rattle.share_server.specs.Names.{counted}
 use Rattle.share_server.specs.Serving.{settled_with}
 use Rattle.local_link.specs.declared.link.LocalLink.{LocalLink}
 use Rattle.local_link.specs.Calls.{header_of}
@@ -97,7 +98,7 @@ module _ {V : Type 0} (clouds : V → ℕ → Cloud) where
       → (IsTrue (clouds mid.shelf.now cloud.0).told → (list : List Command) → StandsFor (reads (clouds mid.shelf.now cloud.0).now) (header_of mid.servers.shape cloud.0) list
       → IsSomeAnd (server_at mid.servers cloud.0) (λ (s : Server). IsWithin s.state.rooms list → MayBegin ((clouds mid.shelf.now cloud.0).now Journal).read false → IsOkOrFault result))
       → (IsTrue (clouds mid.shelf.now cloud.0).told → (list : List Command) → StandsFor (reads (clouds mid.shelf.now cloud.0).now) (header_of mid.servers.shape cloud.0) list
-      → IfOk result (λ commands. (commands ≡ length list) × StandsAt clouds new cloud.0 (settled_with list (clouds new.shelf.now cloud.0))))
+      → IfOk result (λ commands. (commands ≡ counted list) × StandsAt clouds new cloud.0 (settled_with list (clouds new.shelf.now cloud.0))))
       → OnFault result (HasFailed (clouds mid.shelf.now cloud.0) (clouds new.shelf.now cloud.0) before now) (KeepsCounts (clouds mid.shelf.now cloud.0) (clouds new.shelf.now cloud.0) before now)
       → (IsTrue (clouds mid.shelf.now cloud.0).told → Spares (header_of mid.servers.shape cloud.0) false (clouds mid.shelf.now cloud.0) (clouds new.shelf.now cloud.0) result)
       → (IsTrue (clouds mid.shelf.now cloud.0).told → (lists : List (List Command)) → IsSomeAnd (server_at mid.servers cloud.0) (λ (s : Server).
@@ -140,7 +141,7 @@ module _ {V : Type 0} (clouds : V → ℕ → Cloud) where
           → (IsTrue old.told → NotBegunIs old after false r) → (IsTrue old.told → OtherStoreIs (old.now Journal).read asked r)
           → (IsTrue old.told → (list : List Command) → StandsFor (reads old.now) asked list
           → IsSomeAnd (server_at mid.servers cloud.0) (λ (s : Server). IsWithin s.state.rooms list → MayBegin (old.now Journal).read false → IsOkOrFault r))
-          → (IsTrue old.told → (list : List Command) → StandsFor (reads old.now) asked list → IfOk r (λ commands. (commands ≡ length list) × StandsAt clouds new cloud.0 (settled_with list after)))
+          → (IsTrue old.told → (list : List Command) → StandsFor (reads old.now) asked list → IfOk r (λ commands. (commands ≡ counted list) × StandsAt clouds new cloud.0 (settled_with list after)))
           → OnFault r (HasFailed old after before now) (KeepsCounts old after before now)
           → Opening clouds mid.servers.shape old before new now cloud.0 (came_by cloud r)
       by_result (Ok commands) exact begun own whole loaded counts = record {

@@ -1,6 +1,6 @@
 -- What a restore from opened clouds comes to.
-use Rattle.std.proofs.Common.{◌≡◌, ℕ, ◌<◌, Bool, true, false, cond, nat_eq, List, [], ◌∷◌, refl, sym, ap, ◌∙◌, subst, inl, inr}
-use Rattle.std.specs.Prelude.{IsTrue, Some, None, Result, Ok, Err, IfErr, OnOk, All}
+use Rattle.std.proofs.Common.{◌≡◌, ℕ, ◌<◌, ◌⊎◌, Bool, true, false, cond, nat_eq, List, [], ◌∷◌, ◌++◌, refl, sym, ap, ◌∙◌, subst, inl, inr}
+use Rattle.std.specs.Prelude.{IsTrue, Some, None, Result, Ok, Err, IfErr, All}
 use Rattle.std.specs.List.{Contains}
 use Rattle.std.proofs.lemmas.Bool.{cases_eq, eq-eqb, ne_eqb}
 use Rattle.cd_base.specs.declared.ids.CloudNo.{CloudNo}
@@ -14,7 +14,7 @@ use Rattle.cd_edges.proofs.Moments.{joined, weaker}
 use Rattle.caont_rs.specs.declared.opening.RecoverErr.TheVariants as opening
 use Rattle.user_dedup.specs.declared.command.Command.{Command}
 use Rattle.user_dedup.specs.Exec.{Peer, MaySettleAs}
-use Rattle.user_dedup.specs.Link.{Exchange, Passes, ReadsFrom}
+use Rattle.user_dedup.specs.Link.{Exchange, Passes, ReadsFrom, Talk}
 use Rattle.user_dedup.proofs.Owned.{contains_here, contains_later, contains_cases, contains_nothing}
 use Rattle.cloud_store.specs.Standing.{StandsForSome, ImagesSince}
 use Rattle.cloud_store.specs.Store.{StandsFor}
@@ -24,20 +24,29 @@ use Rattle.local_link.specs.declared.link.LocalLink.{LocalLink}
 use Rattle.local_link.specs.Calls.{header_of}
 use Rattle.local_link.specs.Tells.{is_delivered, telling}
 use Rattle.local_link.proofs.Passing.{read_images, read_others}
-use Rattle.restore_job.specs.Asking.{PeersOf, OnlyRead, MayRead, Leads, Asked, is_lost, TellsAll}
+use Rattle.restore_job.specs.Asking.{PeersOf, OnlyRead, MayRead, Asked, is_lost, TellsAll}
 use Rattle.restore_job.specs.Brought.{Brought}
-use Rattle.restore_job.specs.Reading.{Ends, Restores}
-use Rattle.restore_job.specs.Refusals.{Names, Causes}
+use Rattle.restore_job.specs.Reading.{Ends}
+use Rattle.restore_job.specs.Refusals.{Names, Caused}
 use Rattle.restore_job.specs.Restored
-use Rattle.restore_job.specs.Restored.{Unrestored, restored_file}
+use Rattle.restore_job.specs.Restored.{Unrestored}
 use Rattle.restore_job.specs.declared.error.RestoreErr.{RestoreErr}
 use Rattle.restore_job.specs.declared.error.RestoreErr.TheVariants as errors
 use Rattle.transcript.specs.declared.refusal.Refusal.{Refusal}
 use Rattle.transcript.specs.declared.refusal.Refusal.TheVariants as refusals
 use Rattle.disk_reading.specs.Disks.{AreReadable, KeepsDisks}
 use Rattle.disk_reading.specs.Opening.{AreOpened}
-use Rattle.disk_reading.specs.Refusals.{refusal_of, refusal_text}
-use Rattle.disk_reading.specs.Ends.{Outside, HaveLists, RoseBy, IsRefusalDue, CameTo, CameDue}
+use Rattle.restore_lines.specs.Refusals.{refusal_of, refusal_text}
+use Rattle.subset_restore.specs.Ends.{Sought, AnyEnds, GivesNone, NoneCame, WasLost, any_outcome, outcome_of}
+use Rattle.subset_restore.specs.Ends.{IsNone as AnyNone}
+use Rattle.subset_restore.specs.Subsets.{subsets}
+use Rattle.subset_restore.specs.Tries.{Try}
+use Rattle.subset_restore.proofs.Calling.{among_chosen, none_by, none_lost}
+use Rattle.subset_restore.proofs.Choices.{subset_among}
+use Rattle.subset_restore.proofs.Elements.{all_of, contains_back, contains_front, of_all}
+use Rattle.subset_restore.proofs.Going.{any_at, any_none}
+use Rattle.disk_reading.specs.Ends.{Outside, HaveLists, RoseBy, Due, due_of, IsNone, HoldsFailed, IsFileDue, IsRefusalDue}
+use Rattle.disk_reading.specs.Ends.{IsFaultLine, IsLineOf, CameTo, CameDue}
 use Rattle.disk_reading.proofs.Row.{of_one}
 
 -- ---- which clouds are named, as a test
@@ -79,32 +88,125 @@ only_list : (list : List Command) (cloud : Cloud) (other : List Command) → May
 only_list list cloud other (inl e) = e
 only_list list cloud other (inr x) = absurd x
 
--- a refusal over told clouds is the one that is due
-due_said : (c : Outside) (named : List ℕ) (due : Result (List ℕ) Unrestored) (e : RestoreErr) (file : List ℕ) (before after : ℕ → Peer)
-    → (let came : Result (Unit {0}) RestoreErr = Err e in Ends due named came [] file before after)
+-- the line of a refusal over told clouds is that of what they give, or of a failed device
+line_due : (c : Outside) (clouds : List ℕ) (given : Result (List ℕ) Unrestored) (e : RestoreErr) (was left : List ℕ)
+    (before after : ℕ → Peer)
+    → (let came : Result (Unit {0}) RestoreErr = Err e in Ends given clouds came was left before after)
     → (let came : Result (Unit {0}) RestoreErr = Err e in is_lost came ≡ false) → RoseBy c e
-    → (why : Refusal) → refusal_of e ≡ Some why → IsRefusalDue c named due (refusal_text why)
-due_said c named due (errors.Missing cloud) file before after ends found rose why is = inl (Restored.Missing cloud.0, why, ends, is, refl)
-due_said c named due (errors.RecipesDiffer a b place) file before after ends found rose why is = inl (Restored.RecipesDiffer a.0 b.0 place, why, ends, is, refl)
-due_said c named due (errors.ShareLength cloud secret wrong wanted) file before after ends found rose why is = inl (Restored.ShareLength cloud.0 secret wrong wanted, why, ends, is, refl)
-due_said c named due (errors.BadSecret secret name wrong) file before after ends found rose why is = inl (Restored.NotOpened secret (opening.BadSecret name wrong), why, ends, is, refl)
-due_said c named due (errors.BadPad secret at byte) file before after ends found rose why is = inl (Restored.NotOpened secret (opening.BadPad at byte), why, ends, is, refl)
-due_said c named due (errors.CloudFault cloud) file before after ends found rose why is =
+    → (why : Refusal) → refusal_of e ≡ Some why
+    → IsLineOf given (refusal_text why) ⊎ IsFaultLine c clouds (refusal_text why)
+line_due c clouds given (errors.Missing cloud) was left before after ends found rose why is =
+    inl (Restored.Missing cloud.0, why, ends, is, refl)
+line_due c clouds given (errors.RecipesDiffer a b place) was left before after ends found rose why is =
+    inl (Restored.RecipesDiffer a.0 b.0 place, why, ends, is, refl)
+line_due c clouds given (errors.ShareLength cloud secret wrong wanted) was left before after ends found rose why is =
+    inl (Restored.ShareLength cloud.0 secret wrong wanted, why, ends, is, refl)
+line_due c clouds given (errors.BadSecret secret name wrong) was left before after ends found rose why is =
+    inl (Restored.NotOpened secret (opening.BadSecret name wrong), why, ends, is, refl)
+line_due c clouds given (errors.BadPad secret at byte) was left before after ends found rose why is =
+    inl (Restored.NotOpened secret (opening.BadPad at byte), why, ends, is, refl)
+line_due c clouds given (errors.CloudFault cloud) was left before after ends found rose why is =
     let same : Some (refusals.Fault cloud) ≡ Some why = is in
     let text : refusals.Fault cloud ≡ why = cc in
     inr (cloud.0, ends.0, ap refusal_text (sym text), rose)
-due_said c named due (errors.Lost cloud) file before after ends found rose why is = absurd (let never : true ≡ false = found in cc)
-due_said c named due errors.NoMemory file before after ends found rose why is = absurd (let never : None ≡ Some why = is in cc)
-due_said c named due (errors.CloudDamaged cloud at byte) file before after ends found rose why is = absurd ends
-due_said c named due (errors.CloudRotten cloud name wrong) file before after ends found rose why is = absurd ends
-due_said c named due (errors.CloudNoMemory cloud) file before after ends found rose why is = absurd ends
-due_said c named due (errors.Strange cloud kind) file before after ends found rose why is = absurd ends
-due_said c named due (errors.BadShare cloud secret name wrong) file before after ends found rose why is = absurd ends
+line_due c clouds given (errors.Lost cloud) was left before after ends found rose why is =
+    absurd (let never : true ≡ false = found in cc)
+line_due c clouds given errors.NoMemory was left before after ends found rose why is =
+    absurd (let never : None ≡ Some why = is in cc)
+line_due c clouds given (errors.CloudDamaged cloud at byte) was left before after ends found rose why is = absurd ends
+line_due c clouds given (errors.CloudRotten cloud name wrong) was left before after ends found rose why is = absurd ends
+line_due c clouds given (errors.CloudNoMemory cloud) was left before after ends found rose why is = absurd ends
+line_due c clouds given (errors.Strange cloud kind) was left before after ends found rose why is = absurd ends
+line_due c clouds given (errors.BadShare cloud secret name wrong) was left before after ends found rose why is =
+    absurd ends
 
-came_due : (c : Outside) (named : List ℕ) (due : Result (List ℕ) Unrestored) (came : Result (Unit {0}) RestoreErr) (file : List ℕ) (before after : ℕ → Peer)
-    → Ends due named came [] file before after → is_lost came ≡ false → IfErr came (RoseBy c) → CameDue c named due came file
-came_due c named due (Ok u) file before after ends found rose = ends.2 ∙ ap Ok (sym ends.1)
-came_due c named due (Err e) file before after ends found rose = λ why is. due_said c named due e file before after ends found rose why is
+-- counts of peers that are those of the clouds
+record Counts (c : Outside) (named : List ℕ) (before after : ℕ → Peer) : Type 0 where
+  olds : (cloud : ℕ) → Contains named cloud → (before cloud).faults ≡ (c.old cloud).faults
+  news : (cloud : ℕ) → Contains named cloud → (after cloud).faults ≡ (c.new cloud).faults
+
+rises_too : (c : Outside) (named : List ℕ) (before after : ℕ → Peer) → Counts c named before after → (cloud : ℕ)
+    → Contains named cloud → Rose (before cloud).faults (after cloud).faults
+    → Rose (c.old cloud).faults (c.new cloud).faults
+rises_too c named before after counts cloud has rose =
+    subst (λ (n : ℕ). Rose n (c.new cloud).faults) (counts.olds cloud has)
+    (subst (λ (n : ℕ). Rose (before cloud).faults n) (counts.news cloud has) rose)
+
+-- over told clouds of which no ask was lost
+module _ (c : Outside) (s : Sought) (tries : List Try) (before after : ℕ → Peer)
+    (counts : Counts c s.clouds before after) (unlost : (cloud : ℕ) → WasLost tries cloud → ⊥) where
+  abbrev lists : ℕ → List Command
+  lists cloud = (after cloud).list
+
+  abbrev due : Due
+  due = due_of s.shape s.user (s.tag, s.version) s.clouds lists
+
+  abbrev Among : List ℕ → Type 0
+  Among subset = (cloud : ℕ) → Contains subset cloud → Contains s.clouds cloud
+
+  none_of : (subset : List ℕ) → Among subset → AnyNone s tries before after subset → IsNone c due subset
+  none_of subset among (inl gives) = inl gives
+  none_of subset among (inr (cloud, has, inl rose)) =
+      inr (cloud, has, rises_too c s.clouds before after counts cloud (among cloud has) rose)
+  none_of subset among (inr (cloud, has, inr lost)) = absurd (unlost cloud lost)
+
+  gives_none : (HoldsFailed c s.clouds → ⊥) → (subset : List ℕ) → Among subset → IsNone c due subset
+      → GivesNone s after subset
+  gives_none free subset among (inl gives) = gives
+  gives_none free subset among (inr (cloud, has, rose)) = absurd (free (cloud, among cloud has, rose))
+
+  -- the choices in front of one
+  front_among : (front rest : List (List ℕ)) (chosen : List ℕ) → subsets s.shape.k s.clouds ≡ front ++ chosen ∷ rest
+      → (x : List ℕ) → Contains front x → Among x
+  front_among front rest chosen split x has =
+      subset_among s.shape.k s.clouds x (subst (λ (l : List (List ℕ)). Contains l x) (sym split)
+      (contains_front front (chosen ∷ rest) x has))
+
+  file_due : (front rest : List (List ℕ)) (chosen : List ℕ) (file : List ℕ)
+      → subsets s.shape.k s.clouds ≡ front ++ chosen ∷ rest → outcome_of s after chosen ≡ Ok file
+      → All (AnyNone s tries before after) front → IsFileDue c s.clouds due file
+  file_due front rest chosen file split given none =
+      let each : (x : List ℕ) → Contains front x → IsNone c due x = λ x has.
+      none_of x (front_among front rest chosen split x has) (of_all (AnyNone s tries before after) front x none has) in
+      record {
+        front = front;
+        chosen = chosen;
+        rest = rest;
+        in_order = split;
+        given = given;
+        before = all_of (IsNone c due) front each;
+        exact = λ free. any_at s after front chosen rest file split
+            (λ x has. gives_none free x (front_among front rest chosen split x has) (each x has)) given;
+      }
+
+  refusal_due : (first : List ℕ) (rest : List (List ℕ)) (e : RestoreErr) (was left : List ℕ)
+      → subsets s.shape.k s.clouds ≡ first ∷ rest
+      → (let came : Result (Unit {0}) RestoreErr = Err e in Ends (outcome_of s after first) first came was left before after)
+      → All (AnyNone s tries before after) (subsets s.shape.k s.clouds)
+      → (let came : Result (Unit {0}) RestoreErr = Err e in is_lost came ≡ false) → RoseBy c e
+      → (why : Refusal) → refusal_of e ≡ Some why → IsRefusalDue c s.clouds due (refusal_text why)
+  refusal_due first rest e was left split ends none found rose why is =
+      let all = subsets s.shape.k s.clouds in
+      let each : (x : List ℕ) → Contains all x → IsNone c due x = λ x has.
+      none_of x (subset_among s.shape.k s.clouds x has) (of_all (AnyNone s tries before after) all x none has) in
+      let line = line_due c first (outcome_of s after first) e was left before after ends found rose why is in
+      record {
+        first = first;
+        rest = rest;
+        in_order = split;
+        none = all_of (IsNone c due) all each;
+        line = line;
+        exact = λ free. of_first free line
+            (any_none s after first rest split
+            (λ x has. gives_none free x (subset_among s.shape.k s.clouds x has) (each x has)));
+      }
+    where
+      of_first : (HoldsFailed c s.clouds → ⊥) → IsLineOf (outcome_of s after first) (refusal_text why)
+          ⊎ IsFaultLine c first (refusal_text why) → any_outcome s after ≡ outcome_of s after first
+          → IsLineOf (any_outcome s after) (refusal_text why)
+      of_first free (inl line) same = (line.0, line.1, same ∙ line.2, line.3, line.4)
+      of_first free (inr fault) same =
+          absurd (free (fault.0, among_chosen s.shape.k s.clouds first [] rest split fault.0 fault.1, fault.3))
 
 -- a device that failed is one whose cloud's count rose
 rose_by : (c : Outside) (named : List ℕ) (e : RestoreErr) (before after : ℕ → Peer) → Names (Contains named) e
@@ -157,58 +259,109 @@ module _ {V : Type 0} (clouds : V → ℕ → Cloud) (named : List ℕ) (shape :
         sound = λ told. ((opened.each cloud has).loaded (told_back cloud told) (lists cloud) (lists_old lists have cloud has (told_back cloud told))).sound told;
       }
 
-  module _ (user : UserId) (key : Tag × Version) (result : Result (Unit {0}) RestoreErr) (was file : List ℕ) (none : was ≡ []) (fate : old.fate ≡ Deliver)
-      (asked : Asked (telling clouds) named mid new (is_lost result))
-      (restored : Leads (telling clouds) named mid new (Causes (telling clouds) mid shape user key result) (Restores shape user key named result was file))
-      (names : IfErr result (Names (Contains named))) (brought : OnOk result (Brought shape named was file)) where
+  module _ (user : UserId) (tag : Tag) (version : Version) (talk : LocalLink V → ℕ → Talk → Type 0)
+      (result : Result (Unit {0}) RestoreErr) (was file : List ℕ) (none : was ≡ []) (fate : old.fate ≡ Deliver)
+      (asked : Asked (telling clouds) named mid new (is_lost result)) where
+    abbrev pub wanted : Sought
+    wanted = record { shape = shape; user = user; tag = tag; version = version; clouds = named }
+
+    lossless : IsTrue ((telling clouds).lossless mid)
+    lossless = ap is_delivered (opened.fate ∙ fate)
+
     found : is_lost result ≡ false
-    found = (asked.lossless (ap is_delivered (opened.fate ∙ fate))).0
+    found = (asked.lossless lossless).0
 
-    rose : (lists : ℕ → List Command) → HaveLists around shape named lists → IfErr result (RoseBy around)
-    rose lists have = by_result result names went.3
-      where
-        went : (after : ℕ → Peer) × PeersOf (telling clouds) new (among named) after × OnlyRead named (peers lists) after
-            × Causes (telling clouds) mid shape user key result (peers lists) after
-            × (TellsAll (telling clouds) mid named → Restores shape user key named result was file (peers lists) after)
-        went = restored (among named) (λ cloud has. among_has named cloud has) (peers lists) (stand lists have)
+    module _ (names : IfErr result (Names (Contains named)))
+        (restored : AnyEnds (telling clouds) talk wanted mid new was file result) where
+      counts_of : (lists : ℕ → List Command) (after : ℕ → Peer) → PeersOf (telling clouds) new (among named) after
+          → Counts around named (peers lists) after
+      counts_of lists after stand_now = record {
+        olds = λ cloud has. (opened.each cloud has).faults;
+        news = λ cloud has. (stand_now cloud (among_has named cloud has)).faults;
+      }
 
-        by_result : (r : Result (Unit {0}) RestoreErr) → IfErr r (Names (Contains named)) → Causes (telling clouds) mid shape user key r (peers lists) went.0 → IfErr r (RoseBy around)
-        by_result (Ok u) n causes = tt
-        by_result (Err e) n causes = rose_by around named e (peers lists) went.0 n
-            (λ cloud has. (opened.each cloud has).faults)
-            (λ cloud has. (went.1 cloud (among_has named cloud has)).faults)
-            (λ cloud is. subst (λ (x : RestoreErr). let r : Result (Unit {0}) RestoreErr = Err x in Causes (telling clouds) mid shape user key r (peers lists) went.0) is causes)
+      rose_in : (e : RestoreErr) → Names (Contains named) e → NoneCame (telling clouds) talk wanted mid new was e
+          → (lists : ℕ → List Command) → HaveLists around shape named lists → RoseBy around e
+      rose_in e n came lists have =
+          let went = came.leads (among named) (λ cloud has. among_has named cloud has) (peers lists) (stand lists have) in
+          let y : Try = record { subset = came.first; refusal = e } in
+          let here : Contains came.tries y = subst (λ (l : List Try). Contains l y) (sym came.tries_are)
+          (contains_here y came.more) in
+          let caused = of_all (λ (x : Try). Caused (telling clouds) mid shape user (tag, version) x.refusal (peers lists) went.0)
+          came.tries y went.3 here in
+          let counts = counts_of lists went.0 went.1 in
+          rose_by around named e (peers lists) went.0 n counts.olds counts.news
+          (λ cloud is. subst (λ (x : RestoreErr). Caused (telling clouds) mid shape user (tag, version) x (peers lists) went.0)
+          is caused)
 
-    pub came_to : CameTo around shape named result file
-    came_to = by_result result names (subst (λ (l : List ℕ). OnOk result (Brought shape named l file)) none brought) found rose
-      where
-        by_result : (r : Result (Unit {0}) RestoreErr) → IfErr r (Names (Contains named)) → OnOk r (Brought shape named [] file) → is_lost r ≡ false
-            → ((lists : ℕ → List Command) → HaveLists around shape named lists → IfErr r (RoseBy around)) → CameTo around shape named r file
-        by_result (Ok u) n b f rises = b
-        by_result (Err e) n b f rises = record { names = n; rose = rises; found = f }
+      pub came_to : CameTo around shape named result file
+      came_to = by_result result names restored found
+        where
+          by_result : (r : Result (Unit {0}) RestoreErr) → IfErr r (Names (Contains named))
+              → AnyEnds (telling clouds) talk wanted mid new was file r → is_lost r ≡ false
+              → CameTo around shape named r file
+          by_result (Ok u) n came f = (
+            came.subset,
+            subst (λ (l : List (List ℕ)). Contains l came.subset) (sym came.split)
+                (contains_back came.front (came.subset ∷ came.rest) came.subset (contains_here came.subset came.rest)),
+            subst (λ (l : List ℕ). Brought shape came.subset l file) none came.brought,
+          )
+          by_result (Err e) n came f = record {
+            names = n;
+            rose = none_by (telling clouds) talk wanted was mid new
+                (λ x. Names (Contains named) x → (lists : ℕ → List Command) → HaveLists around shape named lists
+                → RoseBy around x) (λ names lists have. tt) (λ x is names. rose_in x names is) e came n;
+            found = f;
+          }
 
-    pub is_due : (lists : ℕ → List Command) → AreReadable shape named (clouds old.shelf.now) lists
-        → CameDue around named (restored_file shape lists user key named) result file
-    is_due lists are =
-        subst (λ (f : ℕ → List Command). CameDue around named (restored_file shape f user key named) result file) all_same
-        (came_due around named (restored_file shape (λ cloud. (went.0 cloud).list) user key named) result file (peers lists) went.0
-        (subst (λ (l : List ℕ). Ends (restored_file shape (λ cloud. (went.0 cloud).list) user key named) named result l file (peers lists) went.0) none
-        (went.4 (λ cloud has. told_on cloud (are cloud has).told)).ends)
-        found (rose lists have))
-      where
-        have : HaveLists around shape named lists
-        have cloud has told = (are cloud has).stands
+      pub is_due : (lists : ℕ → List Command) → AreReadable shape named (clouds old.shelf.now) lists
+          → CameDue around named (due_of shape user (tag, version) named lists) result file
+      is_due lists are = by_result result names restored found
+        where
+          have : HaveLists around shape named lists
+          have cloud has told = (are cloud has).stands
 
-        went : (after : ℕ → Peer) × PeersOf (telling clouds) new (among named) after × OnlyRead named (peers lists) after
-            × Causes (telling clouds) mid shape user key result (peers lists) after
-            × (TellsAll (telling clouds) mid named → Restores shape user key named result was file (peers lists) after)
-        went = restored (among named) (λ cloud has. among_has named cloud has) (peers lists) (stand lists have)
+          told : TellsAll (telling clouds) mid named
+          told cloud has = told_on cloud (are cloud has).told
 
-        same_at : (cloud : ℕ) → (went.0 cloud).list ≡ lists cloud
-        same_at cloud = same_list (lists cloud) (clouds mid.shelf.now cloud) (went.0 cloud) (went.2.read cloud)
+          same_lists : (after : ℕ → Peer) → OnlyRead named (peers lists) after → (λ cloud. (after cloud).list) ≡ lists
+          same_lists after read = λ i cloud. same_list (lists cloud) (clouds mid.shelf.now cloud) (after cloud) (read.read cloud) i
 
-        all_same : (λ cloud. (went.0 cloud).list) ≡ lists
-        all_same = λ i cloud. same_at cloud i
+          by_error : (e : RestoreErr) → NoneCame (telling clouds) talk wanted mid new was e → Names (Contains named) e
+              → (let r : Result (Unit {0}) RestoreErr = Err e in is_lost r ≡ false)
+              → (let r : Result (Unit {0}) RestoreErr = Err e in
+              CameDue around named (due_of shape user (tag, version) named lists) r file)
+          by_error e came n f why is =
+              let went = came.leads (among named) (λ cloud has. among_has named cloud has) (peers lists) (stand lists have) in
+              let counts = counts_of lists went.0 went.1 in
+              let unlost = none_lost (telling clouds) talk wanted was mid new came.tries came.refused lossless in
+              let known = went.4 told in
+              subst (λ (g : ℕ → List Command). IsRefusalDue around named (due_of shape user (tag, version) named g)
+              (refusal_text why)) (same_lists went.0 went.2)
+              (refusal_due around wanted came.tries (peers lists) went.0 counts unlost came.first came.rest e was was
+              came.first_is known.ends known.none f (rose_in e n came lists have) why is)
+
+          by_result : (r : Result (Unit {0}) RestoreErr) → IfErr r (Names (Contains named))
+              → AnyEnds (telling clouds) talk wanted mid new was file r → is_lost r ≡ false
+              → CameDue around named (due_of shape user (tag, version) named lists) r file
+          by_result (Ok u) n came f =
+              let went = came.leads (among named) (λ cloud has. among_has named cloud has) (peers lists) (stand lists have) in
+              let counts = counts_of lists went.0 went.1 in
+              let unlost = none_lost (telling clouds) talk wanted was mid came.mid came.tries came.refused lossless in
+              let known = went.4 told in
+              let ends = subst (λ (l : List ℕ). (bytes : List ℕ) × (file ≡ l ++ bytes)
+              × (outcome_of wanted went.0 came.subset ≡ Ok bytes)) none known.ends in
+              subst (λ (g : ℕ → List Command). IsFileDue around named (due_of shape user (tag, version) named g) file)
+              (same_lists went.0 went.2)
+              (file_due around wanted came.tries (peers lists) went.0 counts unlost came.front came.rest came.subset file
+              came.split (ends.2 ∙ ap Ok (sym ends.1)) known.front_none)
+          by_result (Err e) n came f =
+              none_by (telling clouds) talk wanted was mid new
+              (λ x. Names (Contains named) x → (let r : Result (Unit {0}) RestoreErr = Err x in is_lost r ≡ false)
+              → (let r : Result (Unit {0}) RestoreErr = Err x in
+              CameDue around named (due_of shape user (tag, version) named lists) r file))
+              (λ names unlost why is. absurd (let never : None ≡ Some why = is in cc))
+              (λ x is names unlost. by_error x is names unlost) e came n f
 
   -- the images of all, and the clouds that weren't named
   pub kept_on : (asks : List Exchange) → Passes (telling clouds) (ReadsFrom named) mid asks new → All (λ cloud. cloud < shape.n) named

@@ -1,5 +1,5 @@
 -- What is written at the end of a read.
-use Rattle.std.proofs.Common.{◌≡◌, ℕ, List, [], ◌∷◌, refl, sym, ap, ◌∙◌, subst, inl, inr, ◌⊎◌, append-nil}
+use Rattle.std.proofs.Common.{ℕ, List, [], ◌∷◌, refl, sym, subst, inl, inr, ◌⊎◌, append-nil}
 use Rattle.std.specs.Prelude.{Option, Some, None, Result, Ok, Err}
 use Rattle.std.specs.Io.KnownBytes.{Appends}
 use Rattle.std.specs.List.{Contains}
@@ -7,16 +7,15 @@ use Rattle.std.proofs.lemmas.List.Elements.{Contains-append_right}
 use Rattle.commit_journal.specs.declared.errors.OpenErr.TheVariants as errors
 use Rattle.user_dedup.proofs.Owned.{contains_here}
 use Rattle.user_dedup.specs.declared.command.Command.{Command}
-use Rattle.restore_job.specs.Brought.{Brought}
-use Rattle.restore_job.specs.Restored.{Unrestored}
 use Rattle.restore_job.specs.declared.error.RestoreErr.{RestoreErr}
 use Rattle.disk_reading.specs.declared.wanted.Wanted.{Wanted}
 use Rattle.disk_reading.specs.declared.end.ReadEnd.{ReadEnd}
 use Rattle.disk_reading.specs.declared.end.ReadEnd.TheVariants as ends
 use Rattle.disk_reading.specs.Disks.{AreReadable, StopsAt}
 use Rattle.disk_reading.specs.Opening.{EndsOpening, IsFree}
-use Rattle.disk_reading.specs.Refusals.{refusal_text}
-use Rattle.disk_reading.specs.Ends.{Outside, CameDue, IsRefusalDue, IsRefusalLine, IsText, IsWritten, Reads, Restored, given_of}
+use Rattle.restore_lines.specs.Refusals.{refusal_text}
+use Rattle.disk_reading.specs.Ends.{Outside, CameDue, Due, IsBrought, IsFileDue, IsRefusalDue, IsRefusalLine, IsText, IsWritten}
+use Rattle.disk_reading.specs.Ends.{Reads, Restored, given_of}
 
 pub nothing_more : (w : Option (List ℕ)) → Appends w w []
 nothing_more None = tt
@@ -24,13 +23,13 @@ nothing_more (Some bytes) = sym (append-nil bytes)
 
 -- a whole text that came of a restore
 whole_said : (c : Outside) (r : Wanted) (came : Result (Unit {0}) RestoreErr) (file text : List ℕ) → Restored c r came file → IsText came file text
-    → Brought r.shape r.clouds.now [] text ⊎ IsRefusalLine c r.shape r.clouds.now text
-whole_said c r (Ok u) file text is same = inl (subst (Brought r.shape r.clouds.now []) (sym same) is.came_to)
+    → IsBrought r.shape r.clouds.now text ⊎ IsRefusalLine c r.shape r.clouds.now text
+whole_said c r (Ok u) file text is same = inl (subst (IsBrought r.shape r.clouds.now) (sym same) is.came_to)
 whole_said c r (Err e) file text is same = inr (e, same.0, same.1, same.2, is.came_to)
 
-whole_due : (c : Outside) (r : Wanted) (came : Result (Unit {0}) RestoreErr) (file text : List ℕ) (due : Result (List ℕ) Unrestored) → CameDue c r.clouds.now due came file
-    → IsText came file text → (due ≡ Ok text) ⊎ IsRefusalDue c r.clouds.now due text
-whole_due c r (Ok u) file text due is same = inl (is ∙ ap Ok (sym same))
+whole_due : (c : Outside) (r : Wanted) (came : Result (Unit {0}) RestoreErr) (file text : List ℕ) (due : Due) → CameDue c r.clouds.now due came file
+    → IsText came file text → IsFileDue c r.clouds.now due text ⊎ IsRefusalDue c r.clouds.now due text
+whole_due c r (Ok u) file text due is same = inl (subst (IsFileDue c r.clouds.now due) (sym same) is)
 whole_due c r (Err e) file text due is same = inr (subst (IsRefusalDue c r.clouds.now due) (sym same.2) (is same.0 same.1))
 
 -- what was written of a restore

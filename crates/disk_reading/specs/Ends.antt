@@ -1,7 +1,10 @@
 -- How a read ends, and what is written then.
-use Rattle.std.specs.Prelude.{◌≡◌, ℕ, ◌⊎◌, false, IsTrue, List, [], ◌++◌, Option, Some, Result, Ok, Err}
+use Rattle.std.specs.Prelude.{◌≡◌, ℕ, ◌⊎◌, false, IsTrue, List, [], ◌∷◌, ◌++◌, Option, Some, Result, Ok, Err, All}
 use Rattle.std.specs.List.{Contains}
 use Rattle.std.specs.Io.KnownBytes.{Appends}
+use Rattle.cd_base.specs.declared.ids.Tag.{Tag}
+use Rattle.cd_base.specs.declared.ids.UserId.{UserId}
+use Rattle.cd_base.specs.declared.ids.Version.{Version}
 use Rattle.cd_base.specs.declared.shape.Shape.{Shape}
 use Rattle.cd_edges.specs.Causes.{Rose}
 use Rattle.cd_edges.specs.Disk.{Cloud, reads}
@@ -17,12 +20,15 @@ use Rattle.restore_job.specs.declared.error.RestoreErr.{RestoreErr}
 use Rattle.restore_job.specs.declared.error.RestoreErr.TheVariants as errors
 use Rattle.transcript.specs.declared.refusal.Refusal.{Refusal}
 use Rattle.transcript.specs.declared.refusal.Refusal.TheVariants as refusals
+use Rattle.restore_lines.specs.Refusals.{refusal_of, refusal_text}
+use Rattle.subset_restore.specs.Restored.{restored_any}
+use Rattle.subset_restore.specs.Subsets.{subsets}
 use Rattle.disk_reading.specs.declared.wanted.Wanted.{Wanted}
 use Rattle.disk_reading.specs.declared.end.ReadEnd.{ReadEnd}
 use Rattle.disk_reading.specs.declared.end.ReadEnd.TheVariants as ends
 use Rattle.disk_reading.specs.Disks.{AreReadable, IsOpened}
 use Rattle.disk_reading.specs.Opening.{EndsOpening}
-use Rattle.disk_reading.specs.Refusals.{cloud_no, refusal_of, reason_of, refusal_text}
+use Rattle.disk_reading.specs.Refusals.{cloud_no, reason_of}
 
 -- The shelf around a read: how many of its calls had failed in all, and its clouds.
 pub record Outside : Type 0 where
@@ -31,9 +37,22 @@ pub record Outside : Type 0 where
   pub old : ℕ → Cloud
   pub new : ℕ → Cloud
 
+-- What some clouds' lists give of a version: each choice of k of them, in order, what it gives, and what any k give.
+pub record Due : Type 0 where
+  pub choices : List (List ℕ)
+  pub given : List ℕ → Result (List ℕ) Unrestored
+  pub whole : Result (List ℕ) Unrestored
+
+abbrev pub due_of : Shape → UserId → Tag × Version → List ℕ → (ℕ → List Command) → Due
+due_of shape user key named lists = record {
+  choices = subsets shape.k named;
+  given = restored_file shape lists user key;
+  whole = restored_any shape lists user key named;
+}
+
 -- what lists give of what is wanted
-abbrev pub given_of : Wanted → (ℕ → List Command) → Result (List ℕ) Unrestored
-given_of r lists = restored_file r.shape lists r.user (key_of r.shape r.path.now r.version) r.clouds.now
+abbrev pub given_of : Wanted → (ℕ → List Command) → Due
+given_of r lists = due_of r.shape r.user (key_of r.shape r.path.now r.version) r.clouds.now lists
 
 -- ---- what a restore came to
 
@@ -47,16 +66,44 @@ abbrev pub RoseBy : Outside → RestoreErr → Type 0
 RoseBy c (errors.CloudFault cloud) = Rose (c.old cloud.0).faults (c.new cloud.0).faults
 RoseBy c e = Unit {0}
 
--- the line of a named cloud whose device failed
+-- the line of one of these clouds whose device failed
 abbrev pub IsFaultLine : Outside → List ℕ → List ℕ → Type 0
-IsFaultLine c named text = (cloud : ℕ) × Contains named cloud × (text ≡ refusal_text (refusals.Fault (cloud_no cloud)))
-    × Rose (c.old cloud).faults (c.new cloud).faults
+IsFaultLine c clouds text = (cloud : ℕ) × Contains clouds cloud
+    × (text ≡ refusal_text (refusals.Fault (cloud_no cloud))) × Rose (c.old cloud).faults (c.new cloud).faults
 
--- the line of the refusal that is due, or that of a named cloud whose device failed
-abbrev pub IsRefusalDue : Outside → List ℕ → Result (List ℕ) Unrestored → List ℕ → Type 0
-IsRefusalDue c named due text =
-    ((why : Unrestored) × (said : Refusal) × (due ≡ Err why) × (reason_of why ≡ Some said) × (text ≡ refusal_text said))
-    ⊎ IsFaultLine c named text
+-- the line of the refusal that lists give
+abbrev pub IsLineOf : Result (List ℕ) Unrestored → List ℕ → Type 0
+IsLineOf given text =
+    (why : Unrestored) × (said : Refusal) × (given ≡ Err why) × (reason_of why ≡ Some said) × (text ≡ refusal_text said)
+
+-- the count rose of one of these clouds
+abbrev pub HoldsFailed : Outside → List ℕ → Type 0
+HoldsFailed c clouds = (cloud : ℕ) × Contains clouds cloud × Rose (c.old cloud).faults (c.new cloud).faults
+
+-- The file doesn't come from this choice: its lists give none, or the count rose of one of its clouds.
+abbrev pub IsNone : Outside → Due → List ℕ → Type 0
+IsNone c due clouds = ((why : Unrestored) × (due.given clouds ≡ Err why)) ⊎ HoldsFailed c clouds
+
+-- The file is what a choice gives, and from each choice in front of it none comes. It is what any k of the named clouds
+-- give where no count of these rose.
+pub record IsFileDue (c : Outside) (named : List ℕ) (due : Due) (file : List ℕ) : Type 0 where
+  pub front : List (List ℕ)
+  pub chosen : List ℕ
+  pub rest : List (List ℕ)
+  pub in_order : due.choices ≡ front ++ chosen ∷ rest
+  pub given : due.given chosen ≡ Ok file
+  pub before : All (IsNone c due) front
+  pub exact : (HoldsFailed c named → ⊥) → due.whole ≡ Ok file
+
+-- From no choice a file comes. The line is that of the refusal which the first choice gives, or of one of its clouds whose
+-- device failed. It is that of any k of the named clouds where no count of these rose.
+pub record IsRefusalDue (c : Outside) (named : List ℕ) (due : Due) (text : List ℕ) : Type 0 where
+  pub first : List ℕ
+  pub rest : List (List ℕ)
+  pub in_order : due.choices ≡ first ∷ rest
+  pub none : All (IsNone c due) due.choices
+  pub line : IsLineOf (due.given first) text ⊎ IsFaultLine c first text
+  pub exact : (HoldsFailed c named → ⊥) → IsLineOf due.whole text
 
 -- These lists stand at the named clouds that are told.
 abbrev pub HaveLists : Outside → Shape → List ℕ → (ℕ → List Command) → Type 0
@@ -70,15 +117,20 @@ pub record IsRefusal (c : Outside) (shape : Shape) (named : List ℕ) (e : Resto
   pub rose : (lists : ℕ → List Command) → HaveLists c shape named lists → RoseBy c e
   pub found : let came : Result (Unit {0}) RestoreErr = Err e in is_lost came ≡ false
 
--- What a restore came to, whatever is told: the bytes that strings open to which the recipes of the clouds name; or a
+-- The bytes are what strings open to which the recipes of k of the clouds name.
+abbrev pub IsBrought : Shape → List ℕ → List ℕ → Type 0
+IsBrought shape named file =
+    (chosen : List ℕ) × Contains (subsets shape.k named) chosen × Brought shape chosen [] file
+
+-- What a restore came to, whatever is told: the bytes that strings open to which the recipes of k clouds name; or a
 -- refusal.
 abbrev pub CameTo : Outside → Shape → List ℕ → Result (Unit {0}) RestoreErr → List ℕ → Type 0
-CameTo c shape named (Ok u) file = Brought shape named [] file
+CameTo c shape named (Ok u) file = IsBrought shape named file
 CameTo c shape named (Err e) file = IsRefusal c shape named e
 
 -- What it came to where this is due.
-abbrev pub CameDue : Outside → List ℕ → Result (List ℕ) Unrestored → Result (Unit {0}) RestoreErr → List ℕ → Type 0
-CameDue c named due (Ok u) file = due ≡ Ok file
+abbrev pub CameDue : Outside → List ℕ → Due → Result (Unit {0}) RestoreErr → List ℕ → Type 0
+CameDue c named due (Ok u) file = IsFileDue c named due file
 CameDue c named due (Err e) file =
     (why : Refusal) → refusal_of e ≡ Some why → IsRefusalDue c named due (refusal_text why)
 
@@ -130,20 +182,20 @@ IsRefusalLine c shape named text =
 -- What is written by the end, whatever is told. Behind the openings it is a file or a refusal, whole; or a front of it,
 -- where the sink failed. Where the openings end, or memory ran out, nothing is written.
 abbrev pub Says : Outside → Shape → List ℕ → ReadEnd → List ℕ → Type 0
-Says c shape named ends.Done text = AllOpened c shape named × Brought shape named [] text
+Says c shape named ends.Done text = AllOpened c shape named × IsBrought shape named text
 Says c shape named ends.Refused text = AllOpened c shape named × IsRefusalLine c shape named text
 Says c shape named ends.SinkFault text = AllOpened c shape named
     × ((whole : List ℕ) × (rest : List ℕ) × (whole ≡ text ++ rest)
-    × (Brought shape named [] whole ⊎ IsRefusalLine c shape named whole))
+    × (IsBrought shape named whole ⊎ IsRefusalLine c shape named whole))
 Says c shape named end text = (text ≡ []) × EndsOpening shape named c.old c.new c.total_before c.total_after end
 
 -- What is written by the end, over clouds of which this is due: the file; its refusal, or that of a cloud whose device
 -- failed; a front of these, where the sink failed. Else a device failed as it was opened, or memory ran out.
-abbrev pub Gives : Outside → List ℕ → Result (List ℕ) Unrestored → ReadEnd → List ℕ → Type 0
-Gives c named due ends.Done text = due ≡ Ok text
+abbrev pub Gives : Outside → List ℕ → Due → ReadEnd → List ℕ → Type 0
+Gives c named due ends.Done text = IsFileDue c named due text
 Gives c named due ends.Refused text = IsRefusalDue c named due text
 Gives c named due ends.SinkFault text = (whole : List ℕ) × (rest : List ℕ) × (whole ≡ text ++ rest)
-    × ((due ≡ Ok whole) ⊎ IsRefusalDue c named due whole)
+    × (IsFileDue c named due whole ⊎ IsRefusalDue c named due whole)
 Gives c named due (ends.ShelfFault cloud) text = Contains named cloud.0
 Gives c named due ends.NoMemory text = Unit {0}
 Gives c named due (ends.NotBegun cloud len) text = ⊥

@@ -1,10 +1,9 @@
-//! Reading a version of a file from the disks of k clouds alone.
+//! Reading a version of a file from the disks of k clouds or more, alone.
 #![tactic(auto)]
 
 mod end;
 mod opening;
 mod reading;
-mod refusal;
 mod wanted;
 mod writing;
 

@@ -1,6 +1,6 @@
 //! Reading a version of a file.
 
-ghost use Rattle.std.specs.Prelude.{◌≡◌, ◌<◌, ℕ, List, [], length, All, IsTrue, IfOk, IfErr};
+ghost use Rattle.std.specs.Prelude.{◌≡◌, ◌<◌, ◌≤◌, ℕ, List, [], length, All, IsTrue, IfOk, IfErr};
 ghost use Rattle.cd_base.specs.Limits.{IsPath};
 ghost use Rattle.user_dedup.specs.declared.command.Command.{Command};
 ghost use Rattle.cloud_state.specs.State.{AreRooms};
@@ -15,8 +15,9 @@ use crate::{ReadEnd, Wanted};
 use cd_base::{Bytes, Rooms};
 use cd_edges::{Shelf, Sink};
 use local_link::{LocalLink, Servers};
-use restore_job::{RestoreErr, restore};
+use restore_job::RestoreErr;
 use std::alloc::Global;
+use subset_restore::restore_any;
 
 // The least rooms, which take no tables: those of the clouds that aren't read.
 fn least_rooms() -> Rooms
@@ -43,7 +44,7 @@ fn restore_opened<V: Shelf>(
     requires fate { link.old.fate ≡ Deliver }
     requires empty { file.old ≡ [] }
     requires path { IsPath wanted.now.path.now }
-    requires count { length wanted.now.clouds.now ≡ wanted.now.shape.k }
+    requires count { wanted.now.shape.k ≤ length wanted.now.clouds.now }
     requires within { All (λ cloud. cloud < wanted.now.shape.n) wanted.now.clouds.now }
     ensures end { IfErr result (EndsOpening wanted.now.shape wanted.now.clouds.now (V.cloud_at link.old.shelf.now)
         (V.cloud_at link.new.shelf.now) (V.faults link.old.shelf.now) (V.faults link.new.shelf.now)) }
@@ -67,7 +68,7 @@ fn restore_opened<V: Shelf>(
         Ok(()) => {}
         Err(end) => return Err(end),
     }
-    Ok(restore(
+    Ok(restore_any(
         alloc,
         link,
         wanted.shape,
@@ -81,8 +82,8 @@ fn restore_opened<V: Shelf>(
 
 /// Reads a version of a file from the named clouds' disks, whatever was remembered before, and writes its bytes.
 ///
-/// The clouds are opened in order, each in the greatest rooms, and nothing is begun; then the version is restored. No
-/// other cloud is touched.
+/// The clouds are opened in order, each in the greatest rooms, and nothing is begun; then the version is restored from
+/// any k of them, as `subset_restore::restore_any` does it. No other cloud is touched.
 ///
 /// Done: the sink has the file's bytes. Refused: the sink has the line that says why there is no file. NotBegun,
 /// Damaged, Other and Rooms: so it is at the cloud, the first in order that doesn't open; nothing was written.
@@ -95,12 +96,12 @@ pub fn read_file<K: Sink, V: Shelf>(
     shelf: &mut V,
 ) -> ReadEnd
     requires path { IsPath wanted.now.path.now }
-    requires count { length wanted.now.clouds.now ≡ wanted.now.shape.k }
+    requires count { wanted.now.shape.k ≤ length wanted.now.clouds.now }
     requires within { All (λ cloud. cloud < wanted.now.shape.n) wanted.now.clouds.now }
 
     // What was written belongs to the end. Over named clouds that are told, begun, and stand for lists within the
-    // greatest rooms it is the file that these lists give, or their refusal, or a named cloud's failed device; or a
-    // front of these.
+    // greatest rooms it is the file that any k of these lists give, or their refusal, or the failed device of one of
+    // the first k; or a front of these.
     ensures reads { Reads (record {
       total_before = V.faults shelf.old;
       total_after = V.faults shelf.new;

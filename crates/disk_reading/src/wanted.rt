@@ -13,6 +13,6 @@ pub struct Wanted<'a> {
     pub path: &'a [u8],
     /// The version.
     pub version: Version,
-    /// The clouds that are read, as many as give a file back.
+    /// The clouds that are read, as many as give a file back or more.
     pub clouds: &'a Clouds,
 }

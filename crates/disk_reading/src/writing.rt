@@ -1,13 +1,13 @@
 //! Writing what came of a read.
 
-ghost use Rattle.disk_reading.specs.Refusals.{refusal_text};
+ghost use Rattle.restore_lines.specs.Refusals.{refusal_text};
 ghost use Rattle.disk_reading.specs.Ends.{IsWritten, CountsSink, Writes};
 
 use crate::ReadEnd;
-use crate::refusal::as_refusal;
 use cd_base::{Bytes, NoMemory};
 use cd_edges::{Sink, write_all};
 use restore_job::RestoreErr;
+use restore_lines::as_refusal;
 use std::alloc::Global;
 use transcript::{Line, Refusal, write_line};
 

@@ -3,8 +3,8 @@ use Rattle.std.proofs.Common.{◌≡◌, ℕ, zero, suc, ◌+◌, ◌-◌, ◌*�
 use Rattle.std.specs.List.{flat_map, range_with_len}
 use Rattle.std.proofs.Math.Nat.{mul-le-mul_right}
 use Rattle.std.proofs.lemmas.Bool.{cases_lt}
-use Rattle.std.proofs.lemmas.List.{append-nil, drop_all, take_at, take-append-drop, get_or_default, map-append, flat_map_more, get_or-set_same, get_or-set_other}
-use Rattle.std.proofs.lemmas.List.FromFn.{fill_by_all, get_or-map-range_with_len, map-range_with_len_more, length-map-range_with_len}
+use Rattle.std.proofs.lemmas.List.{ext_get_or, append-nil, drop_all, take_at, take-append-drop, get_or_default, map-append, flat_map_more, get_or-set_same, get_or-set_other}
+use Rattle.std.proofs.lemmas.List.FromFn.{get_or-map-range_with_len, map-range_with_len_more, length-map-range_with_len}
 use Rattle.cd_base.specs.declared.shape.Shape.{Shape}
 use Rattle.caont_rs.specs.Package.{share}
 use Rattle.reed_solomon.specs.Dispersal.{row}
@@ -12,37 +12,37 @@ use Rattle.rabin_chunker.specs.Cuts.{ends}
 use Rattle.rabin_chunker.specs.Rule.{IsFirstEnd, IsCutFrom}
 use Rattle.recipe.specs.declared.items.Item.{Item}
 use Rattle.file_recipe.specs.FileRecipe.{parts_from, secrets, item_of, shares_at}
-use Rattle.file_recipe.specs.Clouds.{cloud_file, dispersed}
+use Rattle.file_recipe.specs.Clouds.{cloud_file, files_from}
 use Rattle.file_recipe.specs.Progress.{unshared, with_share, with_secrets, EachWithShare, EachWithSecrets}
 use Rattle.file_recipe.specs.declared.cloud_file.CloudFile.{CloudFile}
 
 -- ---- one secret's shares, cloud after cloud
 
--- the clouds below c have theirs
-pub record GivenBelow (len width : ℕ) (shares : List ℕ) (c : ℕ) (before now : List CloudFile) : Type 0 where
-  pub given : (j : ℕ) (d : CloudFile) → j < c → get_or now j d ≡ with_share (get_or before j d) len (row width j shares)
+-- those below place c have theirs
+pub record GivenBelow (first len width : ℕ) (shares : List ℕ) (c : ℕ) (before now : List CloudFile) : Type 0 where
+  pub given : (j : ℕ) (d : CloudFile) → j < c → get_or now j d ≡ with_share (get_or before j d) len (row width (first + j) shares)
   pub left : (j : ℕ) (d : CloudFile) → c ≤ j → get_or now j d ≡ get_or before j d
 
-pub given_none : (len width : ℕ) (shares : List ℕ) (before : List CloudFile) → GivenBelow len width shares 0 before before
-given_none len width shares before = record { given = λ j d lt. absurd (omega arith); left = λ j d le. refl }
+pub given_none : (first len width : ℕ) (shares : List ℕ) (before : List CloudFile) → GivenBelow first len width shares 0 before before
+given_none first len width shares before = record { given = λ j d lt. absurd (omega arith); left = λ j d le. refl }
 
-pub given_more : (len width : ℕ) (shares bytes : List ℕ) (c : ℕ) (before now : List CloudFile) (x new : CloudFile) → GivenBelow len width shares c before now → c < length now → x ≡ get_or now c x → bytes ≡ row width c shares → new ≡ with_share x len bytes
-    → GivenBelow len width shares (c + 1) before (set now c new)
-given_more len width shares bytes c before now x new h lt at is e = record {
+pub given_more : (first len width : ℕ) (shares bytes : List ℕ) (c : ℕ) (before now : List CloudFile) (x new : CloudFile) → GivenBelow first len width shares c before now → c < length now → x ≡ get_or now c x → bytes ≡ row width (first + c) shares → new ≡ with_share x len bytes
+    → GivenBelow first len width shares (c + 1) before (set now c new)
+given_more first len width shares bytes c before now x new h lt at is e = record {
   given = λ j d below. elim (cases_lt j c) [
     | inl l ↦ get_or-set_other now c j new d (λ k. omega arith) ∙ h.given j d l
     | inr le ↦
         let same : j ≡ c = omega arith in
-        let one : get_or (set now c new) c d ≡ with_share (get_or before c d) len (row width c shares) =
+        let one : get_or (set now c new) c d ≡ with_share (get_or before c d) len (row width (first + c) shares) =
         get_or-set_same now c new d lt ∙ e ∙ ap (λ (b : List ℕ). with_share x len b) is
-        ∙ ap (λ (f : CloudFile). with_share f len (row width c shares)) (at ∙ get_or_default now c x d lt ∙ h.left c d (omega arith)) in
-        subst (λ (i : ℕ). get_or (set now c new) i d ≡ with_share (get_or before i d) len (row width i shares)) (sym same) one
+        ∙ ap (λ (f : CloudFile). with_share f len (row width (first + c) shares)) (at ∙ get_or_default now c x d lt ∙ h.left c d (omega arith)) in
+        subst (λ (i : ℕ). get_or (set now c new) i d ≡ with_share (get_or before i d) len (row width (first + i) shares)) (sym same) one
   ];
   left = λ j d le. get_or-set_other now c j new d (λ k. omega arith) ∙ h.left j d (omega arith);
 }
 
-pub given_all : (len width : ℕ) (shares : List ℕ) (c : ℕ) (before now : List CloudFile) → length before ≤ c → GivenBelow len width shares c before now → EachWithShare len width shares before now
-given_all len width shares c before now le h j d lt = h.given j d (omega arith)
+pub given_all : (first len width : ℕ) (shares : List ℕ) (c : ℕ) (before now : List CloudFile) → length before ≤ c → GivenBelow first len width shares c before now → EachWithShare first len width shares before now
+given_all first len width shares c before now le h j d lt = h.given j d (omega arith)
 
 pub row_within : (width c n total : ℕ) → c < n → total ≡ n * width → c * width + width ≤ total
 row_within width c n total lt e = let le : (c + 1) * width ≤ n * width = mul-le-mul_right width (omega arith) in let next : (c + 1) * width ≡ c * width + width = grind arith in omega arith
@@ -63,24 +63,24 @@ no_secrets : (s : Shape) (j : ℕ) (f : CloudFile) → with_secrets s j f [] ≡
 no_secrets s j f = rw (append-nil f.recipe.items, append-nil f.shares) refl
 
 -- where the reader is: the secrets before are given, and those from here on are the rest
-pub record Along (s : Shape) (file es : List ℕ) (i start : ℕ) (before now : List CloudFile) : Type 0 where
+pub record Along (s : Shape) (first : ℕ) (file es : List ℕ) (i start : ℕ) (before now : List CloudFile) : Type 0 where
   pub cut : IsCutFrom file start (drop i es)
   pub rest : drop i (secrets file) ≡ parts_from file start (drop i es)
-  pub each : EachWithSecrets s (take i (secrets file)) before now
+  pub each : EachWithSecrets s first (take i (secrets file)) before now
 
-pub along_none : (s : Shape) (file es : List ℕ) (before : List CloudFile) → IsCutFrom file 0 (ends file) → es ≡ ends file → Along s file es 0 0 before before
+pub along_none : (s : Shape) (first : ℕ) (file es : List ℕ) (before : List CloudFile) → IsCutFrom file 0 (ends file) → es ≡ ends file → Along s first file es 0 0 before before
 unfolding secrets
-along_none s file es before cut e = record {
+along_none s first file es before cut e = record {
   cut = subst (λ (xs : List ℕ). IsCutFrom file 0 xs) (sym e) cut;
   rest = ap (parts_from file 0) (sym e);
-  each = λ j d lt. sym (no_secrets s j (get_or before j d));
+  each = λ j d lt. sym (no_secrets s (first + j) (get_or before j d));
 }
 
 pub here : (es : List ℕ) (i : ℕ) → i < length es → drop i es ≡ get_or es i 0 ∷ drop (i + 1) es
 here es i lt = rw (add-one, drop-cons es i 0 lt) refl
 
-pub next_end : (s : Shape) (file es : List ℕ) (i start : ℕ) (before now : List CloudFile) → Along s file es i start before now → i < length es → IsFirstEnd file start (get_or es i 0)
-next_end s file es i start before now h lt = let both = subst (λ (xs : List ℕ). IsCutFrom file start xs) (here es i lt) h.cut in both.0
+pub next_end : (s : Shape) (first : ℕ) (file es : List ℕ) (i start : ℕ) (before now : List CloudFile) → Along s first file es i start before now → i < length es → IsFirstEnd file start (get_or es i 0)
+next_end s first file es i start before now h lt = let both = subst (λ (xs : List ℕ). IsCutFrom file start xs) (here es i lt) h.cut in both.0
 
 first_is : {A : Type 0} (x y : A) (xs ys : List A) → x ∷ xs ≡ y ∷ ys → x ≡ y
 first_is x y xs ys e = cc
@@ -94,10 +94,10 @@ taken (x ∷ xs) ys (suc i) y e = let t = taken xs ys i y e in (ap (λ (zs : Lis
 one_taken : (xs ys : List (List ℕ)) (i : ℕ) (y : List ℕ) → drop i xs ≡ y ∷ ys → (take (i + 1) xs ≡ take i xs ++ y ∷ []) × (drop (i + 1) xs ≡ ys)
 one_taken xs ys i y e = let next : suc i ≡ i + 1 = omega arith in subst (λ (m : ℕ). (take m xs ≡ take i xs ++ y ∷ []) × (drop m xs ≡ ys)) next (taken xs ys i y e)
 
-pub along_more : (s : Shape) (file es : List ℕ) (i start len width : ℕ) (shares : List ℕ) (before mid now : List CloudFile) → Along s file es i start before mid → i < length es → length mid ≡ s.n
+pub along_more : (s : Shape) (first : ℕ) (file es : List ℕ) (i start len width : ℕ) (shares : List ℕ) (before mid now : List CloudFile) → Along s first file es i start before mid → i < length es → length mid ≡ length before → first + length before ≤ s.n
     → len ≡ length (slice_range file start (get_or es i 0)) → ((j : ℕ) → j < s.n → row width j shares ≡ share s j (slice_range file start (get_or es i 0)))
-    → EachWithShare len width shares mid now → Along s file es (i + 1) (get_or es i 0) before now
-along_more s file es i start len width shares before mid now h lt clouds is rows step =
+    → EachWithShare first len width shares mid now → Along s first file es (i + 1) (get_or es i 0) before now
+along_more s first file es i start len width shares before mid now h lt clouds within is rows step =
     let secret : List ℕ = slice_range file start (get_or es i 0) in
     let both = subst (λ (xs : List ℕ). IsCutFrom file start xs) (here es i lt) h.cut in
     let t = one_taken (secrets file) (parts_from file (get_or es i 0) (drop (i + 1) es)) i secret (h.rest ∙ ap (parts_from file start) (here es i lt)) in
@@ -107,38 +107,42 @@ along_more s file es i start len width shares before mid now h lt clouds is rows
       each = λ j d below.
           let f : CloudFile = get_or before j d in
           step j d (omega arith)
-          ∙ ap (λ (g : CloudFile). with_share g len (row width j shares)) (h.each j d below)
-          ∙ ap (λ (n : ℕ). with_share (with_secrets s j f (take i (secrets file))) n (row width j shares)) is
-          ∙ ap (λ (b : List ℕ). with_share (with_secrets s j f (take i (secrets file))) (length secret) b) (rows j below)
-          ∙ one_secret s j f (take i (secrets file)) secret
-          ∙ ap (with_secrets s j f) (sym t.0);
+          ∙ ap (λ (g : CloudFile). with_share g len (row width (first + j) shares)) (h.each j d below)
+          ∙ ap (λ (n : ℕ). with_share (with_secrets s (first + j) f (take i (secrets file))) n (row width (first + j) shares)) is
+          ∙ ap (λ (b : List ℕ). with_share (with_secrets s (first + j) f (take i (secrets file))) (length secret) b) (rows (first + j) (omega arith))
+          ∙ one_secret s (first + j) f (take i (secrets file)) secret
+          ∙ ap (with_secrets s (first + j) f) (sym t.0);
     }
 
-pub along_all : (s : Shape) (file es : List ℕ) (i start : ℕ) (before now : List CloudFile) → Along s file es i start before now → length es ≤ i → EachWithSecrets s (secrets file) before now
-along_all s file es i start before now h le =
+pub along_all : (s : Shape) (first : ℕ) (file es : List ℕ) (i start : ℕ) (before now : List CloudFile) → Along s first file es i start before now → length es ≤ i → EachWithSecrets s first (secrets file) before now
+along_all s first file es i start before now h le =
     let none : drop i (secrets file) ≡ [] = h.rest ∙ ap (parts_from file start) (drop_all i es le) in
     let all : take i (secrets file) ≡ secrets file = sym (append-nil (take i (secrets file))) ∙ ap (λ (xs : List (List ℕ)). take i (secrets file) ++ xs) (sym none) ∙ take-append-drop i (secrets file) in
-    subst (λ (ts : List (List ℕ)). EachWithSecrets s ts before now) all h.each
+    subst (λ (ts : List (List ℕ)). EachWithSecrets s first ts before now) all h.each
 
--- ---- all clouds
+-- ---- the clouds from the first one on
 
-pub all_dispersed : (s : Shape) (path file : List ℕ) (before now : List CloudFile) → before ≡ map (λ j. unshared s j path file) (range_with_len 0 s.n) → length now ≡ s.n → EachWithSecrets s (secrets file) before now → now ≡ dispersed s path file
-unfolding dispersed shares_at
-all_dispersed s path file before now e len each =
+pub length-unshared : (s : Shape) (path file : List ℕ) (first clouds : ℕ) → length (map (λ j. unshared s j path file) (range_with_len first clouds)) ≡ clouds
+length-unshared s path file first clouds = length-map-range_with_len (λ (j : ℕ). unshared s j path file) first clouds
+
+pub all_dispersed : (s : Shape) (path file : List ℕ) (first clouds : ℕ) (before now : List CloudFile) → before ≡ map (λ j. unshared s j path file) (range_with_len first clouds) → length now ≡ clouds → EachWithSecrets s first (secrets file) before now
+    → now ≡ files_from s first clouds path file
+unfolding shares_at
+all_dispersed s path file first clouds before now e len each =
     let d : CloudFile = unshared s 0 path file in
-    fill_by_all (λ (j : ℕ). cloud_file s j path file) now s.n d len (λ j lt.
-    each j d lt ∙ ap (λ (f : CloudFile). with_secrets s j f (secrets file)) (ap (λ (xs : List CloudFile). get_or xs j d) e ∙ get_or-map-range_with_len (λ (i : ℕ). unshared s i path file) 0 s.n j j d lt (omega arith)))
+    let size : length before ≡ clouds = ap (λ (xs : List CloudFile). length xs) e ∙ length-unshared s path file first clouds in
+    ext_get_or d now (files_from s first clouds path file) (len ∙ sym (length-map-range_with_len (λ (j : ℕ). cloud_file s j path file) first clouds)) (λ j lt.
+    each j d (let below : j < clouds = omega arith in omega arith)
+    ∙ ap (λ (f : CloudFile). with_secrets s (first + j) f (secrets file)) (ap (λ (xs : List CloudFile). get_or xs j d) e ∙ get_or-map-range_with_len (λ (i : ℕ). unshared s i path file) first clouds j (first + j) d (omega arith) (omega arith))
+    ∙ sym (get_or-map-range_with_len (λ (i : ℕ). cloud_file s i path file) first clouds j (first + j) d (omega arith) (omega arith)))
 
 -- ---- what stands there before the first secret
 
-pub one_unshared : (s : Shape) (path file : List ℕ) (c : ℕ) (before : List CloudFile) (new : CloudFile) → before ≡ map (λ j. unshared s j path file) (range_with_len 0 c) → new ≡ unshared s c path file
-    → before ++ new ∷ [] ≡ map (λ j. unshared s j path file) (range_with_len 0 (c + 1))
-one_unshared s path file c before new e made =
-    ap (λ (xs : List CloudFile). xs ++ new ∷ []) e ∙ ap (λ (x : CloudFile). map (λ j. unshared s j path file) (range_with_len 0 c) ++ x ∷ []) made
-    ∙ sym (map-range_with_len_more (λ (j : ℕ). unshared s j path file) 0 c c (omega arith))
-
-pub length-unshared : (s : Shape) (path file : List ℕ) → length (map (λ j. unshared s j path file) (range_with_len 0 s.n)) ≡ s.n
-length-unshared s path file = length-map-range_with_len (λ (j : ℕ). unshared s j path file) 0 s.n
+pub one_unshared : (s : Shape) (path file : List ℕ) (first c : ℕ) (before : List CloudFile) (new : CloudFile) → before ≡ map (λ j. unshared s j path file) (range_with_len first c) → new ≡ unshared s (first + c) path file
+    → before ++ new ∷ [] ≡ map (λ j. unshared s j path file) (range_with_len first (c + 1))
+one_unshared s path file first c before new e made =
+    ap (λ (xs : List CloudFile). xs ++ new ∷ []) e ∙ ap (λ (x : CloudFile). map (λ j. unshared s j path file) (range_with_len first c) ++ x ∷ []) made
+    ∙ sym (map-range_with_len_more (λ (j : ℕ). unshared s j path file) first c (first + c) (omega arith))
 
 -- what a list holds that was lent whole
 pub written_back : (new old : List CloudFile) (len : ℕ) → length new ≡ len → take len (new ++ drop (length new) old) ≡ new

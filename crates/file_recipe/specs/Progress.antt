@@ -1,5 +1,5 @@
 -- What each cloud has of a file as its secrets are dispersed one after the other.
-use Rattle.std.specs.Prelude.{◌≡◌, ℕ, ◌<◌, List, [], ◌∷◌, ◌++◌, length, map, slice_index_or}
+use Rattle.std.specs.Prelude.{◌≡◌, ℕ, ◌+◌, ◌<◌, List, [], ◌∷◌, ◌++◌, length, map, slice_index_or}
 use Rattle.std.specs.List.{flat_map}
 use Rattle.sha2.specs.Sha256.{sha256}
 use Rattle.cd_base.specs.declared.shape.Shape.{Shape}
@@ -29,10 +29,10 @@ with_secrets s j f secrets = record {
   shares = f.shares ++ flat_map (share s j) secrets;
 }
 
--- each cloud has one share more, of those that lie one after another
-abbrev pub EachWithShare : ℕ → ℕ → List ℕ → List CloudFile → List CloudFile → Type 0
-EachWithShare len width shares before now = (j : ℕ) (d : CloudFile) → j < length before → slice_index_or now j d ≡ with_share (slice_index_or before j d) len (row width j shares)
+-- each of the clouds from `first` on has one share more, of those that lie one after another
+abbrev pub EachWithShare : ℕ → ℕ → ℕ → List ℕ → List CloudFile → List CloudFile → Type 0
+EachWithShare first len width shares before now = (j : ℕ) (d : CloudFile) → j < length before → slice_index_or now j d ≡ with_share (slice_index_or before j d) len (row width (first + j) shares)
 
--- each cloud has the shares of these secrets more
-abbrev pub EachWithSecrets : Shape → List (List ℕ) → List CloudFile → List CloudFile → Type 0
-EachWithSecrets s secrets before now = (j : ℕ) (d : CloudFile) → j < s.n → slice_index_or now j d ≡ with_secrets s j (slice_index_or before j d) secrets
+-- each of the clouds from `first` on has the shares of these secrets more
+abbrev pub EachWithSecrets : Shape → ℕ → List (List ℕ) → List CloudFile → List CloudFile → Type 0
+EachWithSecrets s first secrets before now = (j : ℕ) (d : CloudFile) → j < length before → slice_index_or now j d ≡ with_secrets s (first + j) (slice_index_or before j d) secrets

@@ -75,6 +75,13 @@ impl CloudFiles {
         self.files.get(cloud)
     }
 
+    /// What each cloud gets, as a list of its own.
+    pub fn into_vec(self) -> Vec<CloudFile>
+        ensures { result.items ≡ self }
+    {
+        self.files
+    }
+
     /// What each cloud gets.
     pub fn as_slice(&self) -> &[CloudFile]
         ensures { result.now ≡ self.now }

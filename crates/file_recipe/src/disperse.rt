@@ -8,12 +8,12 @@ ghost use Rattle.rabin_chunker.specs.Cuts.{ends as ends_of_file};
 ghost use Rattle.caont_rs.specs.Package.{share};
 ghost use Rattle.recipe.specs.Spelling.{file_limit, item_limit};
 ghost use Rattle.file_recipe.specs.FileRecipe.{secrets};
-ghost use Rattle.file_recipe.specs.Clouds.{dispersed};
+ghost use Rattle.file_recipe.specs.Clouds.{cloud_file, files_from, dispersed};
 ghost use Rattle.file_recipe.specs.Progress.{unshared, EachWithShare, EachWithSecrets};
 
 use crate::{CloudFile, CloudFiles};
 use caont_rs::disperse;
-use cd_base::{Bytes, Ends, NoMemory, Shape, share_len};
+use cd_base::{Bytes, CloudNo, Ends, NoMemory, Shape, share_len};
 use rabin_chunker::Chunker;
 use recipe::{Items, Recipe};
 use std::alloc::Global;
@@ -68,7 +68,7 @@ fn unshared_file(
     })
 }
 
-// What each cloud has before the first secret, where the shares of the path lie one after another.
+// What the clouds from `first` on have before the first secret, where the shares of the path lie one after another.
 fn each_unshared(
     alloc: Global,
     shape: Shape,
@@ -76,16 +76,21 @@ fn each_unshared(
     file: &[u8],
     width: usize,
     names: &[u8],
+    first: usize,
+    clouds: usize,
     count: usize,
 ) -> Result<Vec<CloudFile>, NoMemory>
     requires path { IsPath path.now }
     requires few { length file.now ≤ file_limit }
-    requires room { length names.now ≡ shape.n * width }
+    requires within { first + clouds ≤ shape.n }
+    requires room { (first + clouds) * width ≤ length names.now }
     requires names { (j : ℕ) → j < shape.n → row width j names.now ≡ share shape j path.now }
-    ensures { IfOk result (λ files. files.items ≡ map (λ j. unshared shape j path.now file.now) (range_with_len 0 shape.n)) }
+    ensures { IfOk result (λ files. files.items
+        ≡ map (λ j. unshared shape j path.now file.now) (range_with_len first clouds)) }
 {
-    let mut files = Vec::with_capacity(alloc, shape.n as usize)?;
-    for cloud in 0..shape.n as usize {
+    let mut files = Vec::with_capacity(alloc, clouds)?;
+    for place in 0..clouds {
+        let cloud = first + place;
         let name = &names[cloud * width..cloud * width + width];
         let unshared = unshared_file(alloc, shape, path, file, name, count)?;
         files.push(unshared)?;
@@ -93,53 +98,62 @@ fn each_unshared(
     Ok(files)
 }
 
-// What each cloud has before the first secret.
+// What the clouds from `first` on have before the first secret.
 fn unshared_files(
     alloc: Global,
     shape: Shape,
     path: &[u8],
     file: &[u8],
+    first: usize,
+    clouds: usize,
     count: usize,
 ) -> Result<Vec<CloudFile>, NoMemory>
     requires path { IsPath path.now }
     requires few { length file.now ≤ file_limit }
-    ensures { IfOk result (λ files. files.items ≡ map (λ j. unshared shape j path.now file.now) (range_with_len 0 shape.n)) }
+    requires within { first + clouds ≤ shape.n }
+    ensures { IfOk result (λ files. files.items
+        ≡ map (λ j. unshared shape j path.now file.now) (range_with_len first clouds)) }
 {
     let mut names = Bytes::new(alloc);
     disperse(shape, path, &mut names)?;
     let width = share_len(shape, path.len() as u32) as usize;
-    each_unshared(alloc, shape, path, file, width, names.as_slice(), count)
+    let names = names.as_slice();
+    each_unshared(alloc, shape, path, file, width, names, first, clouds, count)
 }
 
-// Gives each cloud its share of a secret, of those that lie one after another.
+// Gives the clouds from `first` on their shares of a secret, of those of all clouds, which lie one after another.
 fn add_shares(
     files: &mut [CloudFile],
+    first: usize,
     secret_len: u32,
     width: usize,
     shares: &[u8],
 ) -> Result<(), NoMemory>
-    requires { length shares.now ≡ length files.old * width }
-    ensures { OnOk result (EachWithShare secret_len width shares.now files.old files.new) }
+    requires few { first + length files.old ≤ 16 }
+    requires room { (first + length files.old) * width ≤ length shares.now }
+    ensures { OnOk result (EachWithShare first secret_len width shares.now files.old files.new) }
 {
-    for cloud in 0..files.len() {
-        let file = &mut files[cloud];
-        file.add(secret_len, &shares[cloud * width..cloud * width + width])?;
+    for place in 0..files.len() {
+        let start = (first + place) * width;
+        let file = &mut files[place];
+        file.add(secret_len, &shares[start..start + width])?;
     }
     Ok(())
 }
 
-// Disperses each secret of a file, and gives each cloud its share.
+// Disperses each secret of a file, and gives the clouds from `first` on their shares.
 fn add_secrets(
     alloc: Global,
     shape: Shape,
     file: &[u8],
     ends: &[u64],
+    first: usize,
     files: &mut [CloudFile],
 ) -> Result<(), NoMemory>
     requires few { length file.now ≤ file_limit }
     requires ends { ends.now ≡ ends_of_file file.now }
-    requires clouds { length files.old ≡ shape.n }
-    ensures { OnOk result (EachWithSecrets shape (secrets file.now) files.old files.new) }
+    requires clouds { first + length files.old ≤ shape.n }
+    ensures { OnOk result (EachWithSecrets shape first (secrets file.now) files.old files.new) }
 {
     let mut shares = Bytes::new(alloc);
     let mut start = 0;
@@ -147,10 +161,37 @@ fn add_secrets(
         let secret = &file[start..*end as usize];
         disperse(shape, secret, &mut shares)?;
         let width = share_len(shape, secret.len() as u32) as usize;
-        add_shares(files, secret.len() as u32, width, shares.as_slice())?;
+        add_shares(files, first, secret.len() as u32, width, shares.as_slice())?;
         start = *end as usize;
     }
     Ok(())
+}
+
+// Disperses a file for so many clouds, from `first` on: each secret once, and a hash for the share of each of them.
+fn disperse_from(
+    alloc: Global,
+    shape: Shape,
+    path: &[u8],
+    file: &[u8],
+    first: usize,
+    clouds: usize,
+) -> Result<Vec<CloudFile>, NoMemory>
+    requires path { IsPath path.now }
+    requires few { length file.now ≤ file_limit }
+    requires within { first + clouds ≤ shape.n }
+    ensures { IfOk result (λ files. files.items ≡ files_from shape first clouds path.now file.now) }
+{
+    let ends = ends_of(alloc, file)?;
+    let mut files = unshared_files(alloc, shape, path, file, first, clouds, ends.len())?;
+    add_secrets(
+        alloc,
+        shape,
+        file,
+        ends.as_slice(),
+        first,
+        files.as_mut_slice(),
+    )?;
+    Ok(files)
 }
 
 /// Disperses a file of at most 67,108,864 bytes under its path: it is cut into secrets once, each secret is dispersed
@@ -167,8 +208,27 @@ pub fn disperse_file(
     requires few { length file.now ≤ file_limit }
     ensures { IfOk result (λ files. files ≡ dispersed shape path.now file.now) }
 {
-    let ends = ends_of(alloc, file)?;
-    let mut files = unshared_files(alloc, shape, path, file, ends.len())?;
-    add_secrets(alloc, shape, file, ends.as_slice(), files.as_mut_slice())?;
+    let files = disperse_from(alloc, shape, path, file, 0, shape.n as usize)?;
     Ok(CloudFiles::of(files))
+}
+
+/// What one cloud gets of a file of at most 67,108,864 bytes: the same as `disperse_file` gives it. Each secret is
+/// dispersed once, and of the shares only those of this cloud are kept and hashed: the k-th part of the file.
+pub fn disperse_for(
+    alloc: Global,
+    shape: Shape,
+    cloud: CloudNo,
+    path: &[u8],
+    file: &[u8],
+) -> Result<CloudFile, NoMemory>
+    requires cloud { cloud.0 < shape.n }
+    requires path { IsPath path.now }
+    requires few { length file.now ≤ file_limit }
+    ensures { IfOk result (λ f. f ≡ cloud_file shape cloud.0 path.now file.now) }
+{
+    let mut files = disperse_from(alloc, shape, path, file, cloud.0 as usize, 1)?;
+    match files.pop() {
+        Some(file) => Ok(file),
+        None => unreachable!(),
+    }
 }

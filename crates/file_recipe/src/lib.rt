@@ -6,7 +6,7 @@ mod disperse;
 pub mod laws;
 
 pub use cloud_file::{CloudFile, CloudFiles};
-pub use disperse::disperse_file;
+pub use disperse::{disperse_file, disperse_for};
 
 #[cfg(test)]
 mod tests;

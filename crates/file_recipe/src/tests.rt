@@ -1,5 +1,5 @@
 use super::*;
-use cd_base::{Bytes, Fp, NoMemory, Shape, sha256};
+use cd_base::{Bytes, CloudNo, Fp, NoMemory, Shape, sha256};
 use recipe::RecipeView;
 use std::alloc::Global;
 use std::test::Fail;
@@ -71,6 +71,12 @@ fn two_secrets(rt: HostRuntime) -> Result<(), Fail> {
         Err(_) => (None, None),
     };
     assert_eq!(rt; lens, (Some(16_384), Some(3_616)));
+    // alone a cloud gets the same
+    let alone = disperse_for(rt.alloc(), shape, CloudNo(2), b"a/b", file.as_slice())?;
+    let shares = files
+        .get(2)
+        .map(|file| file.shares.as_slice() == alone.shares.as_slice());
+    assert_eq!(rt; shares, Some(true));
     // 16,384 and 3,616 bytes with 32 more each, in three pieces
     assert_eq!(rt;
         files.get(2).map(|file| file.shares.len()),

@@ -18,7 +18,7 @@ use Rattle.upload_job.specs.Upload.{FileVersion}
 use Rattle.upload_job.specs.Lanes.{LaneView, lanes_begun}
 use Rattle.restore_job.specs.declared.error.RestoreErr.{RestoreErr}
 use Rattle.local_link.specs.declared.link.LocalLink.{LocalLink}
-use Rattle.session.specs.Spelling.{AreBytes, AreClouds, IsJob}
+use Rattle.session.specs.Spelling.{AreBytes, IsJob}
 use Rattle.session.specs.declared.event.Event.{Event}
 use Rattle.session.specs.declared.event.Event.TheVariants as events
 use Rattle.transcript.specs.declared.line.Line.{Line}
@@ -26,7 +26,7 @@ use Rattle.transcript.specs.declared.line.Line.TheVariants as lines
 use Rattle.transcript.specs.declared.refusal.Refusal.{Refusal}
 use Rattle.session.specs.Scripts.{jobs_after}
 use Rattle.vault.specs.Vault.{Setting, Vault, lanes_of}
-use Rattle.vault.specs.Steps.{version_of, all_done, IsGetLine, refusal_of}
+use Rattle.vault.specs.Steps.{version_of, all_done, IsGetLine}
 use Rattle.vault.specs.Kept.{upload_of}
 use Rattle.vault.specs.Run.{Answered, script_of}
 use Rattle.vault.specs.Headline.{IsPartOf}

@@ -5,7 +5,7 @@ use Rattle.std.specs.List.{range_with_len}
 use Rattle.std.specs.List.Sorted.{IsStrictlyIncreasing}
 use Rattle.std.proofs.lemmas.List.Elements.{All-from_recursion}
 use Rattle.cd_base.specs.declared.shape.Shape.{Shape}
-use Rattle.session.specs.Spelling.{AreClouds}
+use Rattle.session.specs.Spelling.{AreSources}
 use Rattle.generated_session.specs.Lines.{clouds_at}
 
 pub rise_one : (a : ℕ) → IsStrictlyIncreasing (a ∷ [])
@@ -42,11 +42,11 @@ three_of (suc (suc (suc (suc r)))) lt = absurd (omega arith)
 pub clouds_three : (number : ℕ) → Three (clouds_at number)
 clouds_three number = three_of (number % 4) (omega arith)
 
-pub are_three : (shape : Shape) (named : List ℕ) (number : ℕ) → shape.n ≡ 4 → shape.k ≡ 3 → named ≡ clouds_at number → IsStrictlyIncreasing named → AreClouds shape named
+pub are_three : (shape : Shape) (named : List ℕ) (number : ℕ) → shape.n ≡ 4 → shape.k ≡ 3 → named ≡ clouds_at number → IsStrictlyIncreasing named → AreSources shape named
 are_three shape named number n k same rising =
     let t = clouds_three number in
     record {
-      count = ap length same ∙ t.0 ∙ sym k;
+      count = (let few = ap length same ∙ t.0 ∙ sym k in omega (arith, few));
       rising = rising;
       within = subst (λ (l : List ℕ). All (λ cloud. cloud < shape.n) l) (sym same) (subst (λ (m : ℕ). All (λ cloud. cloud < m) (clouds_at number)) (sym n) t.1);
     }

@@ -10,14 +10,15 @@ use Rattle.cd_edges.specs.Disk.{Cloud}
 use Rattle.upload_job.specs.Upload.{FileVersion}
 use Rattle.restore_job.specs.declared.error.RestoreErr.{RestoreErr}
 use Rattle.local_link.specs.declared.link.LocalLink.{LocalLink}
-use Rattle.session.specs.Spelling.{AreBytes, AreClouds}
+use Rattle.session.specs.Spelling.{AreBytes, AreSources}
 use Rattle.session.specs.declared.event.Event.{Event}
 use Rattle.session.specs.declared.event.Event.TheVariants as events
 use Rattle.transcript.specs.declared.line.Line.{Line}
 use Rattle.transcript.specs.declared.line.Line.TheVariants as lines
 use Rattle.transcript.specs.declared.refusal.Refusal.{Refusal}
 use Rattle.vault.specs.Vault.{Setting}
-use Rattle.vault.specs.Steps.{version_of, IsGetLine, refusal_of}
+use Rattle.restore_lines.specs.Refusals.{refusal_of}
+use Rattle.vault.specs.Steps.{version_of, IsGetLine}
 use Rattle.vault.specs.Headline.{IsPartOf}
 use Rattle.script_lines.specs.At.{Leaves}
 use Rattle.script_lines.specs.Does.{Goes}
@@ -80,11 +81,11 @@ module _ (files : List FileVersion) (user : UserId) (path : List ℕ) (version :
 
 module _ {V : Type 0} (clouds : V → ℕ → Cloud) (begun : ℕ → Cloud) (s : Setting) (files : List FileVersion) (script : List Event) (count : ℕ) (n : Numbers) (old : LocalLink V)
     (made : HasMade clouds begun s old files script count n) (new : LocalLink V) (user : UserId) (path : List ℕ) (version : Version) (named : List ℕ)
-    (is_path : IsPath path) (user_few : user.0 < 2 ^ 32) (path_bytes : AreBytes path) (version_few : version.0 < 2 ^ 64) (are : AreClouds old.servers.shape named)
+    (is_path : IsPath path) (user_few : user.0 < 2 ^ 32) (path_bytes : AreBytes path) (version_few : version.0 < 2 ^ 64) (are : AreSources old.servers.shape named)
     (result : Result (Unit {0}) RestoreErr) (file : List ℕ) (r : Read clouds s old new named result user path version file) (leaves : Leaves clouds old new) where
   can_get : CanBe s.shape (length made.jobs) (events.Get user path version named)
   can_get = record {
-    fits = (is_path, subst (λ (sh : Shape). AreClouds sh named) made.come.is_at.link_at.shape are);
+    fits = (is_path, subst (λ (sh : Shape). AreSources sh named) made.come.is_at.link_at.shape are);
     typed = (user_few, path_bytes, version_few);
   }
 

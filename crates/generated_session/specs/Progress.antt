@@ -12,7 +12,8 @@ use Rattle.session.specs.Spelling.{IsJob}
 use Rattle.session.specs.declared.event.Event.{Event}
 use Rattle.transcript.specs.declared.line.Line.{Line}
 use Rattle.vault.specs.Vault.{Setting, Vault}
-use Rattle.vault.specs.Steps.{Moment, FinishLanes, refusal_of}
+use Rattle.restore_lines.specs.Refusals.{refusal_of}
+use Rattle.vault.specs.Steps.{Moment, FinishLanes}
 use Rattle.vault.specs.Run.{script_of}
 use Rattle.script_lines.specs.At.{IsAt, Leaves}
 use Rattle.script_lines.specs.Does.{Images, Cut}

@@ -23,8 +23,8 @@ use cd_edges::Shelf;
 use frames::ReplyBuf;
 use lane_steps::finish_lane;
 use local_link::LocalLink;
-use restore_job::restore;
 use std::alloc::Global;
+use subset_restore::restore_any;
 use upload_job::{Job, LaneNews};
 use vault::{law_of_moments, law_of_parts};
 
@@ -262,7 +262,7 @@ fn get_file<V: Shelf>(
     clouds.rises();
     let shape = link.shape();
     let mut file = Bytes::new(alloc);
-    let came = restore(
+    let came = restore_any(
         alloc,
         link,
         shape,

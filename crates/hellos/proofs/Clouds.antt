@@ -104,9 +104,9 @@ backup_count count (g ∷ gs) shape first as_asked = sym as_asked.0.place.0 ∙ 
 -- ---- the clouds of a restore
 
 restore_count : (count : ℕ) (gs : List Greeting) (shape : Shape) → IsOfFirst gs shape
-    → AreAsAsked Restore count [] gs → count ≡ shape.k
+    → AreAsAsked Restore count [] gs → shape.k ≤ count
 restore_count count [] shape first as_asked = absurd first
-restore_count count (g ∷ gs) shape first as_asked = sym as_asked.0.place.0 ∙ sym first.1
+restore_count count (g ∷ gs) shape first as_asked = omega (arith, as_asked.0.place.0, first.1)
 
 -- a number below all of a rising list, in front of it
 rising_cons : (x : ℕ) (xs : List ℕ) → All (λ y. x < y) xs → IsStrictlyIncreasing xs → IsStrictlyIncreasing (x ∷ xs)
@@ -187,7 +187,7 @@ are_greeted asked ports gs greeted long as_asked first lines = record {
           ))),
     )
     clouds Restore asks = (
-      count ∙ restore_count (length ports) gs greeted.shape first asks,
+      (let few = restore_count (length ports) gs greeted.shape first asks in omega (arith, count, few)),
       subst IsStrictlyIncreasing names (restore_rises (length ports) [] gs asks),
       subst (λ (l : List ℕ). All (λ cloud. cloud < greeted.shape.n) l) names
           (restore_below (length ports) greeted.shape.n [] gs

@@ -32,10 +32,10 @@ abbrev pub IsOfFirst : List Greeting → Shape → Type 0
 IsOfFirst [] shape = ⊥
 IsOfFirst (first ∷ more) shape = (shape.n ≡ first.n) × (shape.k ≡ first.k)
 
--- A backup asks all n clouds, each at the address of its number. A restore asks k of them, in order.
+-- A backup asks all n clouds, each at the address of its number. A restore asks k of them or more, in order.
 abbrev pub HasPlace : Asked → ℕ → List Greeting → Greeting → Type 0
 HasPlace asked.Backup count before g = (g.n ≡ count) × (g.cloud ≡ length before)
-HasPlace asked.Restore count before g = (g.k ≡ count) × All (λ (b : Greeting). b.cloud < g.cloud) before
+HasPlace asked.Restore count before g = (g.k ≤ count) × All (λ (b : Greeting). b.cloud < g.cloud) before
     × (g.cloud < g.n)
 
 -- The reply of the next of so many addresses is as it has to be, behind these.

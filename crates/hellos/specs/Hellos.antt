@@ -1,5 +1,5 @@
 -- Hello, asked of ports one after another.
-use Rattle.std.specs.Prelude.{◌≡◌, ◌⊎◌, ℕ, ◌<◌, IsTrue, List, [], ◌∷◌, ◌++◌, length, map, All, Option, Some, None}
+use Rattle.std.specs.Prelude.{◌≡◌, ◌⊎◌, ℕ, ◌<◌, ◌≤◌, IsTrue, List, [], ◌∷◌, ◌++◌, length, map, All, Option, Some, None}
 use Rattle.std.specs.Prelude.{Result, Ok, Err}
 use Rattle.std.specs.List.{Contains}
 use Rattle.std.specs.List.Sorted.{IsStrictlyIncreasing}
@@ -68,13 +68,13 @@ pub data Greets (asked : Asked) (count : ℕ) : List Greeting → Telling → Li
 abbrev pub clouds_of : List (CloudNo × ℕ) → List ℕ
 clouds_of lines = map (λ (line : CloudNo × ℕ). line.0.0) lines
 
--- A backup has a line for each cloud of the shape; a restore one for each of k clouds, which rise.
+-- A backup has a line for each cloud of the shape; a restore one for each of k clouds or more, which rise.
 abbrev pub HasClouds : Asked → Greeted → Type 0
 HasClouds asked.Backup greeted =
     (length greeted.lines.items ≡ greeted.shape.n)
     × ((cloud : ℕ) → cloud < greeted.shape.n → Contains (clouds_of greeted.lines.items) cloud)
 HasClouds asked.Restore greeted =
-    (length greeted.lines.items ≡ greeted.shape.k)
+    (greeted.shape.k ≤ length greeted.lines.items)
     × IsStrictlyIncreasing (clouds_of greeted.lines.items)
     × All (λ cloud. cloud < greeted.shape.n) (clouds_of greeted.lines.items)
 

@@ -13,7 +13,7 @@ use cd_base::Shape;
 pub enum Asked {
     /// All n clouds of a shape, each at the address of its number.
     Backup,
-    /// k clouds of a shape, rising.
+    /// k clouds of a shape or more, rising.
     Restore,
 }
 
@@ -88,7 +88,7 @@ fn has_place(asked: Asked, count: usize, before: &[Greeting], greeting: &Greetin
     match asked {
         Asked::Backup => { greeting.n as usize == count && greeting.cloud as usize == before.len() }
         Asked::Restore => {
-            greeting.k as usize == count
+            greeting.k as usize <= count
                 && are_below(before, greeting.cloud)
                 && greeting.cloud < greeting.n
         }

@@ -30,7 +30,7 @@ use Rattle.user_dedup.specs.Pages.{is_at, entry_at}
 use Rattle.user_dedup.specs.Dedup.{commit_outcome, answer_over}
 use Rattle.user_dedup.proofs.Owned.{contains_here, contains_later, finds}
 use Rattle.user_dedup.proofs.Views.{own_adds, others_stay, held_is, owned_is_held, held_more}
-use Rattle.kept_files.specs.Kept.{Keeps, IsApart, key_of}
+use Rattle.kept_files.specs.Kept.{Keeps, IsApart, key_of, Ends, AreHarmless}
 
 -- ---- more commands
 
@@ -38,31 +38,46 @@ or_kept : (o other : Option FileEntry) (r : List ℕ) → option_map (λ entry. 
 or_kept None other r h = absurd (let f : None ≡ Some r = h in cc)
 or_kept (Some x) other r h = h
 
-entry_stays : (shape : Shape) (v : View) (key : Tag × Version) (r : List ℕ) (c : Command)
+entry_stays : (shape : Shape) (v : View) (key : Tag × Version) (r : List ℕ) (user : UserId) (c : Command) → ¬ Ends user key c
     → option_map (λ entry. entry.recipe) (entry_at v.files key) ≡ Some r → option_map (λ entry. entry.recipe) (entry_at (view_after shape v c).files key) ≡ Some r
-entry_stays shape v key r (commands.Put user shares) h = h
-entry_stays shape v key r (commands.Commit user tag version recipe) h =
+entry_stays shape v key r user (commands.Put sender shares) harmless h = h
+entry_stays shape v key r user (commands.Commit sender tag version recipe) harmless h =
     let entry : FileEntry = record { tag = tag; version = version; recipe = recipe } in
     ap (option_map (λ (e : FileEntry). e.recipe)) (find-append (is_at key) v.files (entry ∷ []))
     ∙ or_kept (entry_at v.files key) (find (is_at key) (entry ∷ [])) r h
 
 keeps_next : (shape : Shape) (cloud : ℕ) (list : List Command) (c : Command) (user : UserId) (path : List ℕ) (version : Version) (file : List ℕ)
-    → Keeps shape cloud list user path version file → Keeps shape cloud (list ++ c ∷ []) user path version file
-keeps_next shape cloud list c user path version file k = record {
+    → ¬ Ends user (key_of shape path version) c → Keeps shape cloud list user path version file → Keeps shape cloud (list ++ c ∷ []) user path version file
+keeps_next shape cloud list c user path version file harmless k = record {
   entry = elim (cases_eq (user_of c).0 user.0) [
     | inl same ↦ subst (λ (v : View). option_map (λ entry. entry.recipe) (entry_at v.files (key_of shape path version)) ≡ Some (recipe_bytes shape cloud path file)) (sym (own_adds shape list c user same))
-        (entry_stays shape (user_view shape list user) (key_of shape path version) (recipe_bytes shape cloud path file) c k.entry)
+        (entry_stays shape (user_view shape list user) (key_of shape path version) (recipe_bytes shape cloud path file) user c harmless k.entry)
     | inr ne ↦ subst (λ (v : View). option_map (λ entry. entry.recipe) (entry_at v.files (key_of shape path version)) ≡ Some (recipe_bytes shape cloud path file)) (sym (others_stay shape list c user ne)) k.entry
   ];
   shares = λ i d h. held_more list (c ∷ []) _ _ (k.shares i d h);
 }
 
+pub keeps_still : (shape : Shape) (cloud : ℕ) (list more : List Command) (user : UserId) (path : List ℕ) (version : Version) (file : List ℕ)
+    → AreHarmless user (key_of shape path version) more → Keeps shape cloud list user path version file → Keeps shape cloud (list ++ more) user path version file
+keeps_still shape cloud list [] user path version file harmless k = subst (λ (l : List Command). Keeps shape cloud l user path version file) (sym (append-nil list)) k
+keeps_still shape cloud list (c ∷ more) user path version file harmless k =
+    subst (λ (l : List Command). Keeps shape cloud l user path version file) (append_assoc list (c ∷ []) more)
+    (keeps_still shape cloud (list ++ c ∷ []) more user path version file (All-tail (λ command. ¬ Ends user (key_of shape path version) command) c more harmless)
+    (keeps_next shape cloud list c user path version file (All-head (λ command. ¬ Ends user (key_of shape path version) command) c more harmless) k))
+
+pub endless : (user : UserId) (key : Tag × Version) (command : Command) → Ends user key command → ⊥
+endless user key (commands.Put sender shares) ends = ends
+endless user key (commands.Commit sender tag version recipe) ends = ends
+
+all_harmless : (user : UserId) (key : Tag × Version) (list : List Command) → AreHarmless user key list
+all_harmless user key [] = All-nil (λ command. ¬ Ends user key command)
+all_harmless user key (c ∷ list) = All-cons (λ command. ¬ Ends user key command) c list (endless user key c) (all_harmless user key list)
+
+-- whichever commands follow
 pub keeps_more : (shape : Shape) (cloud : ℕ) (list more : List Command) (user : UserId) (path : List ℕ) (version : Version) (file : List ℕ)
     → Keeps shape cloud list user path version file → Keeps shape cloud (list ++ more) user path version file
-keeps_more shape cloud list [] user path version file k = subst (λ (l : List Command). Keeps shape cloud l user path version file) (sym (append-nil list)) k
-keeps_more shape cloud list (c ∷ more) user path version file k =
-    subst (λ (l : List Command). Keeps shape cloud l user path version file) (append_assoc list (c ∷ []) more)
-    (keeps_more shape cloud (list ++ c ∷ []) more user path version file (keeps_next shape cloud list c user path version file k))
+keeps_more shape cloud list more user path version file k =
+    keeps_still shape cloud list more user path version file (all_harmless user (key_of shape path version) more) k
 
 -- ---- a Committed answer
 

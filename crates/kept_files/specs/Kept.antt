@@ -10,10 +10,20 @@ use Rattle.file_recipe.specs.FileRecipe.{secrets, recipe_bytes}
 use Rattle.user_dedup.specs.Cloud.{fingerprint, user_view, strings_of, held_string}
 use Rattle.user_dedup.specs.Pages.{entry_at}
 use Rattle.user_dedup.specs.declared.command.Command.{Command}
+use Rattle.user_dedup.specs.declared.command.Command.TheVariants as commands
 
 -- what names a version of a file: the tag of its path, and its number
 abbrev pub key_of : Shape → List ℕ → Version → Tag × Version
 key_of shape path version = (record { 0 = tag shape path }, version)
+
+-- The command takes the version of the user's file out. A Put and a Commit take none out.
+abbrev pub Ends : UserId → Tag × Version → Command → Type 0
+Ends user key (commands.Put sender shares) = ⊥
+Ends user key (commands.Commit sender tag version recipe) = ⊥
+
+-- none of the commands does
+abbrev pub AreHarmless : UserId → Tag × Version → List Command → Type 0
+AreHarmless user key list = All (λ command. ¬ Ends user key command) list
 
 -- The user's entry is the version's recipe at this cloud, and each of its shares is held under its own SHA-256.
 pub record Keeps (shape : Shape) (cloud : ℕ) (list : List Command) (user : UserId) (path : List ℕ) (version : Version) (file : List ℕ) : Type 0 where

@@ -18,7 +18,7 @@ ghost use Rattle.file_recipe.specs.FileRecipe.{recipe_bytes};
 ghost use Rattle.messages.specs.declared.request.Request.TheVariants as requests;
 ghost use Rattle.messages.specs.declared.reply.Reply.TheVariants as replies;
 ghost use Rattle.user_dedup.specs.Dedup.{answer_over};
-ghost use Rattle.kept_files.specs.Kept.{Keeps, IsApart, key_of};
+ghost use Rattle.kept_files.specs.Kept.{Keeps, IsApart, key_of, Ends, AreHarmless};
 
 /// Where each of k clouds keeps a version of a file, what they give is the file. No premise on SHA-256 is needed.
 pub fn law_of_kept_files()
@@ -28,11 +28,13 @@ pub fn law_of_kept_files()
         → restored_file shape lists user (key_of shape path version) clouds ≡ Ok file }
 {}
 
-/// What a cloud keeps it goes on keeping, whichever commands follow; and what a Commit of a version enters it keeps, where no other string
-/// that was put there has the SHA-256 of one of its shares.
+/// What a cloud keeps it goes on keeping, until a command takes that version of the user's out, which no command does; and what a
+/// Commit of a version enters it keeps, where no other string that was put there has the SHA-256 of one of its shares.
 pub fn law_of_keeping()
     ensures stays { (shape : Shape) (cloud : ℕ) (list more : List Command) (user : UserId) (path : List ℕ) (version : Version) (file : List ℕ)
+        → AreHarmless user (key_of shape path version) more
         → Keeps shape cloud list user path version file → Keeps shape cloud (list ++ more) user path version file }
+    ensures endless { (user : UserId) (key : Tag × Version) (command : Command) → Ends user key command → ⊥ }
     ensures committed { (shape : Shape) (cloud : ℕ) (list : List Command) (user : UserId) (path : List ℕ) (version : Version) (file : List ℕ)
         → IsPath path → length file ≤ file_limit → IsApart shape cloud list file
         → (answer_over shape cloud list (requests.Commit user (record { 0 = tag shape path }) version (recipe_bytes shape cloud path file))).reply ≡ replies.Committed

@@ -3,3 +3,4 @@ pub mod Lanes
 pub mod Reaching
 pub mod Measure
 pub mod Works
+pub mod Alone

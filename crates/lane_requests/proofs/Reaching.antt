@@ -85,7 +85,7 @@ tag_long : (s : Shape) (path : List ℕ) → length (tag s path) ≡ 32
 unfolding tag
 tag_long s path = length-sha256 (package_of s path)
 
-can_bring : (shape : Shape) (v : FileVersion) (cloud : ℕ) → IsPath v.path → length v.file ≤ 67108864 → v.user.0 < 2 ^ 32 → v.number.0 < 2 ^ 64 → CanBring shape (work_of shape v cloud)
+pub can_bring : (shape : Shape) (v : FileVersion) (cloud : ℕ) → IsPath v.path → length v.file ≤ 67108864 → v.user.0 < 2 ^ 32 → v.number.0 < 2 ^ 64 → CanBring shape (work_of shape v cloud)
 can_bring shape v cloud named few user number = record {
   user = user;
   key = (tag_long shape v.path, number);

@@ -20,7 +20,7 @@ use Rattle.lane_requests.specs.Runs.{lane_at}
 abbrev pub Counts : Shape → LaneView → Type 0
 Counts shape lane = length (fps_of shape lane.work.recipe) ≡ lane.work.items
 
-begun_counts : (shape : Shape) (v : FileVersion) (cloud : ℕ) → IsPath v.path → length v.file ≤ 67108864 → Counts shape (begun (work_of shape v cloud))
+pub begun_counts : (shape : Shape) (v : FileVersion) (cloud : ℕ) → IsPath v.path → length v.file ≤ 67108864 → Counts shape (begun (work_of shape v cloud))
 begun_counts shape v cloud named few =
     ap length (fps_named shape cloud v.path v.file named few) ∙ length-map (shares_for shape cloud v.file) fingerprint ∙ length-map (secrets v.file) (share shape cloud)
 

@@ -9,7 +9,7 @@ ghost use Rattle.messages.specs.Requests.{request_bytes, FitsRequest};
 ghost use Rattle.messages.specs.Replies.{frame_limit};
 ghost use Rattle.user_dedup.specs.Requests.{HasRecipe, asked_at};
 ghost use Rattle.upload_job.specs.Lanes.{LaneView, request_at};
-ghost use Rattle.lane_requests.specs.Reached.{IsReached};
+ghost use Rattle.lane_requests.specs.Reached.{IsReached, IsOnItsWay};
 ghost use Rattle.lane_requests.specs.Runs.{Progress, request_of, progress_after, stops_at, left_of};
 
 /// Each request of a lane to which a job comes is one that a cloud of the shape reads as it is, and fits into
@@ -27,6 +27,15 @@ pub fn law_of_lane_requests()
     // each field is in its range, and the recipe of a Commit is one of the shape
     ensures fits { (shape : Shape) (lanes : List LaneView) (i : ℕ) (request : Request) → IsReached shape lanes → request_at lanes i ≡ Some request
         → FitsRequest request × HasRecipe shape request }
+{}
+
+/// The same of a job for all clouds or for one alone, all of it as one.
+pub fn law_of_any_requests()
+    ensures { (shape : Shape) (lanes : List LaneView) (i : ℕ) (request : Request)
+        → IsOnItsWay shape lanes → request_at lanes i ≡ Some request
+        → (asked_at shape (request_bytes request) ≡ Ok request)
+        × (1 ≤ length (request_bytes request)) × (length (request_bytes request) ≤ frame_limit)
+        × (FitsRequest request × HasRecipe shape request) }
 {}
 
 /// A lane that goes on until a reply stops it comes to an end, whatever its cloud replies: each reply that

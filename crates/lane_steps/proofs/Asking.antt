@@ -15,7 +15,7 @@ use Rattle.upload_job.specs.declared.news.LaneNews.{LaneNews}
 use Rattle.upload_job.specs.declared.news.LaneErr.TheVariants as lane_errors
 use Rattle.upload_job.specs.Lane.{IsAnswer}
 use Rattle.upload_job.specs.Lanes.{LaneView, with_state}
-use Rattle.lane_requests.specs.Reached.{IsReached, Answered}
+use Rattle.lane_requests.specs.Reached.{IsReached, Answered, IsReachedAlone, AnsweredAlone, IsOnItsWay, ForAll, ForOne}
 use Rattle.lane_requests.specs.Runs.{lane_at}
 use Rattle.lane_steps.specs.declared.error.StepErr.{StepErr}
 use Rattle.lane_steps.specs.declared.error.StepErr.TheVariants as errors
@@ -132,6 +132,16 @@ reached_on shape views cloud bytes (Ok told) after reached takes = Answered view
 reached_on shape views cloud bytes (Err errors.Lost) after reached takes = absurd takes
 reached_on shape views cloud bytes (Err (errors.Strange kind)) after reached takes = Answered views after cloud bytes (Err (lane_errors.Strange kind)) reached takes
 reached_on shape views cloud bytes (Err errors.NoMemory) after reached takes = Answered views after cloud bytes (Err lane_errors.NoMemory) reached takes
+
+alone_on : (shape : Shape) (views : List LaneView) (cloud : ℕ) (bytes : List ℕ) (result : Result LaneNews StepErr) (after : List LaneView) → IsReachedAlone shape views → TakesReply views cloud bytes result after → IsReachedAlone shape after
+alone_on shape views cloud bytes (Ok told) after reached takes = AnsweredAlone views after cloud bytes (Ok told) reached takes
+alone_on shape views cloud bytes (Err errors.Lost) after reached takes = absurd takes
+alone_on shape views cloud bytes (Err (errors.Strange kind)) after reached takes = AnsweredAlone views after cloud bytes (Err (lane_errors.Strange kind)) reached takes
+alone_on shape views cloud bytes (Err errors.NoMemory) after reached takes = AnsweredAlone views after cloud bytes (Err lane_errors.NoMemory) reached takes
+
+pub way_on : (shape : Shape) (views : List LaneView) (cloud : ℕ) (bytes : List ℕ) (result : Result LaneNews StepErr) (after : List LaneView) → IsOnItsWay shape views → TakesReply views cloud bytes result after → IsOnItsWay shape after
+way_on shape views cloud bytes result after (ForAll reached) takes = ForAll (reached_on shape views cloud bytes result after reached takes)
+way_on shape views cloud bytes result after (ForOne alone) takes = ForOne (alone_on shape views cloud bytes result after alone takes)
 
 -- ---- a lane with a request or none
 

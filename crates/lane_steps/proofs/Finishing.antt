@@ -8,7 +8,7 @@ use Rattle.user_dedup.specs.Link.{LinkTelling, Talk, LeavesOthers}
 use Rattle.upload_job.specs.declared.news.LaneNews.{LaneNews}
 use Rattle.upload_job.specs.Lane.{LaneState, news_of}
 use Rattle.upload_job.specs.Lanes.{LaneView, request_at, with_state}
-use Rattle.lane_requests.specs.Reached.{IsReached}
+use Rattle.lane_requests.specs.Reached.{IsReached, IsOnItsWay}
 use Rattle.lane_requests.specs.Runs.{Turn, Progress, starting, moved, request_of, progress_after, LaneRun, LaneAlong, Tell, lane_at, left_of}
 use Rattle.lane_requests.proofs.Measure.{falls}
 use Rattle.lane_steps.specs.declared.error.StepErr.{StepErr}
@@ -31,7 +31,8 @@ pub record Along {L : Type 0} (t : LinkTelling L) (talk : L → ℕ → Talk →
   pub told_is : told ≡ before ++ heard
   pub now_is : now ≡ with_state views cloud (lane_at now cloud).state
   pub below : cloud < length now
-  pub reached : IsReached (t.shape old) now
+  pub way : IsOnItsWay (t.shape old) now
+  pub reached : IsReached (t.shape old) views → IsReached (t.shape old) now
   pub reaches : IsTrue (t.reaches old cloud)
   pub others : LeavesOthers t cloud old mid
   pub later : t.losses old ≤ t.losses mid
@@ -40,9 +41,9 @@ pub record Along {L : Type 0} (t : LinkTelling L) (talk : L → ℕ → Talk →
 no_others : {L : Type 0} (t : LinkTelling L) (cloud : ℕ) (link : L) → LeavesOthers t cloud link link
 no_others t cloud link = record { stands = λ other p ne stands. stands; reaches = refl; shape = refl; told = refl; full = refl }
 
-pub along_none : {L : Type 0} (t : LinkTelling L) (talk : L → ℕ → Talk → Type 0) (cloud : ℕ) (link : L) (views : List LaneView) (before : List LaneNews) → cloud < length views → IsReached (t.shape link) views → IsTrue (t.reaches link cloud)
+pub along_none : {L : Type 0} (t : LinkTelling L) (talk : L → ℕ → Talk → Type 0) (cloud : ℕ) (link : L) (views : List LaneView) (before : List LaneNews) → cloud < length views → IsOnItsWay (t.shape link) views → IsTrue (t.reaches link cloud)
     → Along t talk cloud link views before link views false before
-along_none t talk cloud link views before below reached reaches = record {
+along_none t talk cloud link views before below way reaches = record {
   turns = [];
   heard = [];
   along = (refl, refl);
@@ -50,7 +51,8 @@ along_none t talk cloud link views before below reached reaches = record {
   told_is = sym (append-nil before);
   now_is = sym (with_same views cloud);
   below = below;
-  reached = reached;
+  way = way;
+  reached = λ reached. reached;
   reaches = reaches;
   others = no_others t cloud link;
   later = omega arith;
@@ -149,12 +151,17 @@ one_more {L} t talk cloud old views before mid now lacked told first new after a
         s.after_is ∙ ap (λ (l : List LaneView). with_state l cloud state) a.now_is ∙ with_twice views cloud (lane_at now cloud).state state
         ∙ ap (λ (l : LaneView). with_state views cloud l.state) (sym (moved_here now after cloud s.reply a.below s.after_is))
 
+-- a job for all clouds that was reached from one, and then from that
+pub reached_then : (old mid : Shape) (views now after : List LaneView) → mid ≡ old → (IsReached old views → IsReached old now) → (IsReached mid now → IsReached mid after) → IsReached old views → IsReached old after
+reached_then old mid views now after same first next reached =
+    subst (λ (shape : Shape). IsReached shape after) same (next (subst (λ (shape : Shape). IsReached shape now) (sym same) (first reached)))
+
 pub along_on : {L : Type 0} (t : LinkTelling L) (talk : L → ℕ → Talk → Type 0) (cloud : ℕ) (old : L) (views : List LaneView) (before : List LaneNews) (mid : L) (now : List LaneView) (lacked : Bool) (told : List LaneNews)
     (first : LaneNews) (new : L) (after : List LaneView) (all : List LaneNews) (lacks : Bool)
     → Along t talk cloud old views before mid now lacked told → Told t talk cloud mid now first new after → all ≡ told ++ first ∷ [] → stops_by lacked first ≡ false → lacks ≡ (lacked || tells_lack first)
-    → IsReached (t.shape mid) after → LeavesOthers t cloud mid new → t.losses mid ≤ t.losses new → (IsTrue (t.lossless mid) → IsTrue (t.lossless new))
+    → IsOnItsWay (t.shape mid) after → (IsReached (t.shape mid) now → IsReached (t.shape mid) after) → LeavesOthers t cloud mid new → t.losses mid ≤ t.losses new → (IsTrue (t.lossless mid) → IsTrue (t.lossless new))
     → Along t talk cloud old views before new after lacks all
-along_on t talk cloud old views before mid now lacked told first new after all lacks a s all_is goes lacks_is reached others later lossless =
+along_on t talk cloud old views before mid now lacked told first new after all lacks a s all_is goes lacks_is way reached others later lossless =
     let one = one_more t talk cloud old views before mid now lacked told first new after all false a s all_is goes in
     record {
       turns = one.turns;
@@ -164,7 +171,8 @@ along_on t talk cloud old views before mid now lacked told first new after all l
       told_is = one.told_is;
       now_is = one.after_is;
       below = one.below;
-      reached = subst (λ (shape : Shape). IsReached shape after) a.others.shape reached;
+      way = subst (λ (shape : Shape). IsOnItsWay shape after) a.others.shape way;
+      reached = reached_then (t.shape old) (t.shape mid) views now after a.others.shape a.reached reached;
       reaches = a.reaches;
       others = others_on t cloud old mid new a.others others;
       later = let x = a.later in let y = later in omega arith;

@@ -8,5 +8,5 @@ mod news;
 mod step;
 
 pub use error::StepErr;
-pub use finish::finish_lane;
+pub use finish::{finish_any, finish_lane};
 pub use step::step_lane;

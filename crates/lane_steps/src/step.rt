@@ -6,7 +6,7 @@ ghost use Rattle.messages.specs.declared.request.Request.{Request};
 ghost use Rattle.messages.specs.Requests.{request_bytes};
 ghost use Rattle.user_dedup.specs.Link.{LeavesOthers};
 ghost use Rattle.upload_job.specs.Lanes.{request_at};
-ghost use Rattle.lane_requests.specs.Reached.{IsReached};
+ghost use Rattle.lane_requests.specs.Reached.{IsReached, IsOnItsWay};
 ghost use Rattle.lane_steps.specs.Steps.{AsksFor, LaneSteps, IsFound, Takes, TakesReply};
 
 use crate::StepErr;
@@ -37,11 +37,12 @@ fn ask_lane<L: Link>(
     reply: &mut ReplyBuf,
 ) -> Result<LaneNews, StepErr>
     requires reaches { IsTrue (L.tells.reaches link.old lane.0) }
-    requires reached { IsReached (L.tells.shape link.old) job.old }
+    requires way { IsOnItsWay (L.tells.shape link.old) job.old }
     requires asks { (r : Request) × (request_at job.old lane.0 ≡ Some r) × (request.now ≡ request_bytes r) }
     ensures steps { (r : Request) → request_at job.old lane.0 ≡ Some r
         → AsksFor L.tells L.talk lane.0 link.old job.old r result link.new job.new }
-    ensures reached { IsReached (L.tells.shape link.old) job.new }
+    ensures way { IsOnItsWay (L.tells.shape link.old) job.new }
+    ensures reached { IsReached (L.tells.shape link.old) job.old → IsReached (L.tells.shape link.old) job.new }
     ensures others { LeavesOthers L.tells lane.0 link.old link.new }
     ensures later { L.tells.losses link.old ≤ L.tells.losses link.new }
     ensures lossless { IsTrue (L.tells.lossless link.old) → IsFound result × IsTrue (L.tells.lossless link.new) }
@@ -49,6 +50,38 @@ fn ask_lane<L: Link>(
     match link.ask(lane, request, reply) {
         Ok(()) => take_reply(job, lane, reply.content()),
         Err(Lost) => Err(StepErr::Lost),
+    }
+}
+
+// The same as `step_lane`, of a job for all clouds or for one alone.
+pub(crate) fn step_any<L: Link>(
+    link: &mut L,
+    job: &mut Job,
+    lane: CloudNo,
+    content: &mut Bytes,
+    reply: &mut ReplyBuf,
+) -> Result<Option<LaneNews>, StepErr>
+    requires below { lane.0 < length job.old }
+    requires reaches { IsTrue (L.tells.reaches link.old lane.0) }
+    requires way { IsOnItsWay (L.tells.shape link.old) job.old }
+    ensures steps { LaneSteps L.tells L.talk lane.0 link.old job.old (request_at job.old lane.0) result
+        link.new job.new }
+    ensures way { IsOnItsWay (L.tells.shape link.old) job.new }
+    ensures reached { IsReached (L.tells.shape link.old) job.old → IsReached (L.tells.shape link.old) job.new }
+    ensures others { LeavesOthers L.tells lane.0 link.old link.new }
+    ensures later { L.tells.losses link.old ≤ L.tells.losses link.new }
+    ensures lossless { IsTrue (L.tells.lossless link.old) → IsFound result × IsTrue (L.tells.lossless link.new) }
+{
+    let more = match job.next(lane, content) {
+        Ok(more) => more,
+        Err(NoMemory) => return Err(StepErr::NoMemory),
+    };
+    if !more {
+        return Ok(None);
+    }
+    match ask_lane(link, job, lane, content.as_slice(), reply) {
+        Ok(news) => Ok(Some(news)),
+        Err(e) => Err(e),
     }
 }
 
@@ -80,15 +113,5 @@ pub fn step_lane<L: Link>(
     ensures later { L.tells.losses link.old ≤ L.tells.losses link.new }
     ensures lossless { IsTrue (L.tells.lossless link.old) → IsFound result × IsTrue (L.tells.lossless link.new) }
 {
-    let more = match job.next(lane, content) {
-        Ok(more) => more,
-        Err(NoMemory) => return Err(StepErr::NoMemory),
-    };
-    if !more {
-        return Ok(None);
-    }
-    match ask_lane(link, job, lane, content.as_slice(), reply) {
-        Ok(news) => Ok(Some(news)),
-        Err(e) => Err(e),
-    }
+    step_any(link, job, lane, content, reply)
 }

@@ -1,6 +1,6 @@
 -- What the calls beside an ask do to the peer that a cloud stands as.
 use Rattle.std.proofs.Common.{◌≡◌, ℕ, ◌+◌, ◌-◌, ◌<◌, ◌≤◌, ◌^◌, Bool, true, false, List, [], ◌∷◌, ◌++◌, min, Option, Some, None, Result, Ok, Err, refl, sym, ap, ◌∙◌, subst, arith, inl, inr, ◌⊎◌}
-use Rattle.std.specs.Prelude.{IsTrue, IsSomeAnd, IfOk, OnOk, OnErr, length}
+use Rattle.std.specs.Prelude.{IsTrue, IsSomeAnd, IfOk, OnOk, OnErr}
 use Rattle.std.specs.List.{Contains}
 use Rattle.cd_base.specs.declared.rooms.Rooms.{Rooms}
 use Rattle.cd_base.specs.declared.shape.Shape.{Shape}
@@ -16,7 +16,6 @@ use Rattle.commit_journal.specs.declared.header.Header.{Header}
 use Rattle.commit_journal.specs.declared.errors.OpenErr.{OpenErr}
 use Rattle.commit_journal.specs.declared.errors.OpenErr.TheVariants as errors
 use Rattle.commit_journal.specs.declared.journal.Stage.TheVariants.{Shut}
-use Rattle.commit_journal.specs.Records.{is_begun}
 use Rattle.user_dedup.specs.declared.command.Command.{Command}
 use Rattle.user_dedup.specs.Dedup.{IsSound, Begun}
 use Rattle.user_dedup.specs.Exec.{Peer, MaySettleAs, Settles, Stays as PeerStays, CountsOn, StandsSound}
@@ -29,8 +28,10 @@ use Rattle.cloud_store.specs.Space.{IsWithin}
 use Rattle.cloud_store.specs.Standing.{ImagesNow, ImagesSince}
 use Rattle.cloud_store.specs.Store.{StandsFor}
 use Rattle.command_log.proofs.Both.{as_read}
+use Rattle.share_server.specs.Names.{counted as number_in}
 use Rattle.share_server.specs.declared.server.Server.{Server}
 use Rattle.share_server.specs.Serving.{IsServing, ReopensAs, settled_with}
+use Rattle.share_server.proofs.NoCommands.{empty_stands, fewer_within}
 use Rattle.local_link.specs.declared.servers.Servers.{Servers}
 use Rattle.local_link.specs.declared.link.LocalLink.{LocalLink}
 use Rattle.local_link.specs.Members.{IsServerOf}
@@ -154,17 +155,17 @@ module _ (old_servers new_servers : Servers) (cloud : ℕ) (before after : Serve
       (subst P of.number_is (λ t st. x.whole t list st) told (subst (λ (h : Header). StandsFor (reads (old cloud).now) h list) (sym (header_same old_servers.shape cloud before of)) stands))
 
   pub loaded_here : IsTrue (old cloud).told → (list : List Command) → StandsFor (reads (old cloud).now) (header_of old_servers.shape cloud) list
-      → IfOk result (λ (commands : ℕ). (commands ≡ length list) × IsPeer new_servers.shape cloud (new cloud) (server_at new_servers cloud) (settled_with list (new cloud)))
+      → IfOk result (λ (commands : ℕ). (commands ≡ number_in list) × IsPeer new_servers.shape cloud (new cloud) (server_at new_servers cloud) (settled_with list (new cloud)))
   loaded_here told list stands =
-      let P : ℕ → Type 0 = λ n. IsTrue (old n).told → StandsFor (reads (old n).now) before.state.header list → IfOk result (λ (commands : ℕ). (commands ≡ length list) × IsServing after (new n) (settled_with list (new n))) in
+      let P : ℕ → Type 0 = λ n. IsTrue (old n).told → StandsFor (reads (old n).now) before.state.header list → IfOk result (λ (commands : ℕ). (commands ≡ number_in list) × IsServing after (new n) (settled_with list (new n))) in
       by_result result (subst P of.number_is (λ t s. x.loaded t list s) told (subst (λ (h : Header). StandsFor (reads (old cloud).now) h list) (sym (header_same old_servers.shape cloud before of)) stands))
     where
       sound_one : (l : List Command) → MaySettleAs (settled_with list (new cloud)) l → IsSound old_servers.shape cloud l
       sound_one l (inl same) = subst (IsSound old_servers.shape cloud) (sym same) (stands_sound (reads (old cloud).now) (header_of old_servers.shape cloud) list stands)
       sound_one l (inr none) = absurd none
 
-      by_result : (r : Result ℕ OpenErr) → IfOk r (λ (commands : ℕ). (commands ≡ length list) × IsServing after (new cloud) (settled_with list (new cloud)))
-          → IfOk r (λ (commands : ℕ). (commands ≡ length list) × IsPeer new_servers.shape cloud (new cloud) (server_at new_servers cloud) (settled_with list (new cloud)))
+      by_result : (r : Result ℕ OpenErr) → IfOk r (λ (commands : ℕ). (commands ≡ number_in list) × IsServing after (new cloud) (settled_with list (new cloud)))
+          → IfOk r (λ (commands : ℕ). (commands ≡ number_in list) × IsPeer new_servers.shape cloud (new cloud) (server_at new_servers cloud) (settled_with list (new cloud)))
       by_result (Ok commands) e = (
         e.0,
         record {
@@ -245,16 +246,9 @@ stable_empty now image e left = as_read now image (e ∙ ap stable (sym (ap (λ 
 empty_images : (cloud : Cloud) → ((area : Area) → cloud.now area ≡ stable []) → (image : Image) → IsImage cloud.now image → (area : Area) → image area ≡ []
 empty_images cloud now image left area = stable_empty (cloud.now area) (image area) (now area) (left area)
 
-stands_unbegun : (image : Image) (header : Header) → image Journal ≡ [] → StandsFor image header []
-unfolding StandsFor
-stands_unbegun image header e = (Begun, inr (ap is_begun e, refl))
-
 pub was_before : (old new : Cloud) (result : Result (Unit {0}) Failed) → Refreshes old new result → WasBefore old new
 was_before old new (Ok u) r = moved old new (λ (image : Image). IsImage old.now image ⊎ ((area : Area) → image area ≡ [])) r.ok.past (λ image left. inl left) (λ image left. inr (empty_images new r.ok.now image left))
 was_before old new (Err e) r = stayed old new (λ (image : Image). IsImage old.now image ⊎ ((area : Area) → image area ≡ [])) r.err (λ image left. inl left)
-
-none_within : (rooms : Rooms) (list : List Command) → IsWithin rooms list → IsWithin rooms []
-none_within rooms list w = let j = w.journal in record { fps = omega arith; owners = omega arith; files = omega arith; shares = omega arith; recipes = omega arith; journal = omega arith }
 
 none_settles : (cloud : Cloud) (list : List Command) → MaySettleAs (no_commands cloud) list → list ≡ []
 none_settles cloud list (inl same) = same
@@ -266,7 +260,7 @@ none_sound shape number cloud list settles = subst (IsSound shape number) (sym (
 none_stands : (server : Server) (old new : Cloud) → server.state.log.journal.stage ≡ Shut → ((area : Area) → new.now area ≡ stable []) → new.faults ≡ old.faults → new.armings ≡ old.armings
     → IsWithin server.state.rooms [] → IsServing server new (no_commands old)
 none_stands server old new shut now faults armings within = closed_serves server new (no_commands old) shut
-    (λ image left. ([], inl refl, stands_unbegun image server.state.header (empty_images new now image left Journal)))
+    (λ image left. ([], inl refl, empty_stands image server.state.header (empty_images new now image left)))
     (sym faults) (sym armings)
     (λ list settles. subst (IsWithin server.state.rooms) (sym (none_settles old list settles)) within)
 
@@ -308,7 +302,7 @@ module _ (old_servers new_servers : Servers) (cloud : ℕ) (before after : Serve
   replaced (Ok u) fresh told armings failed kept p is = (
     no_commands old,
     none_peer (λ t. (fresh t).ok) told kept.cloud armings (λ t.
-        none_within before.state.rooms p.list ((known_of (server_at old_servers cloud) before (λ (s : Server). IsServing s old p) put.here (is.serving t)).within p.list (inl refl))),
+        fewer_within before.state.rooms p.list ((known_of (server_at old_servers cloud) before (λ (s : Server). IsServing s old p) put.here (is.serving t)).within p.list (inl refl))),
     (refl, refl, sym is.faults, sym is.armings),
   )
   replaced (Err e) fresh told armings failed kept p is = (

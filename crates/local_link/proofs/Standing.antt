@@ -156,7 +156,7 @@ areas_serve server old new p told now is =
     ready_so r = record { told = r.told; stands = r.stands; within = r.within; journal = r.journal; images = r.images }
 
     on_so : IsOn server.state.header p.list server.state.log old → IsOn server.state.header p.list server.state.log (with_areas new old.told old.now)
-    on_so o = record { told = o.told; sound = o.sound; has = o.has; on_disk = o.on_disk; ended = o.ended; shares_end_at = o.shares_end_at; recipes_end_at = o.recipes_end_at }
+    on_so o = record { told = o.told; sound = o.sound; has = o.has; on_disk = o.on_disk; ended = o.ended; shares_end_at = o.shares_end_at; recipes_end_at = o.recipes_end_at; shares_current = o.shares_current; recipes_current = o.recipes_current }
 
     agrees_so : Agrees server.state old p.list → Agrees server.state (with_areas new old.told old.now) p.list
     agrees_so a = record { remembers = a.remembers; on = on_so a.on }

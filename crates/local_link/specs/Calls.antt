@@ -6,15 +6,11 @@ use Rattle.cd_edges.specs.declared.area.Area.{Area}
 use Rattle.cd_edges.specs.declared.stream.Failed.{Failed}
 use Rattle.cd_edges.specs.Causes.{Rose}
 use Rattle.cd_edges.specs.Disk.{Cloud, Image, IsImage, LeavesOnly}
-use Rattle.commit_journal.specs.declared.header.Header.{Header}
 use Rattle.user_dedup.specs.declared.command.Command.{Command}
 use Rattle.user_dedup.specs.Exec.{Peer, MaySettleAs, Stays, StandsSound}
 use Rattle.cloud_store.specs.Space.{IsWithin}
 use Rattle.cloud_store.specs.Standing.{ImagesNow}
-
--- the header of the cloud of this number in a store of this shape
-abbrev pub header_of : Shape → ℕ → Header
-header_of shape number = record { format = 1; shape = shape; cloud = record { 0 = number } }
+pub use Rattle.share_server.specs.Names.{header_of}
 
 -- A cloud may be served as this peer, in these rooms: its counts are the peer's, and where it is told each image now stands for a list that
 -- the peer may settle as, all of which are sound and within the rooms.

@@ -1,5 +1,5 @@
 -- What a call does to one of the servers.
-use Rattle.std.specs.Prelude.{◌≡◌, ◌≢◌, ◌⊎◌, ℕ, Bool, true, IsTrue, List, length, Some, Result, Ok, Err, IfOk, OnOk, OnErr, slice_set}
+use Rattle.std.specs.Prelude.{◌≡◌, ◌≢◌, ◌⊎◌, ℕ, Bool, true, IsTrue, List, Some, Result, Ok, Err, IfOk, OnOk, OnErr, slice_set}
 use Rattle.std.specs.List.{Contains}
 use Rattle.cd_base.specs.declared.ids.Fp.{Fp}
 use Rattle.cd_base.specs.declared.rooms.Rooms.{Rooms}
@@ -29,6 +29,7 @@ use Rattle.cloud_store.specs.Store.{StandsFor}
 use Rattle.request_dispatch.specs.Asking.{IsFound}
 use Rattle.request_dispatch.specs.Leaving.{LeavesAll}
 use Rattle.share_server.specs.declared.server.Server.{Server}
+use Rattle.share_server.specs.Names.{counted}
 use Rattle.share_server.specs.Serving.{number_of, IsServing, server_serves, settled_with, ReopensAs, CanOpen, Refused}
 use Rattle.local_link.specs.declared.servers.Servers.{Servers}
 use Rattle.local_link.specs.Tells.{server_at}
@@ -115,7 +116,7 @@ pub record Reopens (before after : Server) (old new : ℕ → Cloud) (faults_bef
   pub whole : IsTrue (old (number_of before)).told → (list : List Command) → StandsFor (reads (old (number_of before)).now) before.state.header list → IsWithin before.state.rooms list
       → MayBegin ((old (number_of before)).now Journal).read begin → IsOkOrFault result
   pub loaded : IsTrue (old (number_of before)).told → (list : List Command) → StandsFor (reads (old (number_of before)).now) before.state.header list
-      → IfOk result (λ commands. (commands ≡ length list) × IsServing after (new (number_of before)) (settled_with list (new (number_of before))))
+      → IfOk result (λ commands. (commands ≡ counted list) × IsServing after (new (number_of before)) (settled_with list (new (number_of before))))
   pub images : IsTrue (old (number_of before)).told → (lists : List (List Command))
       → ImagesNow (old (number_of before)) before.state.header (Contains lists)
       → ImagesSince (old (number_of before)) (new (number_of before)) before.state.header (Contains lists)

@@ -60,6 +60,7 @@ impl<'a, V: Shelf> LocalLink<'a, V> {
     ghost use Rattle.cloud_store.specs.Standing.{ImagesNow, ImagesSince, MayBecome};
     ghost use Rattle.share_server.specs.declared.server.Server.{Server};
     ghost use Rattle.cd_base.specs.declared.rooms.Rooms.{Rooms};
+    ghost use Rattle.share_server.specs.Names.{counted};
     ghost use Rattle.share_server.specs.Serving.{ReopensAs, settled_with, CanOpen, Refused};
     ghost use Rattle.cloud_store.specs.Store.{StandsFor};
     ghost use Rattle.cd_edges.specs.Disk.{reads};
@@ -213,7 +214,7 @@ impl<'a, V: Shelf> LocalLink<'a, V> {
         // Where what the cloud reads stands for a list, the cloud stands for that list.
         ensures loaded { IsTrue ((telling V.cloud_at).told self.old cloud.0) → (list : List Command)
             → StandsFor (reads (V.cloud_at self.old.shelf.now cloud.0).now) (header_of ((telling V.cloud_at).shape self.old) cloud.0) list
-            → IfOk result (λ commands. (commands ≡ length list) × (telling V.cloud_at).stands self.new cloud.0 (settled_with list (V.cloud_at self.new.shelf.now cloud.0))) }
+            → IfOk result (λ commands. (commands ≡ counted list) × (telling V.cloud_at).stands self.new cloud.0 (settled_with list (V.cloud_at self.new.shelf.now cloud.0))) }
         ensures untold { (p : Peer) → (telling V.cloud_at).told self.old cloud.0 ≡ false → (telling V.cloud_at).stands self.old cloud.0 p
             → (q : Peer) × (telling V.cloud_at).stands self.new cloud.0 q × Stays p q × CountsOn p q }
 

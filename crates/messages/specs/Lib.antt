@@ -5,4 +5,5 @@ pub mod RequestReading
 pub mod Seen
 pub mod Replies
 pub mod ReplyReading
+pub mod ReplyViews
 pub mod Answering

@@ -1,6 +1,6 @@
 //! Reading a reply.
 
-ghost use Rattle.std.specs.Prelude.{◌≡◌, ◌≢◌, ◌<◌, ◌^◌, ℕ, false, length, IsErr, IfErr, Ok, Err, ◌↔◌};
+ghost use Rattle.std.specs.Prelude.{◌≡◌, ◌≢◌, ◌<◌, ◌^◌, ℕ, false, length, IsErr, IfErr, IfOk, Ok, Err, ◌↔◌};
 ghost use Rattle.std.specs.Int.{w16};
 ghost use Rattle.grammar.specs.Readers.{Gives, done_at};
 ghost use Rattle.grammar.specs.Fields.{number_at, checked};
@@ -10,10 +10,11 @@ ghost use Rattle.messages.specs.declared.reply.Reply.{Reply};
 ghost use Rattle.messages.specs.Replies.{IsReply};
 ghost use Rattle.messages.specs.ReplyReading.{format_of, room_of, is_new_count, hello_left, known_left, stored_left, lacking_left, recipe_left, shares_left, not_yours_left, entries_left, full_left, damaged_left, rotten_left, malformed_left, plain_left, reply_left, reply_at, is_of_entries};
 ghost use Rattle.messages.specs.Outcome.{IsRead};
+ghost use Rattle.messages.specs.ReplyViews.{IsInPlace, IsSmall, IsViewed, seen_reply};
 
 use crate::copies::{bytes_copy, shares_copy};
-use crate::{MsgErr, Reply};
-use cd_base::Room;
+use crate::{MsgErr, Reply, ReplyView};
+use cd_base::{NoMemory, Room};
 use grammar::Stop;
 use message_fields::{
     Left, byte_of, ended, entries_of, flags_of, fp_of, shares_of, u16_of, u32_of, u64_of,
@@ -61,7 +62,8 @@ fn new_count_of(bytes: &[u8]) -> Result<(u16, &[u8]), Left>
 
 #[tactic(auto, unfolding(crate::specs::ReplyReading::hello_left))]
 fn hello_of(fields: &[u8]) -> Result<Reply, Left>
-    ensures { IsReading (λ r. r) result (hello_left fields.now) }
+    ensures value { IsReading (λ r. r) result (hello_left fields.now) }
+    ensures small { IfOk result IsSmall }
 {
     let (n, rest) = byte_of(fields)?;
     let (k, rest) = byte_of(rest)?;
@@ -80,6 +82,7 @@ fn hello_of(fields: &[u8]) -> Result<Reply, Left>
 fn known_of(alloc: Global, fields: &[u8]) -> Result<Reply, Stop>
     ensures value { Gives (λ r. r) result (known_left fields.now) }
     ensures memory { IsErr (known_left fields.now) → IfErr result (λ e. e ≢ Stop.Memory) }
+    ensures small { IfOk result IsSmall }
 {
     let (flags, rest) = flags_of(fields)?;
     ended(rest)?;
@@ -89,7 +92,8 @@ fn known_of(alloc: Global, fields: &[u8]) -> Result<Reply, Stop>
 
 #[tactic(auto, unfolding(crate::specs::ReplyReading::stored_left))]
 fn stored_of(fields: &[u8]) -> Result<Reply, Left>
-    ensures { IsReading (λ r. r) result (stored_left fields.now) }
+    ensures value { IsReading (λ r. r) result (stored_left fields.now) }
+    ensures small { IfOk result IsSmall }
 {
     let (new, rest) = new_count_of(fields)?;
     ended(rest)?;
@@ -98,7 +102,8 @@ fn stored_of(fields: &[u8]) -> Result<Reply, Left>
 
 #[tactic(auto, unfolding(crate::specs::ReplyReading::lacking_left))]
 fn lacking_of(fields: &[u8]) -> Result<Reply, Left>
-    ensures { IsReading (λ r. r) result (lacking_left fields.now) }
+    ensures value { IsReading (λ r. r) result (lacking_left fields.now) }
+    ensures small { IfOk result IsSmall }
 {
     let (place, rest) = u32_of(fields)?;
     ended(rest)?;
@@ -106,33 +111,30 @@ fn lacking_of(fields: &[u8]) -> Result<Reply, Left>
 }
 
 #[tactic(auto, unfolding(crate::specs::ReplyReading::recipe_left))]
-fn recipe_of(alloc: Global, fields: &[u8]) -> Result<Reply, Stop>
-    ensures value { Gives (λ r. r) result (recipe_left fields.now) }
-    ensures memory { IsErr (recipe_left fields.now) → IfErr result (λ e. e ≢ Stop.Memory) }
+fn recipe_of(fields: &[u8]) -> Result<ReplyView<'_>, Left>
+    ensures value { IsReading seen_reply result (recipe_left fields.now) }
+    ensures in_place { IfOk result IsInPlace }
 {
     match fields {
-        [] => Err(Stop::Left(0)),
-        _ => {
-            let bytes = bytes_copy(alloc, fields)?;
-            Ok(Reply::Recipe { bytes })
-        }
+        [] => Err(Left(0)),
+        _ => Ok(ReplyView::Recipe(fields)),
     }
 }
 
 #[tactic(auto, unfolding(crate::specs::ReplyReading::shares_left))]
-fn reply_shares_of(alloc: Global, fields: &[u8]) -> Result<Reply, Stop>
-    ensures value { Gives (λ r. r) result (shares_left fields.now) }
-    ensures memory { IsErr (shares_left fields.now) → IfErr result (λ e. e ≢ Stop.Memory) }
+fn shares_in(fields: &[u8]) -> Result<ReplyView<'_>, Left>
+    ensures value { IsReading seen_reply result (shares_left fields.now) }
+    ensures in_place { IfOk result IsInPlace }
 {
     let (shares, rest) = shares_of(fields)?;
     ended(rest)?;
-    let shares = shares_copy(alloc, &shares)?;
-    Ok(Reply::Shares { shares })
+    Ok(ReplyView::Shares(shares))
 }
 
 #[tactic(auto, unfolding(crate::specs::ReplyReading::not_yours_left))]
 fn not_yours_of(fields: &[u8]) -> Result<Reply, Left>
-    ensures { IsReading (λ r. r) result (not_yours_left fields.now) }
+    ensures value { IsReading (λ r. r) result (not_yours_left fields.now) }
+    ensures small { IfOk result IsSmall }
 {
     let (place, rest) = u16_of(fields)?;
     ended(rest)?;
@@ -141,7 +143,8 @@ fn not_yours_of(fields: &[u8]) -> Result<Reply, Left>
 
 #[tactic(auto, unfolding(crate::specs::ReplyReading::entries_left))]
 fn reply_entries_of(alloc: Global, fields: &[u8]) -> Result<Reply, Stop>
-    ensures { Gives (λ r. r) result (entries_left fields.now) }
+    ensures value { Gives (λ r. r) result (entries_left fields.now) }
+    ensures small { IfOk result IsSmall }
 {
     let (entries, rest) = entries_of(alloc, fields)?;
     ended(rest)?;
@@ -150,7 +153,8 @@ fn reply_entries_of(alloc: Global, fields: &[u8]) -> Result<Reply, Stop>
 
 #[tactic(auto, unfolding(crate::specs::ReplyReading::full_left))]
 fn full_of(fields: &[u8]) -> Result<Reply, Left>
-    ensures { IsReading (λ r. r) result (full_left fields.now) }
+    ensures value { IsReading (λ r. r) result (full_left fields.now) }
+    ensures small { IfOk result IsSmall }
 {
     let (room, rest) = room_byte_of(fields)?;
     let (used, rest) = u64_of(rest)?;
@@ -167,7 +171,8 @@ fn full_of(fields: &[u8]) -> Result<Reply, Left>
 
 #[tactic(auto, unfolding(crate::specs::ReplyReading::damaged_left))]
 fn damaged_of(fields: &[u8]) -> Result<Reply, Left>
-    ensures { IsReading (λ r. r) result (damaged_left fields.now) }
+    ensures value { IsReading (λ r. r) result (damaged_left fields.now) }
+    ensures small { IfOk result IsSmall }
 {
     let (at, rest) = u64_of(fields)?;
     let (byte, rest) = byte_of(rest)?;
@@ -177,7 +182,8 @@ fn damaged_of(fields: &[u8]) -> Result<Reply, Left>
 
 #[tactic(auto, unfolding(crate::specs::ReplyReading::rotten_left))]
 fn rotten_of(fields: &[u8]) -> Result<Reply, Left>
-    ensures { IsReading (λ r. r) result (rotten_left fields.now) }
+    ensures value { IsReading (λ r. r) result (rotten_left fields.now) }
+    ensures small { IfOk result IsSmall }
 {
     let (named, rest) = fp_of(fields)?;
     let (found, rest) = fp_of(rest)?;
@@ -187,7 +193,8 @@ fn rotten_of(fields: &[u8]) -> Result<Reply, Left>
 
 #[tactic(auto, unfolding(crate::specs::ReplyReading::malformed_left))]
 fn malformed_of(fields: &[u8]) -> Result<Reply, Left>
-    ensures { IsReading (λ r. r) result (malformed_left fields.now) }
+    ensures value { IsReading (λ r. r) result (malformed_left fields.now) }
+    ensures small { IfOk result IsSmall }
 {
     let (at, rest) = u32_of(fields)?;
     ended(rest)?;
@@ -196,7 +203,9 @@ fn malformed_of(fields: &[u8]) -> Result<Reply, Left>
 
 // A reply without fields.
 fn bare_of(fields: &[u8], reply: Reply) -> Result<Reply, Left>
-    ensures { IsReading (λ r. r) result (done_at reply fields.now) }
+    requires { IsSmall reply }
+    ensures value { IsReading (λ r. r) result (done_at reply fields.now) }
+    ensures small { IfOk result IsSmall }
 {
     ended(fields)?;
     Ok(reply)
@@ -206,7 +215,8 @@ fn bare_of(fields: &[u8], reply: Reply) -> Result<Reply, Left>
 #[tactic(auto, unfolding(crate::specs::ReplyReading::plain_left))]
 fn plain_of(kind: u8, fields: &[u8]) -> Result<Reply, Left>
     requires { length fields.now < 2 ^ 32 }
-    ensures { IsReading (λ r. r) result (plain_left kind fields.now) }
+    ensures value { IsReading (λ r. r) result (plain_left kind fields.now) }
+    ensures small { IfOk result IsSmall }
 {
     match kind {
         0x81 => hello_of(fields),
@@ -227,18 +237,58 @@ fn plain_of(kind: u8, fields: &[u8]) -> Result<Reply, Left>
 }
 
 #[tactic(auto, unfolding(crate::specs::ReplyReading::reply_fields_left, crate::specs::ReplyReading::reply_left))]
-fn reply_of(alloc: Global, content: &[u8]) -> Result<Reply, Stop>
+fn view_of(alloc: Global, content: &[u8]) -> Result<ReplyView<'_>, Stop>
     requires { length content.now < 2 ^ 32 }
-    ensures value { Gives (λ r. r) result (reply_left content.now) }
+    ensures value { Gives seen_reply result (reply_left content.now) }
     ensures memory { is_of_entries content.now ≡ false → IsErr (reply_left content.now) → IfErr result (λ e. e ≢ Stop.Memory) }
+    ensures in_place { IfOk result IsInPlace }
 {
     match content {
         [] => Err(Stop::Left(0)),
-        [0x82, fields @ ..] => known_of(alloc, fields),
-        [0x87, fields @ ..] => recipe_of(alloc, fields),
-        [0x89, fields @ ..] => reply_shares_of(alloc, fields),
-        [0x8B, fields @ ..] => reply_entries_of(alloc, fields),
-        [kind, fields @ ..] => Ok(plain_of(*kind, fields)?),
+        [0x82, fields @ ..] => Ok(ReplyView::Other(known_of(alloc, fields)?)),
+        [0x87, fields @ ..] => Ok(recipe_of(fields)?),
+        [0x89, fields @ ..] => Ok(shares_in(fields)?),
+        [0x8B, fields @ ..] => Ok(ReplyView::Other(reply_entries_of(alloc, fields)?)),
+        [kind, fields @ ..] => Ok(ReplyView::Other(plain_of(*kind, fields)?)),
+    }
+}
+
+impl<'a> ReplyView<'a> {
+    /// The reply that the content is, all of it, as `Reply::read` says it; memory is taken for flags and entries alone.
+    #[tactic(auto, unfolding(crate::specs::ReplyReading::reply_at))]
+    pub fn read(alloc: Global, content: &'a [u8]) -> Result<ReplyView<'a>, MsgErr>
+        requires { length content.now < 2 ^ 32 }
+        ensures reads { IsViewed result (reply_at content.now) }
+        ensures in_place { IfOk result IsInPlace }
+        // Want of memory is no answer to content that is none, but to entries, which are read one by one.
+        ensures malformed { (at : ℕ) → reply_at content.now ≡ Err at → is_of_entries content.now ≡ false → result ≢ Err MsgErr.NoMemory }
+        // Content is read as the reply that it is the spelling of, and no other content is read.
+        ensures grammar { (r : Reply) → (reply_at content.now ≡ Ok r) ↔ IsReply content.now r }
+    {
+        match view_of(alloc, content) {
+            Ok(view) => Ok(view),
+            Err(Stop::Memory) => Err(MsgErr::NoMemory),
+            Err(Stop::Left(left)) => Err(MsgErr::Malformed {
+                at: content.len().saturating_sub(left) as u32,
+            }),
+        }
+    }
+
+    /// The reply with memory of its own.
+    pub fn into_reply(self, alloc: Global) -> Result<Reply, NoMemory>
+        ensures { IfOk result (λ r. r ≡ seen_reply self.entry) }
+    {
+        match self {
+            ReplyView::Recipe(bytes) => {
+                let bytes = bytes_copy(alloc, bytes)?;
+                Ok(Reply::Recipe { bytes })
+            }
+            ReplyView::Shares(shares) => {
+                let shares = shares_copy(alloc, &shares)?;
+                Ok(Reply::Shares { shares })
+            }
+            ReplyView::Other(reply) => Ok(reply),
+        }
     }
 }
 
@@ -247,7 +297,6 @@ impl Reply {
     /// kind gives 0; a field that lacks bytes gives the length of the content, one out of its range its first place; bytes behind
     /// the last field give the place of the first of them. Of entries that do not rise, the tag is wrong where it is less than
     /// the one before, and else the version.
-    #[tactic(auto, unfolding(crate::specs::ReplyReading::reply_at))]
     pub fn read(alloc: Global, content: &[u8]) -> Result<Reply, MsgErr>
         requires { length content.now < 2 ^ 32 }
         ensures reads { IsRead result (reply_at content.now) }
@@ -256,12 +305,12 @@ impl Reply {
         // Content is read as the reply that it is the spelling of, and no other content is read.
         ensures grammar { (r : Reply) → (reply_at content.now ≡ Ok r) ↔ IsReply content.now r }
     {
-        match reply_of(alloc, content) {
-            Ok(reply) => Ok(reply),
-            Err(Stop::Memory) => Err(MsgErr::NoMemory),
-            Err(Stop::Left(left)) => Err(MsgErr::Malformed {
-                at: content.len().saturating_sub(left) as u32,
-            }),
+        match ReplyView::read(alloc, content) {
+            Ok(view) => match view.into_reply(alloc) {
+                Ok(reply) => Ok(reply),
+                Err(NoMemory) => Err(MsgErr::NoMemory),
+            },
+            Err(error) => Err(error),
         }
     }
 }

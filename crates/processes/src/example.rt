@@ -145,7 +145,7 @@ fn end(rt: &HostRuntime, cloud: usize, server: Server) -> io::Result<()> {
     show(rt, title.as_str(), &output, 0)
 }
 
-// Four clouds; a backup to all; a restore from the last three, and one of a version that no cloud has.
+// Four clouds; a backup to all; a restore from the last three, and one of a version that no cloud has; and a generated session.
 fn example(rt: &HostRuntime, servers: &mut Vec<Server>) -> io::Result<()> {
     for cloud in 0..4 {
         start(rt, cloud, servers)?;
@@ -177,7 +177,33 @@ fn example(rt: &HostRuntime, servers: &mut Vec<Server>) -> io::Result<()> {
         restore.as_str(),
         b"",
         8,
-    )
+    )?;
+    month(rt)
+}
+
+// What a read of a version of the generated session wrote, from these clouds.
+fn read_back(rt: &HostRuntime, clouds: &str) -> io::Result<Vec<u8>> {
+    let line = format!(in rt.alloc(); "read m 4 3 1 file 2 {clouds}")?;
+    let process = command(rt, line.as_str(), Stdio::null())?.spawn(rt)?;
+    let output = process.wait_with_output(rt.alloc())?;
+    if output.status.code() == Some(0) {
+        Ok(output.stdout)
+    } else {
+        Err(surprise())
+    }
+}
+
+// A generated session of four backups, and a version of it from each choice of three clouds.
+fn month(rt: &HostRuntime) -> io::Result<()> {
+    act(rt, "gen", "gen 1 4 40 m", b"", 0)?;
+    let first = read_back(rt, "0,1,2")?;
+    for clouds in ["0,1,3", "0,2,3", "1,2,3"] {
+        if read_back(rt, clouds)?.as_slice() != first.as_slice() {
+            return Err(surprise());
+        }
+    }
+    let length = first.len();
+    println!(rt; "clouds 0,1,2, 0,1,3, 0,2,3 and 1,2,3 give the same {length} bytes")
 }
 
 /// Plays the example, and prints what each process wrote but its address. Ends with status 1 where something wasn't as it is wanted; no

@@ -1,5 +1,5 @@
 //! The program `cdstore` again, which without words plays an example by itself: four clouds as processes of their own, a backup to them,
-//! and restores from three of them.
+//! restores from three of them, and a generated session.
 #![tactic(auto)]
 
 mod example;

@@ -32,7 +32,7 @@ pub record Staging (old log : Logs) (whole sent : List (List ℕ)) (marks : List
   pub same : OnlyStaged old log
 
 same_logs : (log : Logs) → OnlyStaged log log
-same_logs log = record { journal = refl; recipes = refl; area = refl; limit = refl; end = refl }
+same_logs log = record { journal = refl; recipes = refl; area = refl; limit = refl; end = refl; kept = refl }
 
 pub begun : (log : Logs) (sent : List (List ℕ)) (marks : List Bool) (items : List PutItem) → HasStaged log.shares [] → length items ≡ length (marked marks sent)
     → Staging log log (laid_of (marked marks sent) items) sent marks items 0 0 sent
@@ -54,6 +54,7 @@ then_same a b c first second = record {
   area = second.area ∙ first.area;
   limit = second.limit ∙ first.limit;
   end = second.end ∙ first.end;
+  kept = second.kept ∙ first.kept;
 }
 
 -- the rest of a list, from a place that it has

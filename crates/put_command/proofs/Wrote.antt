@@ -27,7 +27,7 @@ pub prepared : (header : Header) (list : List Command) (user : UserId) (strings 
     → MayWrite header list user strings items old cloud → OnlyStaged old staged → HasStaged staged.shares (laid_of strings items) → HasStaged old.recipes [] → body ≡ body_bytes (Put user items)
     → IsPrepared header list (commands.Put user strings) staged body cloud
 prepared header list user strings items old staged body cloud may only has none body_is = record {
-  on = on_alike header list old staged cloud only.journal only.area only.end (ap (λ (s : State). s.area) only.recipes) (ap (λ (s : State). s.end) only.recipes) may.on;
+  on = on_alike header list old staged cloud only.journal only.area only.end (ap (λ (s : State). s.area) only.recipes) (ap (λ (s : State). s.end) only.recipes) only.kept (ap (λ (s : State). s.kept) only.recipes) may.on;
   sound = may.sound;
   shares = subst (HasStaged staged.shares) (ap (laid_of strings) may.parts ∙ laid_after (strings_in list) strings) has;
   recipes = subst (λ (s : State). HasStaged s []) (sym only.recipes) none;

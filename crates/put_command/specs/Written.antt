@@ -20,6 +20,7 @@ pub record OnlyStaged (old new : Logs) : Type 0 where
   pub area : new.shares.area ≡ old.shares.area
   pub limit : new.shares.limit ≡ old.shares.limit
   pub end : new.shares.end ≡ old.shares.end
+  pub kept : new.shares.kept ≡ old.shares.kept
 
 -- The log stands for the list, which is sound with the Put behind it, and the parts are those of the Put's record.
 pub record MayWrite (header : Header) (list : List Command) (user : UserId) (strings : List (List ℕ)) (items : List PutItem) (log : Logs) (cloud : Cloud) : Type 0 where

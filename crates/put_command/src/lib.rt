@@ -7,7 +7,6 @@
 mod news;
 mod putting;
 mod records;
-mod replies;
 mod staging;
 mod writing;
 

@@ -17,7 +17,6 @@ ghost use Rattle.cloud_state.specs.Serving.{serves, Served, IsServedOrNot, momen
 ghost use Rattle.put_command.specs.Picked.{marked, Picked};
 
 use crate::news::collect;
-use crate::replies::{put_full, put_stored};
 use crate::writing::write;
 use cd_base::{Fp, UserId};
 use cd_edges::{Failed, Shelf};
@@ -25,6 +24,7 @@ use cloud_index::New;
 use cloud_state::CloudState;
 use frames::ReplyBuf;
 use message_fields::SharesView;
+use messages::{write_full, write_stored};
 use record_body::PutItem;
 
 // Adds the Put of the shares with a mark, where each room is wide enough. It asks for one at least.
@@ -77,7 +77,7 @@ fn add_news<V: Shelf>(
     let gate = state.log.used() - 1;
     match state.index.add_put(&state.rooms, gate, user, news, items) {
         Err(full) => {
-            put_full(reply, full);
+            write_full(reply, full.room, full.used, full.need, full.limit);
             Ok(())
         }
         Ok(()) => {
@@ -93,7 +93,7 @@ fn add_news<V: Shelf>(
                 items,
             ) {
                 Ok(()) => {
-                    put_stored(reply, news.len());
+                    write_stored(reply, news.len() as u16);
                     Ok(())
                 }
                 Err(Failed) => Err(Failed),
@@ -158,7 +158,7 @@ pub fn put<V: Shelf>(
     let mut marks = [false; 256];
     let count = collect(&state.index, user, shares, &mut news, &mut marks);
     if count == 0 {
-        put_stored(reply, 0);
+        write_stored(reply, 0);
         return Ok(());
     }
     let (front, _) = news.split_at(count);

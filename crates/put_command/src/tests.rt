@@ -1,11 +1,8 @@
-//! Which shares of a Put are new over the index of no commands, and the bytes of its replies. A server over a disk, above this
-//! crate, tests whole Puts.
+//! Which shares of a Put are new over the index of no commands. A server over a disk, above this crate, tests whole Puts.
 
 use super::news::collect;
-use super::replies::{put_full, put_stored};
-use cd_base::{Fp, Room, Rooms, UserId, sha256};
-use cloud_index::{CloudIndex, Full, New};
-use frames::ReplyBuf;
+use cd_base::{Fp, Rooms, UserId, sha256};
+use cloud_index::{CloudIndex, New};
 use message_fields::shares_of;
 use std::test::Fail;
 
@@ -35,29 +32,6 @@ fn the_first_of_each_hash_is_new(rt: HostRuntime) -> Result<(), Fail> {
             fp: sha256(&[8]),
             len: 1
         }
-    );
-    Ok(())
-}
-
-#[test]
-fn replies_are_spelled(rt: HostRuntime) -> Result<(), Fail> {
-    let mut reply = ReplyBuf::make(rt.alloc())?;
-    put_stored(&mut reply, 256);
-    assert_eq!(rt; reply.content(), [0x83, 1, 0].as_slice());
-    put_full(
-        &mut reply,
-        Full {
-            room: Room::Owners,
-            used: 2,
-            need: 3,
-            limit: 4,
-        },
-    );
-    assert_eq!(rt; reply.content().len(), 26);
-    assert!(rt;
-        reply
-            .content()
-            .starts_with(&[0x8C, 5, 0, 0, 0, 0, 0, 0, 0, 2])
     );
     Ok(())
 }

@@ -112,21 +112,8 @@ few_more old out out' fp n few one =
     let most : length one.share ≤ 8208 = one.range.1 in
     omega (arith, ap length one.bytes, length-append out (share_bytes one.share), length-append head one.share)
 
--- a share's length and bytes, put behind one another
-pub put_one : (fp : Fp) (old mid out bytes share : List ℕ) (len : ℕ) → mid ≡ old ++ bytes → out ≡ mid ++ share → bytes ≡ to_be_bytes w32 len → length share ≡ len
-    → out ≡ old ++ share_bytes share
-put_one fp old mid out bytes share len mid_is out_is bytes_is long =
-    out_is ∙ ap (λ (l : List ℕ). l ++ share) (mid_is ∙ ap (λ (l : List ℕ). old ++ l) (bytes_is ∙ ap (to_be_bytes w32) (sym long)))
-    ∙ append_assoc old (to_be_bytes w32 (length share)) share
-
-pub sent_one : (fp : Fp) (old mid out bytes share : List ℕ) (len : ℕ) → mid ≡ old ++ bytes → out ≡ mid ++ share → bytes ≡ to_be_bytes w32 len → length share ≡ len
-    → 1 ≤ len → len ≤ 8208 → fingerprint share ≡ fp → SentOne fp old out
-sent_one fp old mid out bytes share len mid_is out_is bytes_is long some few named = record {
-  share = share;
-  bytes = put_one fp old mid out bytes share len mid_is out_is bytes_is long;
-  range = (omega arith, omega arith);
-  named = named;
-}
+pub sent_one : (fp : Fp) (old out share : List ℕ) (len : ℕ) → out ≡ old ++ share_bytes share → length share ≡ len → 1 ≤ len → len ≤ 8208 → fingerprint share ≡ fp → SentOne fp old out
+sent_one fp old out share len bytes long some few named = record { share = share; bytes = bytes; range = (omega arith, omega arith); named = named }
 
 pub more : (a b c : ℕ → Cloud) (number before mid now : ℕ) (log0 log log' : State) (index : CloudIndex) (all : List Fp) (n : ℕ) (old out out' : List ℕ) (fp : Fp) (at : Option Place)
     → log0.area ≡ Shares → slice_get all n ≡ Some fp → Contains all fp → IsPlaceOf index fp at

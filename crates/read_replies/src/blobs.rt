@@ -59,7 +59,7 @@ pub(crate) fn read_blob<V: Shelf>(
     ensures reads { HasRead (V.cloud_at shelf.old) (V.cloud_at shelf.new) cloud.0 (V.faults shelf.old) (V.faults shelf.new) result }
 {
     let len = out.len();
-    match log.read(shelf, cloud, at, out) {
+    match log.read_alone(shelf, cloud, at, out) {
         Ok(count) => {
             let (there, _) = out.split_at(count);
             compare(there, len, fp)

@@ -20,13 +20,13 @@ ghost use Rattle.read_replies.specs.Keeping.{Keeps, IsOther, IsNamed, HasNone, I
 ghost use Rattle.read_replies.specs.Steps.{HasRead, IfRotten, FetchedOne};
 
 use crate::blobs::{Stop, nothing_at, read_blob};
-use crate::fixed::{put_missing, put_rotten};
 use cd_base::{CloudNo, Tag, UserId, Version};
 use cd_edges::{Failed, Shelf};
 use cloud_index::CloudIndex;
 use container_log::Log;
 use file_index::Entry;
 use frames::ReplyBuf;
+use messages::{write_missing, write_recipe, write_rotten};
 
 // The most bytes of a recipe.
 const LONGEST: u32 = 1_180_190;
@@ -57,9 +57,7 @@ fn put_from<V: Shelf>(
     let (recipe, _) = buffer.split_at_mut(entry.len as usize);
     match read_blob(log, shelf, cloud, entry.at, &entry.fp, recipe) {
         Ok(()) => {
-            reply.clear();
-            reply.put(&[0x87]);
-            reply.put(recipe);
+            write_recipe(reply, recipe);
             Ok(())
         }
         Err(stop) => Err(stop),
@@ -139,14 +137,12 @@ pub fn recipe<V: Shelf>(
             Ok(()) => Ok(()),
             Err(Stop::Failed) => Err(Failed),
             Err(Stop::Rotten { named, found }) => {
-                reply.clear();
-                put_rotten(reply, named, found);
+                write_rotten(reply, named, found);
                 Ok(())
             }
         },
         None => {
-            reply.clear();
-            put_missing(reply);
+            write_missing(reply);
             Ok(())
         }
     }

@@ -8,12 +8,12 @@ ghost use Rattle.user_dedup.specs.Dedup.{answer_over};
 
 use cd_base::{CloudNo, Shape};
 use frames::ReplyBuf;
+use messages::write_hello;
 
 /// The reply to Hello becomes the content: the shape of the store, the number of the cloud, and the format of its areas, which
 /// is 1.
 pub fn hello(shape: Shape, cloud: CloudNo, reply: &mut ReplyBuf)
     ensures { (list : List Command) → reply.new ≡ reply_bytes (answer_over shape cloud.0 list requests.Hello).reply }
 {
-    reply.clear();
-    reply.put(&[0x81, shape.n(), shape.k(), cloud.0, 1]);
+    write_hello(reply, shape.n(), shape.k(), cloud.0, 1);
 }

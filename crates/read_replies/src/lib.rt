@@ -7,7 +7,6 @@
 
 mod blobs;
 mod fetching;
-mod fixed;
 mod greeting;
 pub mod laws;
 mod listing;

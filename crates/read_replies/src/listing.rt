@@ -1,11 +1,9 @@
 //! The reply to List.
 
-ghost use Rattle.std.specs.Prelude.{◌≡◌, ℕ, ◌+◌, ◌*◌, ◌≤◌, List, [], ◌++◌, length, take, slice_get, IsTrue, IfSome};
-ghost use Rattle.std.specs.List.{flat_map};
+ghost use Rattle.std.specs.Prelude.{◌≡◌, ℕ, ◌≤◌, List, length, take, slice_get, IsTrue, IfSome};
 ghost use Rattle.cd_base.specs.declared.shape.Shape.{Shape};
-ghost use Rattle.message_fields.specs.Keys.{is_above, IsKey, AreKeys, key_bytes, key_limit};
+ghost use Rattle.message_fields.specs.Keys.{is_above, IsKey, AreKeys, key_limit};
 ghost use Rattle.messages.specs.declared.request.Request.TheVariants as requests;
-ghost use Rattle.messages.specs.declared.reply.Reply.TheVariants as replies;
 ghost use Rattle.messages.specs.Replies.{reply_bytes};
 ghost use Rattle.user_dedup.specs.declared.command.Command.{Command};
 ghost use Rattle.user_dedup.specs.Cloud.{user_view};
@@ -17,6 +15,7 @@ use cd_base::{Tag, UserId, Version};
 use cloud_index::CloudIndex;
 use frames::ReplyBuf;
 use message_fields::is_key_above;
+use messages::write_entries;
 
 // The most keys in one reply.
 const PAGE: usize = 256;
@@ -69,35 +68,6 @@ fn fill(
     keys.len()
 }
 
-fn put_key(out: &mut ReplyBuf, key: &(Tag, Version))
-    requires { length out.old + 40 ≤ 4194304 }
-    ensures value { out.new ≡ out.old ++ key_bytes key.now }
-    ensures grows { length out.new ≡ length out.old + 40 }
-{
-    out.put(&key.0.0);
-    out.put(&key.1.0.to_be_bytes());
-}
-
-fn put_each_key(out: &mut ReplyBuf, keys: &[(Tag, Version)])
-    requires { length out.old + length keys.now * 40 ≤ 4194304 }
-    ensures { out.new ≡ out.old ++ flat_map key_bytes keys.now }
-{
-    for key in keys {
-        put_key(out, key);
-    }
-}
-
-// The reply Entries, with these keys.
-fn put_page(out: &mut ReplyBuf, keys: &[(Tag, Version)])
-    requires few { length keys.now ≤ key_limit }
-    requires empty { out.old ≡ [] }
-    ensures { out.new ≡ reply_bytes (replies.Entries keys.now) }
-{
-    out.put(&[0x8B]);
-    out.put(&(keys.len() as u16).to_be_bytes());
-    put_each_key(out, keys);
-}
-
 // The reply Entries, with as many of the keys as there are places.
 fn put_keys(
     index: &CloudIndex,
@@ -113,8 +83,7 @@ fn put_keys(
 {
     let count = fill(index, user, after, keys);
     let (page, _) = keys.split_at(count);
-    reply.clear();
-    put_page(reply, page);
+    write_entries(reply, page);
 }
 
 /// The reply to List becomes the content: the user's least tags and versions above the last one, or the least of all where none

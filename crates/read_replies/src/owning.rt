@@ -14,11 +14,11 @@ ghost use Rattle.read_replies.specs.Allowed.{Replies, KnownReply};
 ghost use Rattle.read_replies.specs.Owned.{first_unowned};
 ghost use Rattle.read_replies.specs.Steps.{Flagged, IsMark};
 
-use crate::fixed::put_head;
 use cd_base::{Fp, UserId};
 use cloud_index::CloudIndex;
 use frames::ReplyBuf;
 use message_fields::FpsView;
+use messages::begin_known;
 
 /// The fingerprint at a place, counted from 0. It asks for a place that there is.
 pub(crate) fn fp_at(fps: &FpsView<'_>, place: usize) -> Fp
@@ -57,7 +57,7 @@ pub fn known(index: &CloudIndex, user: UserId, fps: &FpsView<'_>, reply: &mut Re
         → reply.new ≡ reply_bytes (answer_over shape cloud list (requests.Query user fps.now)).reply }
     ensures kind { Replies reply.new (KnownReply fps.now) }
 {
-    put_head(reply, 0x82, fps.len());
+    begin_known(reply, fps.len());
     put_marks(index, user, fps, reply);
 }
 

@@ -25,7 +25,6 @@ ghost use Rattle.read_replies.specs.Owned.{first_unowned};
 ghost use Rattle.read_replies.specs.Steps.{HasRead, IfRotten, SentOne, Sent, SentAll};
 
 use crate::blobs::{Stop, nothing_at, read_blob};
-use crate::fixed::{put_head, put_not_yours, put_rotten};
 use crate::owning::{first_foreign, fp_at};
 use cd_base::{CloudNo, Fp, UserId};
 use cd_edges::{Failed, Shelf};
@@ -33,6 +32,7 @@ use cloud_index::CloudIndex;
 use container_log::Log;
 use frames::ReplyBuf;
 use message_fields::FpsView;
+use messages::{append_share, begin_shares, write_not_yours, write_rotten};
 use share_index::Place;
 
 // Puts the share of this length and fingerprint that lies at a place. Rotten comes where another lies there.
@@ -63,8 +63,7 @@ fn put_from<V: Shelf>(
     let (share, _) = buffer.split_at_mut(place.len as usize);
     match read_blob(log, shelf, cloud, place.at, fp, share) {
         Ok(()) => {
-            reply.put(&place.len.to_be_bytes());
-            reply.put(share);
+            append_share(reply, share);
             Ok(())
         }
         Err(stop) => Err(stop),
@@ -171,7 +170,7 @@ fn put_shares<V: Shelf>(
     ensures log { log.new ≡ log.old }
     ensures reads { HasRead (V.cloud_at shelf.old) (V.cloud_at shelf.new) cloud.0 (V.faults shelf.old) (V.faults shelf.new) result }
 {
-    put_head(reply, 0x89, fps.len());
+    begin_shares(reply, fps.len());
     match put_each(index, log, shelf, cloud, fps, buffer, reply) {
         Ok(()) => Ok(()),
         Err(stop) => Err(stop),
@@ -215,16 +214,14 @@ pub fn shares<V: Shelf>(
 {
     match first_foreign(index, user, fps) {
         Some(place) => {
-            reply.clear();
-            put_not_yours(reply, place);
+            write_not_yours(reply, place);
             Ok(())
         }
         None => match put_shares(index, log, shelf, cloud, fps, buffer, reply) {
             Ok(()) => Ok(()),
             Err(Stop::Failed) => Err(Failed),
             Err(Stop::Rotten { named, found }) => {
-                reply.clear();
-                put_rotten(reply, named, found);
+                write_rotten(reply, named, found);
                 Ok(())
             }
         },

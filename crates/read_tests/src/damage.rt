@@ -15,20 +15,23 @@ const SHARE: &str =
 const RECIPE: &str =
     "refused rotten 1 db5ede89176e6c5e7e759a82d11ba23d3e9ced14190d27f8c2f4795d7cf6331f c0ebc9dd0b7cbbf58dc635ec243ffb8026fbd0762534d632e9897c7e92b80448\n";
 
-// Whether the file comes back from each three of the four clouds, and from those without the damaged ones alone.
+// Whether the file comes back from each three of the four clouds, and from those without the damaged ones alone; and from
+// all four while one is damaged, but not any more when two are.
 fn is_refused_from_the_damaged(alloc: Global, shelf: &mut MemShelf) -> Result<bool, Fail> {
     if !is_replayed(alloc, ONE_BYTE, shelf)? {
         return Ok(false);
     }
     let mut well = true;
-    for clouds in ["0,1,2", "0,1,3", "0,2,3", "1,2,3"] {
+    for clouds in ["0,1,2", "0,1,3", "0,2,3", "1,2,3", "0,1,2,3"] {
         well = is_read(alloc, clouds, shelf, (0, "A"))? && well;
     }
     shelf.set_byte(CloudNo(0), Area::Shares, 0, 0);
     well = is_read(alloc, "0,1,2", shelf, (8, SHARE))? && well;
     well = is_read(alloc, "1,2,3", shelf, (0, "A"))? && well;
+    well = is_read(alloc, "0,1,2,3", shelf, (0, "A"))? && well;
     shelf.set_byte(CloudNo(1), Area::Recipes, 60, 2);
     well = is_read(alloc, "1,2,3", shelf, (8, RECIPE))? && well;
+    well = is_read(alloc, "0,1,2,3", shelf, (8, RECIPE))? && well;
     Ok(is_read(alloc, "0,2,3", shelf, (8, SHARE))? && well)
 }
 

@@ -1,5 +1,5 @@
 -- A lane brought to its end at the target.
-use Rattle.std.proofs.Common.{◌≡◌, ◌⊎◌, ℕ, ◌<◌, ◌+◌, zero, suc, Bool, true, false, cond, List, [], ◌∷◌, ◌++◌, length, map, Option, Some, None, Result, Ok, Err, refl, sym, ap, ◌∙◌, subst, inl, inr, arith, eq-eqb, append-nil}
+use Rattle.std.proofs.Common.{◌≡◌, ◌⊎◌, ℕ, ◌<◌, ◌+◌, zero, suc, Bool, true, false, cond, List, [], ◌∷◌, ◌++◌, length, map, Option, Some, None, Result, Ok, Err, refl, sym, ap, ◌∙◌, subst, inl, inr, arith, eqb, eq-eqb, append-nil}
 use Rattle.std.specs.Prelude.{IsTrue, MatchOption, ◌==◌}
 use Rattle.std.specs.List.{range_with_len}
 use Rattle.std.proofs.lemmas.Bool.{cases_eq, ne_eqb}
@@ -19,7 +19,7 @@ use Rattle.upload_job.specs.declared.news.LaneNews.{LaneNews}
 use Rattle.upload_job.specs.declared.news.LaneNews.TheVariants as news
 use Rattle.upload_job.specs.Upload.{FileVersion, work_of}
 use Rattle.upload_job.specs.Lane.{LaneState, Asking, Sending, Committing, Done, Refused, news_of}
-use Rattle.upload_job.specs.Lanes.{LaneView, begun, lanes_begun, with_state}
+use Rattle.upload_job.specs.Lanes.{LaneView, begun, idle, lane_begun, with_state}
 use Rattle.lane_requests.specs.Runs.{Turn, Progress, starting, request_of, progress_after, LaneRun, LaneAlong, Tell, lane_at}
 use Rattle.lane_steps.specs.declared.error.StepErr.{StepErr}
 use Rattle.lane_steps.specs.declared.error.StepErr.TheVariants as step_errors
@@ -240,7 +240,7 @@ run_along Goes p last old new (t ∷ turns) run =
     let r = run_along Goes (progress_after p t.reply) last run.3.0 new turns run.3.2 in
     ((run.0, run.1, run.2, (run.3.0, run.3.1, r.0)), r.1)
 
-news_fault : (state : LaneState) (reply : Reply) → news_of state reply ≡ Some news.Fault → reply ≡ replies.Fault
+pub news_fault : (state : LaneState) (reply : Reply) → news_of state reply ≡ Some news.Fault → reply ≡ replies.Fault
 news_fault (Asking batch rest) (replies.Hello n k own format) e = absurd cc
 news_fault (Asking batch rest) (replies.Known known) e = absurd cc
 news_fault (Asking batch rest) (replies.Stored new) e = absurd cc
@@ -361,10 +361,15 @@ lane_in f a zero i lt = absurd (omega arith)
 lane_in f a (suc n) zero lt = ap f (omega arith)
 lane_in f a (suc n) (suc i) lt = lane_in f (a + 1) n i (omega arith) ∙ ap f (omega arith)
 
-pub lane_is : (shape : Shape) (v : FileVersion) (target : ℕ) → target < shape.n → starting (lane_at (lanes_begun shape v) target) ≡ lane_of shape target v
+-- the lane of a cloud in a job for the target alone
+abbrev alone_in : Shape → FileVersion → ℕ → ℕ → LaneView
+alone_in shape v target cloud = cond (eqb cloud target) (begun (work_of shape v cloud)) (idle shape v)
+
+pub lane_is : (shape : Shape) (v : FileVersion) (target : ℕ) → target < shape.n → starting (lane_at (lane_begun shape v target) target) ≡ lane_of shape target v
 lane_is shape v target lt =
     let zero_is : 0 + target ≡ target = omega arith in
-    ap starting (lane_in (λ (cloud : ℕ). begun (work_of shape v cloud)) 0 shape.n target lt) ∙ ap (λ (c : ℕ). starting (begun (work_of shape v c))) zero_is
+    ap starting (lane_in (alone_in shape v target) 0 shape.n target lt) ∙ ap (λ (c : ℕ). starting (alone_in shape v target c)) zero_is
+    ∙ ap (λ (b : Bool). starting (cond b (begun (work_of shape v target)) (idle shape v))) (eq-eqb target target refl)
 
 -- a lane goes on with its own work
 pub along_work : {S : Type 0} (Goes : S → Request → Reply → S → Type 0) (p last : Progress) (old new : S) (turns : List (Turn S)) → LaneAlong Goes p old turns last new → last.lane.work ≡ p.lane.work
@@ -377,8 +382,8 @@ lane_still Goes views i last old new turns lt along =
     let work = along_work Goes (starting (lane_at views i)) last old new turns along in
     lane_with views i last.lane.state lt ∙ (λ k. record { work = sym work k; state = last.lane.state })
 
-pub lanes_long : (shape : Shape) (v : FileVersion) → length (lanes_begun shape v) ≡ shape.n
-lanes_long shape v = length-map (range_with_len 0 shape.n) (λ (cloud : ℕ). begun (work_of shape v cloud)) ∙ length-range_with_len 0 shape.n
+pub lanes_long : (shape : Shape) (v : FileVersion) (target : ℕ) → length (lane_begun shape v target) ≡ shape.n
+lanes_long shape v target = length-map (range_with_len 0 shape.n) (alone_in shape v target) ∙ length-range_with_len 0 shape.n
 
 module _ {L : Type 0} (t : LinkTelling L) (talk : L → ℕ → Talk → Type 0) (shape : Shape) (target : ℕ) (from : List ℕ) (v : FileVersion) (old : L) (same : t.shape old ≡ shape) where
   abbrev Brought : L → Result Bool RebuildErr → Peer → Type 0

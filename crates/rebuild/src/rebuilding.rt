@@ -118,12 +118,20 @@ fn rebuild_pages<L: Link>(
 }
 
 /// Brings the versions that a user has at the first of k clouds to the target, which is none of them. The first cloud is
-/// listed page by page. For each entry, rising, the k clouds are asked for their recipes, as by a restore; the path comes
-/// from the name shares, and the file as by a restore; and the target's lane of a job runs over them. What is needed of an
-/// entry is read before the target is written to.
+/// listed page by page. For each entry, rising, the k clouds are asked for their recipes, as by a restore; the path
+/// comes from the name shares, and the file as by a restore; and the target's lane of a job runs over them. What is
+/// needed of an entry is read before the target is written to.
 ///
-/// An entry that is no whole file of these clouds is skipped, and so is one of which the target has another. After an error
-/// what was brought before stays.
+/// An entry that is no whole file of these clouds is skipped, and so is one of which the target has another. After an
+/// error what was brought before stays, and the same call goes on from there: what stands at the target is entered
+/// again without a change.
+///
+/// FromRestore comes where a cloud that is read stopped it, which it names: an ask was lost, a device failed, memory ran
+/// out there, or what came is none of a server's replies, or another share than a recipe names. TargetLost comes only
+/// where an ask of the target was lost; TargetFault, TargetDamaged, TargetRotten, TargetFull and TargetNoMemory where
+/// this was its reply, TargetLacking where it lacked a share of one version twice, and TargetStrange where what came is
+/// no reply that a server which keeps to the rules gives; NoMemory where memory ran out here, or more versions were
+/// entered than a u32 counts.
 pub fn rebuild<L: Link>(
     alloc: Global,
     link: &mut L,
@@ -138,9 +146,9 @@ pub fn rebuild<L: Link>(
     requires within { All (λ cloud. cloud < shape.n) (target.0 ∷ from.now) }
     requires apart { ¬ Contains from.now target.0 }
 
-    // Over told clouds it finds, brings and ends by their lists; and what an Ok leaves is what was promised. Told or not, only
-    // the clouds that are read and the target are asked, the former for what adds nothing, and between the target's turns; and
-    // an error has its cause. After want of memory it is the front of one that would go on.
+    // Over told clouds it finds, brings and ends by their lists; and what an Ok leaves is what was promised. Told or
+    // not, only the clouds that are read and the target are asked, the former for what adds nothing, and between the
+    // target's turns; and an error has its cause. After want of memory it is the front of one that would go on.
     ensures rebuilt { Leads L.tells L.talk target.0 from.now link.old link.new result
         (Causes L.tells link.old target.0 result)
         (λ turns before at after.

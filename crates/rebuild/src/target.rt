@@ -11,7 +11,7 @@ ghost use Rattle.rebuild.specs.Over.{Asked, BringsOwn, Leads, is_lost};
 use crate::RebuildErr;
 use cd_base::{Bytes, CloudNo, NoMemory, Shape, UserId, Version};
 use frames::ReplyBuf;
-use lane_steps::{StepErr, finish_lane};
+use lane_steps::{StepErr, finish_any};
 use std::alloc::Global;
 use upload_job::{Job, LaneNews};
 use user_dedup::Link;
@@ -69,8 +69,8 @@ fn failed(e: StepErr) -> RebuildErr
     }
 }
 
-/// Brings a version of a file of at most 67,108,864 bytes to the target: a job of it is made, and the target's lane goes on
-/// to its end. True where the version is entered there, false where it stands with another recipe.
+/// Brings a version of a file of at most 67,108,864 bytes to the target: a job of it is made for the target alone, whose lane
+/// goes on to its end. True where the version is entered there, false where it stands with another recipe.
 ///
 /// TargetLost comes only where the link's count of losses rose, and TargetStrange where what came is no reply that a server which keeps to
 /// the rules gives; the other errors but want of memory are the reply that stopped the lane: TargetFull, TargetFault,
@@ -102,12 +102,12 @@ pub fn bring<L: Link>(
     ensures asked { Asked L.tells target.0 [] link.old link.new (is_lost result) }
     ensures lanes { BringsOwn L.tells shape user target.0 [] link.old link.new }
 {
-    let mut job = match Job::new(alloc, shape, user, path, version, file) {
+    let mut job = match Job::for_lane(alloc, shape, user, path, version, file, target) {
         Ok(job) => job,
         Err(NoMemory) => return Err(RebuildErr::NoMemory),
     };
     told.clear();
-    match finish_lane(link, &mut job, target, content, reply, told) {
+    match finish_any(link, &mut job, target, content, reply, told) {
         Ok(()) => ended(last_news(told)),
         Err(e) => Err(failed(e)),
     }

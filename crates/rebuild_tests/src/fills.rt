@@ -1,7 +1,6 @@
 //! A cloud that lost all its files.
 
-use crate::ground::{counts, link, rebuilt, restored, shelf, store};
-use cd_base::Bytes;
+use crate::ground::{End, comes_back, filled, store};
 use cd_fakes::MemShelf;
 use frames::ReplyBuf;
 use local_link::LocalLink;
@@ -28,44 +27,30 @@ fn store_files(alloc: Global, link: &mut LocalLink<'_, MemShelf>, files: u16) ->
 }
 
 // Whether the file of a number comes back from clouds 1, 2 and 3.
-fn comes_back(
+fn file_comes_back(
     alloc: Global,
     link: &mut LocalLink<'_, MemShelf>,
     number: u16,
 ) -> Result<bool, Fail> {
     let name = digits(number);
-    let mut out = Bytes::new(alloc);
-    if restored(alloc, link, &name, &[1, 2, 3], &mut out)? != Ok(()) {
-        return Ok(false);
-    }
-    Ok(out.as_slice() == name.as_slice())
+    comes_back(alloc, link, &name, &name)
 }
 
-#[test]
-fn six_hundred_files_in_three_pages(rt: HostRuntime) -> Result<(), Fail> {
-    let mut shelf = shelf(rt.alloc())?;
-    let mut link = link(rt.alloc(), &mut shelf)?;
-    store_files(rt.alloc(), &mut link, 600)?;
-    let done = rebuilt(rt.alloc(), &mut link, 7, 3, &[0, 1, 2])?;
-    assert_eq!(rt; counts(&done), Some((600, 0)));
+/// Six hundred files, in three pages.
+pub fn six_hundred(alloc: Global, link: &mut LocalLink<'_, MemShelf>) -> Result<bool, Fail> {
+    store_files(alloc, link, 600)?;
+    let mut held = filled(alloc, link, 7)? == End::whole(600, 0);
     for number in [0, 1, 255, 256, 257, 511, 512, 599] {
-        assert!(rt; comes_back(rt.alloc(), &mut link, number)?);
+        held = file_comes_back(alloc, link, number)? && held;
     }
-    Ok(())
+    Ok(held)
 }
 
-#[test]
-fn one_full_page(rt: HostRuntime) -> Result<(), Fail> {
-    let mut shelf = shelf(rt.alloc())?;
-    let mut link = link(rt.alloc(), &mut shelf)?;
-    store_files(rt.alloc(), &mut link, 256)?;
-    let first = rebuilt(rt.alloc(), &mut link, 7, 3, &[0, 1, 2])?;
-    assert_eq!(rt; counts(&first), Some((256, 0)));
-    // and again, where the target has all of it
-    let again = rebuilt(rt.alloc(), &mut link, 7, 3, &[0, 1, 2])?;
-    assert_eq!(rt; counts(&again), Some((256, 0)));
-    // another user has no file
-    let other = rebuilt(rt.alloc(), &mut link, 8, 3, &[0, 1, 2])?;
-    assert_eq!(rt; counts(&other), Some((0, 0)));
-    Ok(())
+/// As many files as a page has at most; again, where the target has all of it; and another user, who has no file.
+pub fn one_full_page(alloc: Global, link: &mut LocalLink<'_, MemShelf>) -> Result<bool, Fail> {
+    store_files(alloc, link, 256)?;
+    let first = filled(alloc, link, 7)?;
+    let again = filled(alloc, link, 7)?;
+    let other = filled(alloc, link, 8)?;
+    Ok(first == End::whole(256, 0) && again == first && other == End::whole(0, 0))
 }

@@ -21,6 +21,9 @@ pub fn shape() -> Shape {
     Shape { n: 4, k: 3 }
 }
 
+/// The cloud that is filled.
+pub const TARGET: CloudNo = CloudNo(3);
+
 /// Rooms for some hundred files.
 pub fn rooms() -> Rooms
     ensures { AreRooms result }
@@ -35,7 +38,7 @@ pub fn rooms() -> Rooms
     }
 }
 
-/// Clouds that hold nothing, with memory for some hundred uploads of a byte.
+/// Clouds that hold nothing, with memory for some hundred uploads of a few bytes.
 pub fn shelf(alloc: Global) -> Result<MemShelf, NoMemory> {
     MemShelf::of(alloc, 4, 400_000, 100_000, &[])
 }
@@ -135,53 +138,61 @@ fn lacks(clouds: &[CloudNo], one: CloudNo) -> bool
     }
 }
 
-/// Fills this cloud with what a user has at three others.
+/// Fills the target with what a user has at clouds 0, 1 and 2.
 pub fn rebuilt(
     alloc: Global,
     link: &mut LocalLink<'_, MemShelf>,
     user: u32,
-    target: u8,
-    numbers: &[u8],
 ) -> Result<Result<Rebuilt, RebuildErr>, Fail> {
     let shape = link.shape();
-    let clouds = clouds_of(alloc, numbers)?;
-    let target = CloudNo(target);
+    let clouds = clouds_of(alloc, &[0, 1, 2])?;
     if clouds.len() != shape.k as usize
-        || target.0 >= shape.n
+        || TARGET.0 >= shape.n
         || !are_below(shape.n, clouds.as_slice())
-        || !lacks(clouds.as_slice(), target)
+        || !lacks(clouds.as_slice(), TARGET)
     {
         return Err(Fail::new("no choice of clouds"));
     }
-    Ok(rebuild(alloc, link, shape, UserId(user), target, &clouds))
+    Ok(rebuild(alloc, link, shape, UserId(user), TARGET, &clouds))
 }
 
-/// How many versions were entered and how many skipped, if it came to its end.
-pub fn counts(done: &Result<Rebuilt, RebuildErr>) -> Option<(u32, usize)> {
-    match done {
-        Ok(rebuilt) => Some((rebuilt.files, rebuilt.skipped.len())),
-        Err(_) => None,
+/// How a rebuild ended: how many versions were entered and how many skipped, or why it stopped.
+#[derive(Clone, Copy, Debug, PartialEq, Eq)]
+pub enum End {
+    Whole { files: u32, skipped: usize },
+    Stopped(RebuildErr),
+}
+
+impl End {
+    /// It came to its end.
+    pub fn whole(files: u32, skipped: usize) -> End {
+        End::Whole { files, skipped }
     }
 }
 
-/// Why it stopped.
-pub fn stop(done: &Result<Rebuilt, RebuildErr>) -> Option<RebuildErr> {
+/// How it ended.
+pub fn end_of(done: &Result<Rebuilt, RebuildErr>) -> End {
     match done {
-        Ok(_) => None,
-        Err(e) => Some(*e),
+        Ok(rebuilt) => End::whole(rebuilt.files, rebuilt.skipped.len()),
+        Err(e) => End::Stopped(*e),
     }
 }
 
-/// What a restore of a file of user 7 from three clouds answers, and what it appends.
-pub fn restored(
+/// Fills the target, and says how that ended.
+pub fn filled(alloc: Global, link: &mut LocalLink<'_, MemShelf>, user: u32) -> Result<End, Fail> {
+    let done = rebuilt(alloc, link, user)?;
+    Ok(end_of(&done))
+}
+
+// What a restore of a file of user 7 from clouds 1, 2 and 3 answers, and what it appends.
+fn restored(
     alloc: Global,
     link: &mut LocalLink<'_, MemShelf>,
     path: &[u8],
-    numbers: &[u8],
     out: &mut Bytes,
 ) -> Result<Result<(), RestoreErr>, Fail> {
     let shape = link.shape();
-    let clouds = clouds_of(alloc, numbers)?;
+    let clouds = clouds_of(alloc, &[1, 2, 3])?;
     if clouds.len() != shape.k as usize
         || !are_below(shape.n, clouds.as_slice())
         || !is_path(path)
@@ -198,4 +209,16 @@ pub fn restored(
         &clouds,
         out,
     ))
+}
+
+/// Whether user 7's file comes back from the filled cloud and two others.
+pub fn comes_back(
+    alloc: Global,
+    link: &mut LocalLink<'_, MemShelf>,
+    path: &[u8],
+    file: &[u8],
+) -> Result<bool, Fail> {
+    let mut out = Bytes::new(alloc);
+    let restored = restored(alloc, link, path, &mut out)?;
+    Ok(restored.is_ok() && out.as_slice() == file)
 }

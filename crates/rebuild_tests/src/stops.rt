@@ -1,6 +1,6 @@
 //! A rebuild that is stopped, and run again.
 
-use crate::ground::{counts, link, rebuilt, restored, rooms, shelf, stop, store};
+use crate::ground::{End, TARGET, comes_back, filled, rooms, store};
 use cd_base::{Bytes, CloudNo, Room, Rooms, UserId, Version, is_path};
 use cd_fakes::MemShelf;
 use frames::ReplyBuf;
@@ -10,14 +10,29 @@ use restore_job::RestoreErr;
 use std::alloc::Global;
 use std::test::Fail;
 
-// The cloud that is filled.
-const TARGET: CloudNo = CloudNo(3);
-
 // Two files at clouds 0, 1 and 2.
 fn store_two(alloc: Global, link: &mut LocalLink<'_, MemShelf>) -> Result<(), Fail> {
     let mut reply = ReplyBuf::make(alloc)?;
     store(alloc, link, b"one", b"A", &[0, 1, 2], &mut reply)?;
     store(alloc, link, b"two", b"B", &[0, 1, 2], &mut reply)
+}
+
+// An empty target, of whose device this write or sync is cut.
+fn armed(link: &mut LocalLink<'_, MemShelf>, calls: u32, keep: u32) -> Result<(), Fail> {
+    if !link.reaches(TARGET) || link.replace(TARGET).is_err() {
+        return Err(Fail::new("not replaced"));
+    }
+    link.arm(TARGET, calls, keep);
+    Ok(())
+}
+
+// No call of the target's device is cut any more.
+fn disarmed(link: &mut LocalLink<'_, MemShelf>) -> Result<(), Fail> {
+    if !link.reaches(TARGET) {
+        return Err(Fail::new("no such cloud"));
+    }
+    link.arm(TARGET, 0, 0);
+    Ok(())
 }
 
 // Fills an empty target with this write or sync of its device cut, and again; whether the first one was stopped by the device, if at
@@ -28,58 +43,37 @@ fn is_filled_cut(
     calls: u32,
     keep: u32,
 ) -> Result<bool, Fail> {
-    if !link.reaches(TARGET) || link.replace(TARGET).is_err() {
-        return Err(Fail::new("not replaced"));
-    }
-    link.arm(TARGET, calls, keep);
-    let first = rebuilt(alloc, link, 7, 3, &[0, 1, 2])?;
-    if counts(&first) != Some((2, 0)) && stop(&first) != Some(RebuildErr::TargetFault) {
-        return Ok(false);
-    }
-    if !link.reaches(TARGET) {
-        return Err(Fail::new("no such cloud"));
-    }
-    link.arm(TARGET, 0, 0);
-    let again = rebuilt(alloc, link, 7, 3, &[0, 1, 2])?;
-    Ok(counts(&again) == Some((2, 0)))
+    armed(link, calls, keep)?;
+    let first = filled(alloc, link, 7)?;
+    disarmed(link)?;
+    let again = filled(alloc, link, 7)?;
+    let stopped = first == End::Stopped(RebuildErr::TargetFault);
+    Ok((stopped || first == End::whole(2, 0)) && again == End::whole(2, 0))
 }
 
-#[test]
-fn each_call_of_the_target_cut_once(rt: HostRuntime) -> Result<(), Fail> {
-    let mut shelf = shelf(rt.alloc())?;
-    let mut link = link(rt.alloc(), &mut shelf)?;
-    store_two(rt.alloc(), &mut link)?;
+/// Each write and sync of the target's device cut, with none or three of the bytes kept.
+pub fn each_call_cut_once(alloc: Global, link: &mut LocalLink<'_, MemShelf>) -> Result<bool, Fail> {
+    store_two(alloc, link)?;
+    let mut held = true;
     for calls in 1..40 {
-        for keep in [0, 3] {
-            assert!(rt;
-                is_filled_cut(rt.alloc(), &mut link, calls, keep)?,
-                "call {calls}"
-            );
-        }
+        held = is_filled_cut(alloc, link, calls, 0)? && held;
+        held = is_filled_cut(alloc, link, calls, 3)? && held;
     }
-    let mut out = Bytes::new(rt.alloc());
-    assert_eq!(rt;
-        restored(rt.alloc(), &mut link, b"two", &[1, 2, 3], &mut out)?,
-        Ok(())
-    );
-    assert!(rt; out.as_slice() == b"B".as_slice());
-    Ok(())
+    Ok(comes_back(alloc, link, b"two", b"B")? && held)
 }
 
-#[test]
-fn a_lost_ask_of_the_first_cloud(rt: HostRuntime) -> Result<(), Fail> {
-    let mut shelf = shelf(rt.alloc())?;
-    let mut link = link(rt.alloc(), &mut shelf)?;
-    store_two(rt.alloc(), &mut link)?;
+/// A lost ask of the first cloud stops it, and it is run again.
+pub fn a_lost_ask_of_the_first_cloud(
+    alloc: Global,
+    link: &mut LocalLink<'_, MemShelf>,
+) -> Result<bool, Fail> {
+    store_two(alloc, link)?;
     link.next_fate(Fate::LoseReply);
-    let lost = rebuilt(rt.alloc(), &mut link, 7, 3, &[0, 1, 2])?;
-    assert_eq!(rt;
-        stop(&lost),
-        Some(RebuildErr::FromRestore(RestoreErr::Lost { cloud: CloudNo(0) }))
-    );
-    let again = rebuilt(rt.alloc(), &mut link, 7, 3, &[0, 1, 2])?;
-    assert_eq!(rt; counts(&again), Some((2, 0)));
-    Ok(())
+    let lost = filled(alloc, link, 7)?;
+    let again = filled(alloc, link, 7)?;
+    let cause = RestoreErr::Lost { cloud: CloudNo(0) };
+    let stopped = lost == End::Stopped(RebuildErr::FromRestore(cause));
+    Ok(stopped && again == End::whole(2, 0))
 }
 
 // Brings the target a version of a file.
@@ -111,44 +105,41 @@ fn brought(
     ))
 }
 
-#[test]
-fn a_lost_ask_of_the_target(rt: HostRuntime) -> Result<(), Fail> {
-    let mut shelf = shelf(rt.alloc())?;
-    let mut link = link(rt.alloc(), &mut shelf)?;
-    store_two(rt.alloc(), &mut link)?;
+/// A lost ask of the target stops a version, and all is run again; and another file under the version that stands there.
+pub fn a_lost_ask_of_the_target(
+    alloc: Global,
+    link: &mut LocalLink<'_, MemShelf>,
+) -> Result<bool, Fail> {
+    store_two(alloc, link)?;
     link.next_fate(Fate::LoseReply);
-    let lost = brought(rt.alloc(), &mut link, b"one", b"A")?;
-    assert_eq!(rt; lost, Err(RebuildErr::TargetLost));
-    let again = rebuilt(rt.alloc(), &mut link, 7, 3, &[0, 1, 2])?;
-    assert_eq!(rt; counts(&again), Some((2, 0)));
-    // another file under the version that stands there
-    let other = brought(rt.alloc(), &mut link, b"one", b"C")?;
-    assert_eq!(rt; other, Ok(false));
-    Ok(())
+    let lost = brought(alloc, link, b"one", b"A")?;
+    let again = filled(alloc, link, 7)?;
+    let other = brought(alloc, link, b"one", b"C")?;
+    Ok(lost == Err(RebuildErr::TargetLost) && again == End::whole(2, 0) && other == Ok(false))
 }
 
-#[test]
-fn a_full_target(rt: HostRuntime) -> Result<(), Fail> {
-    let mut shelf = shelf(rt.alloc())?;
-    let mut link = link(rt.alloc(), &mut shelf)?;
-    store_two(rt.alloc(), &mut link)?;
-    let narrow = Rooms {
-        files: 1,
-        ..rooms()
+// The target's server is put into these rooms.
+fn put_in(link: &mut LocalLink<'_, MemShelf>, files: u32) -> Result<(), Fail> {
+    let rooms = Rooms { files, ..rooms() };
+    if link.reaches(TARGET) && link.set_rooms(TARGET, rooms).is_ok() {
+        Ok(())
+    } else {
+        Err(Fail::new("no such cloud"))
+    }
+}
+
+/// A target with room for one file stops it, and with more it is run again.
+pub fn a_full_target(alloc: Global, link: &mut LocalLink<'_, MemShelf>) -> Result<bool, Fail> {
+    store_two(alloc, link)?;
+    put_in(link, 1)?;
+    let full = filled(alloc, link, 7)?;
+    put_in(link, 1000)?;
+    let again = filled(alloc, link, 7)?;
+    let due = RebuildErr::TargetFull {
+        room: Room::Files,
+        used: 1,
+        need: 1,
+        limit: 1,
     };
-    assert!(rt; link.reaches(TARGET) && link.set_rooms(TARGET, narrow).is_ok());
-    let full = rebuilt(rt.alloc(), &mut link, 7, 3, &[0, 1, 2])?;
-    assert_eq!(rt;
-        stop(&full),
-        Some(RebuildErr::TargetFull {
-            room: Room::Files,
-            used: 1,
-            need: 1,
-            limit: 1,
-        })
-    );
-    assert!(rt; link.reaches(TARGET) && link.set_rooms(TARGET, rooms()).is_ok());
-    let again = rebuilt(rt.alloc(), &mut link, 7, 3, &[0, 1, 2])?;
-    assert_eq!(rt; counts(&again), Some((2, 0)));
-    Ok(())
+    Ok(full == End::Stopped(due) && again == End::whole(2, 0))
 }

@@ -29,6 +29,7 @@ use Rattle.session.specs.Texts.{text_of}
 use Rattle.vault.specs.Vault.{Setting, opening}
 use Rattle.vault.specs.Run.{IsListIn}
 use Rattle.vault.specs.Headline.{Session, IsRun}
+use Rattle.vault.proofs.Faults.{faults_rose}
 use Rattle.replay_core.specs.declared.end.ReplayEnd.{ReplayEnd}
 use Rattle.replay_core.specs.declared.end.ReplayEnd.TheVariants as ends
 use Rattle.replay_core.specs.Endings.{HasReadSome, HasHeader, IsDue}
@@ -53,6 +54,7 @@ replayed_unopened laws status start s new some told prepares = record {
   counts = λ cloud lt. let p = prepares.each cloud lt in record { faults = p.later; armings = sym p.armings; same = λ e. absurd (some e) };
   others = prepares.others;
   given = laws.given start.old (unopened_of s start.old) run;
+  more = laws.more start.old (unopened_of s start.old) run;
   kept = laws.kept start.old new (unopened_of s start.old) run;
   disks = λ empty cloud lt t.
       let since = (prepares.each cloud lt).images (sym (told cloud) ∙ t) (λ image area is. empty cloud image area (sym (told cloud) ∙ t) is) in
@@ -62,6 +64,7 @@ replayed_unopened laws status start s new some told prepares = record {
       };
   reads_so = λ e. absurd (some e);
   private = laws.private start.old (unopened_of s start.old) run;
+  faults = faults_rose start.old (unopened_of s start.old) run;
 }
   where
     run : IsRun start.old (unopened_of s start.old)

@@ -21,7 +21,7 @@ use Rattle.cloud_store.specs.Standing.{StandsForSome}
 use Rattle.cloud_store.specs.Store.{StandsFor}
 use Rattle.user_dedup.specs.Dedup.{Begun}
 use Rattle.local_link.specs.Calls.{header_of}
-use Rattle.script_lines.specs.Stepping.{IsDamage}
+use Rattle.opening_damage.specs.Damage.{IsDamage}
 use Rattle.replay_core.specs.declared.end.ReplayEnd.{ReplayEnd}
 use Rattle.replay_core.specs.declared.end.ReplayEnd.TheVariants as ends
 use Rattle.replay_core.specs.Endings.{IsFirstFilled}

@@ -22,7 +22,8 @@ use Rattle.session.specs.Scripts.{jobs_after, Place, Begins, Reaches, IsEnd, IsW
 use Rattle.session.specs.Texts.{text_of}
 use Rattle.vault.specs.Vault.{Setting, Vault}
 use Rattle.vault.specs.Run.{Answered, script_of, answers_of}
-use Rattle.vault.specs.Headline.{Session, Begun, IsRun, due, event_of, GivesAcknowledged, DisksKeep, AnswersPrivately}
+use Rattle.vault.specs.Headline.{Session, Begun, IsRun, due, event_of, GivesAcknowledged, GivesFromMore, DisksKeep, AnswersPrivately}
+use Rattle.vault.proofs.Faults.{faults_rose}
 use Rattle.script_lines.specs.At.{Leaves}
 use Rattle.replay_core.specs.declared.end.ReplayEnd.{ReplayEnd}
 use Rattle.replay_core.specs.declared.end.ReplayEnd.TheVariants as ends
@@ -38,6 +39,9 @@ use Rattle.replay_core.proofs.Sessions.{Holds, Later, Here, Part, answered, hold
 abbrev pub Given : Type 0
 Given = (clouds : ℕ → Cloud) (run : Session) → IsRun clouds run → GivesAcknowledged run
 
+abbrev pub More : Type 0
+More = (clouds : ℕ → Cloud) (run : Session) → IsRun clouds run → GivesFromMore run
+
 abbrev pub Kept : Type 0
 Kept = (clouds new : ℕ → Cloud) (run : Session) → IsRun clouds run → DisksKeep run new
 
@@ -46,6 +50,7 @@ Private = (clouds : ℕ → Cloud) (run : Session) → IsRun clouds run → Answ
 
 pub record Laws : Type 0 where
   pub given : Given
+  pub more : More
   pub kept : Kept
   pub private : Private
 
@@ -70,6 +75,7 @@ replayed laws status start s new history at begun last h same image told = recor
   counts = λ cloud lt. record { faults = h.faults cloud lt; armings = h.armings cloud lt; same = λ e. same e cloud lt };
   others = h.others;
   given = laws.given start.old (session_of s history at begun last) run;
+  more = laws.more start.old (session_of s history at begun last) run;
   kept = laws.kept start.old new (session_of s history at begun last) run;
   disks = λ empty cloud lt t. record {
     now = h.now cloud lt t;
@@ -77,6 +83,7 @@ replayed laws status start s new history at begun last h same image told = recor
   };
   reads_so = λ e cloud lt t. h.now cloud lt (h.told cloud ∙ t) (reads (new cloud).now) (image cloud (told cloud ∙ t));
   private = laws.private start.old (session_of s history at begun last) run;
+  faults = faults_rose start.old (session_of s history at begun last) run;
 }
   where
     run : IsRun start.old (session_of s history at begun last)

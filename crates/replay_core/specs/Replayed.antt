@@ -12,7 +12,8 @@ use Rattle.session.specs.Texts.{text_of}
 use Rattle.transcript.specs.Transcript.{line_text}
 use Rattle.replay_core.specs.declared.end.ReplayEnd.{ReplayEnd}
 use Rattle.replay_core.specs.declared.end.ReplayEnd.TheVariants as ends
-use Rattle.vault.specs.Headline.{Session, IsRun, due, GivesAcknowledged, DisksKeep, DisksStand, AnswersPrivately}
+use Rattle.vault.specs.Headline.{Session, IsRun, due, GivesAcknowledged, GivesFromMore, DisksKeep, DisksStand, AnswersPrivately}
+use Rattle.vault.specs.Faults.{FaultsRose}
 use Rattle.replay_core.specs.Endings.{Call, EndingLine, NoEnding, DoneEnding, ScriptEnding, ShelfEnding, StoreEnding, DamagedEnding, IsDue, HasCause}
 
 -- No count of a cloud is above the shelf's, its armings are the shelf's, and with status 0 its faults too.
@@ -36,6 +37,8 @@ pub record Replayed (status : ℕ) (old new : ℕ → Cloud) (run : Session) : T
   pub others : (cloud : ℕ) → run.setting.shape.n ≤ cloud → new cloud ≡ old cloud
   -- a get gives each version that its clouds acknowledged, and so does a read of the disks after a crash
   pub given : GivesAcknowledged run
+  -- and each that some of its clouds acknowledged, where the others have none of it
+  pub more : GivesFromMore run
   pub kept : DisksKeep run new
   -- after each crash a cloud holds a prefix of its commands with every acknowledged one
   pub disks : BeginsEmpty old → DisksStand run old new
@@ -45,6 +48,8 @@ pub record Replayed (status : ℕ) (old new : ℕ → Cloud) (run : Session) : T
       × StandsFor (reads (new cloud).now) (header_of run.setting.shape cloud) list
   -- each reply to an upload follows from that user's own commands
   pub private : AnswersPrivately run
+  -- an answer says `fault` only of a cloud whose count rose, so where none rises no answer says it
+  pub faults : FaultsRose old run
 
 -- the status of an end
 abbrev pub status_of : ReplayEnd → ℕ

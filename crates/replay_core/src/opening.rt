@@ -19,7 +19,7 @@ use cd_base::{CloudNo, Rooms, Shape};
 use cd_edges::{Area, Failed, Shelf, Source};
 use commit_journal::OpenErr;
 use local_link::LocalLink;
-use script_lines::damage_of;
+use opening_damage::damage_of;
 use session::{LineReader, read_header};
 
 // What the first line says, or how the replay ends there.

@@ -37,7 +37,7 @@ abbrev pub ports_of : List (CloudNo × ℕ) → List ℕ
 ports_of lines = map (λ (line : CloudNo × ℕ). line.1) lines
 
 -- All addresses were dialled, in order. Then Hello was asked of each port, in order, and each reply was as asked: they
--- are so many clouds of a shape as give a file back, and they rise.
+-- are as many clouds of a shape as give a file back, or more, and they rise.
 pub record Met (call : Call) (greeted : Greeted) (behind : Telling) : Type 0 where
   pub dialled : List ℕ
   pub many : length dialled ≡ call.addresses

@@ -8,7 +8,7 @@ use Rattle.restore_lines.specs.Refusals.{refusal_of}
 use Rattle.restore_command.specs.declared.fetching.FetchErr.{FetchErr}
 use Rattle.restore_command.specs.declared.fetching.FetchErr.TheVariants as errors
 use Rattle.restore_command.specs.Calls.{Call}
-use Rattle.restore_command.specs.Came.{FileCame, FileRefused, HelloRefused, IsRefusal}
+use Rattle.restore_command.specs.Came.{FileCame, FileRefused, HelloRefused, IsLost, IsRefusal}
 
 -- ---- writing
 
@@ -25,20 +25,21 @@ pub data Writes (bytes : List ℕ) (due : ℕ) (before after : Option (List ℕ)
 -- ---- the whole command
 
 -- A restore over ports ended so, over what was written before and what is written now, and over how often the sink had
--- failed and has failed now. A file came, and is written with 0; or a reply was refused, and the line that says so is
--- written with 8. Or the ports failed, and nothing is written, with 9; or memory ran out, and nothing is, with 6.
+-- failed and has failed now. A file came, and is written with 0; or a reply to Hello was refused, or no k of the clouds
+-- gave the file, and the line that says so is written with 8. Or the ports failed, and nothing is written, with 9; or
+-- memory ran out, and nothing is, with 6.
 pub data IsFetched (status : ℕ) (call : Call) (before after : Option (List ℕ)) (faults now : ℕ) : Type 0 where
   Gives : (file : List ℕ) → FileCame call file → Writes file 0 before after faults now status
       → IsFetched status call before after faults now
   Refuses : (line : List ℕ) → IsRefusal call line → Writes line 8 before after faults now status
       → IsFetched status call before after faults now
-  Fails : status ≡ 9 → Rose call.faults_before call.faults_after → after ≡ before → now ≡ faults
+  Fails : status ≡ 9 → IsLost call → Rose call.faults_before call.faults_after → after ≡ before → now ≡ faults
       → IsFetched status call before after faults now
   Lacks : status ≡ 6 → after ≡ before → now ≡ faults → IsFetched status call before after faults now
 
 -- ---- in front of the writing
 
--- why nothing was fetched, by the error of the restore itself
+-- why nothing was fetched, by the error of the restore itself: a lost ask where this is the error of the first k clouds
 abbrev pub IsErrOf : RestoreErr → FetchErr → Type 0
 IsErrOf e (errors.Hello why) = ⊥
 IsErrOf e (errors.Refused why) = (refusal_of e ≡ Some why) × (is_loss e ≡ false)
@@ -50,5 +51,5 @@ abbrev pub Fetches : Call → Result (Unit {0}) FetchErr → List ℕ → Type 0
 Fetches call (Ok u) file = FileCame call file
 Fetches call (Err (errors.Hello why)) file = HelloRefused call why
 Fetches call (Err (errors.Refused why)) file = (e : RestoreErr) × FileRefused call e × (refusal_of e ≡ Some why)
-Fetches call (Err errors.Lost) file = Rose call.faults_before call.faults_after
+Fetches call (Err errors.Lost) file = IsLost call × Rose call.faults_before call.faults_after
 Fetches call (Err errors.NoMemory) file = Unit {0}

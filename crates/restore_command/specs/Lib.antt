@@ -1,4 +1,5 @@
 pub mod Calls
 pub mod Spoken
+pub mod Tried
 pub mod Came
 pub mod Ends

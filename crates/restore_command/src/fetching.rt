@@ -20,9 +20,10 @@ use transcript::Refusal;
 pub enum FetchErr {
     /// A reply to Hello isn't as asked: the first such.
     Hello(Refused),
-    /// A later reply, or what came in it, is refused.
+    /// No k of the clouds gave the file: why the first k didn't.
     Refused(Refusal),
-    /// The ports failed.
+    /// The ports failed: in dialling, in asking Hello, or no k of the clouds gave the file and an ask of the first k was
+    /// lost.
     Lost,
     /// Memory ran out.
     NoMemory,
@@ -41,8 +42,7 @@ fn fetch_err(error: RestoreErr) -> FetchErr
     }
 }
 
-/// Fetches a version of a file: dials the addresses, asks Hello of each, and restores it from these clouds. After an
-/// error the file may hold a part of it.
+/// Fetches a version of a file: dials the addresses, asks Hello of each, and restores it from any k of these clouds.
 pub fn fetch<P: Ports>(
     alloc: Global,
     user: UserId,

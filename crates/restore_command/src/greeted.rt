@@ -1,6 +1,6 @@
 //! Restoring from clouds that were greeted.
 
-ghost use Rattle.std.specs.Prelude.{◌≡◌, ◌≤◌, ℕ, [], ◌∷◌, true, IsTrue, IfOk, IfErr, OnOk, MatchOption};
+ghost use Rattle.std.specs.Prelude.{◌≡◌, ◌≤◌, ℕ, [], ◌∷◌, true, IsTrue, IfOk, IfErr, MatchOption};
 ghost use Rattle.std.specs.List.{Contains};
 ghost use Rattle.std.specs.List.Sorted.{IsStrictlyIncreasing};
 ghost use Rattle.cd_base.specs.Limits.{IsPath};
@@ -8,17 +8,17 @@ ghost use Rattle.cd_edges.specs.Causes.{Rose};
 ghost use Rattle.hellos.specs.declared.judging.Asked.TheVariants as asked;
 ghost use Rattle.hellos.specs.Hellos.{AreReached, HasClouds, HaveTalks, clouds_of};
 ghost use Rattle.restore_job.specs.Asking.{is_lost};
-ghost use Rattle.restore_job.specs.Brought.{Brought};
 ghost use Rattle.restore_job.specs.Refusals.{Names};
 ghost use Rattle.restore_command.specs.Calls.{Call, ports_of};
-ghost use Rattle.restore_command.specs.Came.{Says};
+ghost use Rattle.restore_command.specs.Tried.{CameBy};
 
 use cd_base::{Bytes, CloudNo, Clouds, NoMemory, UserId, Version};
 use cd_edges::Ports;
 use hellos::Greeted;
 use ports_link::{PortsLink, lines_of};
-use restore_job::{RestoreErr, restore};
+use restore_job::RestoreErr;
 use std::alloc::Global;
+use subset_restore::restore_any;
 
 // The first line and the others.
 fn next_line(lines: &[(CloudNo, u32)]) -> Option<(CloudNo, u32, &[(CloudNo, u32)])>
@@ -49,7 +49,7 @@ fn clouds_in(alloc: Global, lines: &[(CloudNo, u32)]) -> Result<Clouds, NoMemory
     }
 }
 
-/// Appends a version of a file from clouds that were greeted.
+/// Appends a version of a file from any k of the clouds that were greeted.
 pub fn restore_greeted<P: Ports>(
     alloc: Global,
     user: UserId,
@@ -63,17 +63,17 @@ pub fn restore_greeted<P: Ports>(
     requires clouds { HasClouds asked.Restore greeted.now }
     requires reached { AreReached greeted.now.lines.items }
     requires empty { file.old ≡ [] }
-    ensures brought { OnOk result (Brought greeted.now.shape (clouds_of greeted.now.lines.items) [] file.new) }
     ensures named { IfErr result (Names (Contains (clouds_of greeted.now.lines.items))) }
     ensures lost { is_lost result ≡ true → Rose (P.faults ports.old) (P.faults ports.new) }
     ensures later { P.faults ports.old ≤ P.faults ports.new }
     ensures told { (P.tells ports.new).told ≡ (P.tells ports.old).told }
     ensures others { IsTrue (P.tells ports.old).told → (port : ℕ) → ¬ Contains (ports_of greeted.now.lines.items) port
         → (P.tells ports.new).port port ≡ (P.tells ports.old).port port }
-    ensures said { IsTrue (P.tells ports.old).told → HaveTalks (P.tells ports.old) greeted.now.lines.items
-        → (call : Call) → call.user ≡ user → call.path ≡ path.now → call.version ≡ version
+    ensures came { (call : Call) → call.user ≡ user → call.path ≡ path.now → call.version ≡ version
         → call.after ≡ P.tells ports.new
-        → Says call greeted.now (P.tells ports.old) result file.new }
+        → (IsTrue call.before.told → IsTrue (P.tells ports.old).told
+        × HaveTalks (P.tells ports.old) greeted.now.lines.items)
+        → CameBy call greeted.now (P.tells ports.old) result file.new }
 {
     let clouds = match clouds_in(alloc, greeted.lines.as_slice()) {
         Ok(clouds) => clouds,
@@ -84,7 +84,7 @@ pub fn restore_greeted<P: Ports>(
         Err(NoMemory) => return Err(RestoreErr::NoMemory),
     };
     let mut link = PortsLink::of(ports, greeted.shape, lines);
-    let came = restore(
+    let came = restore_any(
         alloc,
         &mut link,
         greeted.shape,

@@ -11,12 +11,12 @@ use cd_base::{Bytes, UserId, Version};
 use cd_edges::{Ports, Sink};
 use std::alloc::Global;
 
-/// Restores a version of a user's file from the clouds at these addresses, as many as give a file back and in the
-/// order of the clouds, writes its bytes, and answers the status.
+/// Restores a version of a user's file from the clouds at these addresses, as many as give a file back or more and in
+/// the order of the clouds, writes its bytes, and answers the status.
 ///
 /// All addresses are dialled, in order. Then each is asked Hello, in order, and each reply is looked at as it comes:
-/// they have to be clouds of one shape of which k is the number of addresses, and to rise. Then the version is restored
-/// into memory, and written.
+/// they have to be clouds of one shape of which k is at most the number of addresses, and to rise. Then the version is
+/// restored into memory, from any k of them as `subset_restore::restore_any` does it, and written.
 ///
 /// | Status | Comes | Written |
 /// |---|---|---|
@@ -25,8 +25,11 @@ use std::alloc::Global;
 /// | 6 | memory ran out | nothing |
 /// | 8 | a reply isn't as asked for Hello: the first such | `refused hello POSITION N K CLOUD` |
 /// | 8 | a reply is no Hello: the first such | `refused strange POSITION KIND` |
-/// | 8 | a later reply, or what came in it, is refused | the line of that refusal |
+/// | 8 | no k clouds give the file | the line that says why the first k don't |
 /// | 9 | only where the ports' count of faults rose | nothing |
+///
+/// Past the Hellos an ask that is lost ends it with 9 only where no k clouds give the file and it was an ask of the
+/// first k, so that it is their refusal.
 ///
 /// POSITION counts the addresses from 0; N, K and CLOUD are the reply's; KIND is the first byte of a reply that is no
 /// Hello, or 0 where no whole one came.

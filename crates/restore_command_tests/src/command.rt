@@ -71,29 +71,45 @@ pub fn comes_to(
 }
 
 // What these servers reply in the end, each on its own stream: round by round, what they reply to what was asked over
-// their replies so far.
+// their replies so far. Some say nothing behind their Hello, and some calls of the ports fail.
+fn streams_but(
+    alloc: Global,
+    link: &mut LocalLink<'_, MemShelf>,
+    version: u64,
+    clouds: &[u8],
+    silent: &[u8],
+    fails: &[u64],
+) -> Result<Vec<Bytes>, Fail> {
+    let mut streams = Vec::new(alloc);
+    for _ in clouds {
+        streams.push(Bytes::new(alloc))?;
+    }
+    for _ in 0..16 {
+        let mut ports = ports_of(alloc, streams.as_slice(), fails)?;
+        let mut sink = MemSink::of(alloc, 1_000, 100, &[])?;
+        let _ = outcome(alloc, version, clouds.len(), &mut ports, &mut sink)?;
+        streams = Vec::new(alloc);
+        let mut port = 0u32;
+        for cloud in clouds {
+            let mut stream = replies(alloc, link, *cloud, ports.sent(port))?;
+            if silent.contains(cloud) {
+                stream.truncate(9);
+            }
+            streams.push(stream)?;
+            port = port.saturating_add(1);
+        }
+    }
+    Ok(streams)
+}
+
+// The same where all answer.
 fn streams_of(
     alloc: Global,
     link: &mut LocalLink<'_, MemShelf>,
     version: u64,
     clouds: &[u8],
 ) -> Result<Vec<Bytes>, Fail> {
-    let mut streams = Vec::new(alloc);
-    for _ in clouds {
-        streams.push(Bytes::new(alloc))?;
-    }
-    for _ in 0..10 {
-        let mut ports = ports_of(alloc, streams.as_slice(), &[])?;
-        let mut sink = MemSink::of(alloc, 1_000, 100, &[])?;
-        let _ = outcome(alloc, version, clouds.len(), &mut ports, &mut sink)?;
-        streams = Vec::new(alloc);
-        let mut port = 0u32;
-        for cloud in clouds {
-            streams.push(replies(alloc, link, *cloud, ports.sent(port))?)?;
-            port = port.saturating_add(1);
-        }
-    }
-    Ok(streams)
+    streams_but(alloc, link, version, clouds, &[], &[])
 }
 
 // Whether a restore of this version from these servers comes to this.
@@ -117,13 +133,8 @@ fn are_so(alloc: Global, link: &mut LocalLink<'_, MemShelf>) -> Result<bool, Fai
             && is_so(alloc, link, 2, &[0, 1, 2], (8, b"refused missing 0\n"))?
             && is_so(alloc, link, 1, &[0, 3, 1], (8, b"refused hello 2 4 3 1\n"))?
             && is_so(alloc, link, 1, &[2, 3], (8, b"refused hello 0 4 3 2\n"))?
-            && is_so(
-                alloc,
-                link,
-                1,
-                &[0, 1, 2, 3],
-                (8, b"refused hello 0 4 3 0\n"),
-            )?,
+            && is_so(alloc, link, 1, &[0, 1, 2, 3], (0, FILE))?
+            && is_so(alloc, link, 2, &[0, 1, 2, 3], (8, b"refused missing 0\n"))?,
     )
 }
 
@@ -149,6 +160,46 @@ fn failing(alloc: Global, streams: &[Bytes]) -> Result<u64, Fail> {
         }
     }
     Err(Fail::new("no end"))
+}
+
+// Whether a restore from four clouds passes over one that says nothing behind its Hello, and ends where two do.
+fn passes_over(alloc: Global, link: &mut LocalLink<'_, MemShelf>) -> Result<bool, Fail> {
+    let all = [0, 1, 2, 3];
+    let one = streams_but(alloc, link, 1, &all, &[1], &[])?;
+    let two = streams_but(alloc, link, 1, &all, &[1, 2], &[])?;
+    let first = comes_to(alloc, 1, one.as_slice(), &[], &[], (0, FILE))?;
+    let refused = (8, b"refused strange 1 00\n".as_slice());
+    Ok(first && comes_to(alloc, 1, two.as_slice(), &[], &[], refused)?)
+}
+
+// Whether the first call that fails behind the Hellos of four clouds loses an ask that is passed over: each before it
+// ends the restore.
+fn loses_well(alloc: Global, link: &mut LocalLink<'_, MemShelf>) -> Result<bool, Fail> {
+    for call in 1..1_000u64 {
+        let streams = streams_but(alloc, link, 1, &[0, 1, 2, 3], &[], &[call])?;
+        if !comes_to(alloc, 1, streams.as_slice(), &[call], &[], (9, &[]))? {
+            return Ok(
+                call > 20 && comes_to(alloc, 1, streams.as_slice(), &[call], &[], (0, FILE))?,
+            );
+        }
+    }
+    Err(Fail::new("no end"))
+}
+
+// Whether clouds that fail a restore are passed over, by what comes and by what is lost.
+fn are_passed(alloc: Global, link: &mut LocalLink<'_, MemShelf>) -> Result<bool, Fail> {
+    Ok(is_stored(alloc, link, FILE)? && passes_over(alloc, link)? && loses_well(alloc, link)?)
+}
+
+#[test]
+fn a_cloud_passed_over(rt: HostRuntime) -> Result<(), Fail> {
+    let mut shelf = shelf(rt.alloc())?;
+    let mut link = link(rt.alloc(), &mut shelf)?;
+    let well = are_passed(rt.alloc(), &mut link);
+    drop(link);
+    drop(shelf);
+    assert!(rt; well?);
+    Ok(())
 }
 
 // Whether a restore ends with each failing call of ports and sink, and where a reply is cut.

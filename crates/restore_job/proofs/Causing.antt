@@ -171,11 +171,11 @@ takes_rose shape cloud firsts items place n shares rooms filled (Err errors.NoMe
 
 -- ---- one cloud
 
-untold : (b : Bool) → (IsTrue b → ⊥) → b ≡ false
+pub untold : (b : Bool) → (IsTrue b → ⊥) → b ≡ false
 untold true never = absurd (never refl)
 untold false never = refl
 
-only_told : {L : Type 0} (t : LinkTelling L) (link : L) (cloud : ℕ) → IsTrue (t.told link cloud) → TellsAll t link (cloud ∷ [])
+pub only_told : {L : Type 0} (t : LinkTelling L) (link : L) (cloud : ℕ) → IsTrue (t.told link cloud) → TellsAll t link (cloud ∷ [])
 only_told t link cloud told c has =
     elim (contains_cases cloud [] c has) [
       | inl same ↦ subst (λ (x : ℕ). IsTrue (t.told link x)) same told

@@ -121,13 +121,13 @@ leads_none t zs link C T always same these all before peers = (before, peers, no
 abbrev pub Moves : {L : Type 0} → LinkTelling L → ℕ → L → L → (Peer → Peer → Type 0) → (Peer → Peer → Type 0) → Type 0
 Moves t cloud old new B P = (p : Peer) → t.stands old cloud p → (q : Peer) × t.stands new cloud q × MayRead p q × B p q × (IsTrue (t.told old cloud) → P p q)
 
-abbrev put : (ℕ → Peer) → ℕ → Peer → ℕ → Peer
+abbrev pub put : (ℕ → Peer) → ℕ → Peer → ℕ → Peer
 put peers cloud q x = cond (x == cloud) q (peers x)
 
-put_here : (peers : ℕ → Peer) (cloud : ℕ) (q : Peer) → put peers cloud q cloud ≡ q
+pub put_here : (peers : ℕ → Peer) (cloud : ℕ) (q : Peer) → put peers cloud q cloud ≡ q
 put_here peers cloud q = ap (λ (b : Bool). cond b q (peers cloud)) (eq-eqb cloud cloud refl)
 
-put_other : (peers : ℕ → Peer) (cloud : ℕ) (q : Peer) (x : ℕ) → (x ≡ cloud → ⊥) → put peers cloud q x ≡ peers x
+pub put_other : (peers : ℕ → Peer) (cloud : ℕ) (q : Peer) (x : ℕ) → (x ≡ cloud → ⊥) → put peers cloud q x ≡ peers x
 put_other peers cloud q x ne = ap (λ (b : Bool). cond b q (peers x)) (ne_eqb x cloud ne)
 
 pub one_step : {L : Type 0} (t : LinkTelling L) (cloud : ℕ) (old new : L) (B P : Peer → Peer → Type 0) → IsTrue (t.reaches old cloud)
@@ -155,7 +155,7 @@ one_step {L} t cloud old new B P reached others moves these all before peers =
 -- ---- what the link tells beside its clouds
 
 -- so many asks, and then so many more
-passes_on : {L : Type 0} (t : LinkTelling L) (clouds : List ℕ) (old mid new : L) (es fs : List Exchange) → Passes t (ReadsFrom clouds) old es mid → Passes t (ReadsFrom clouds) mid fs new → Passes t (ReadsFrom clouds) old (es ++ fs) new
+pub passes_on : {L : Type 0} (t : LinkTelling L) (clouds : List ℕ) (old mid new : L) (es fs : List Exchange) → Passes t (ReadsFrom clouds) old es mid → Passes t (ReadsFrom clouds) mid fs new → Passes t (ReadsFrom clouds) old (es ++ fs) new
 passes_on t clouds old mid new [] fs one two = subst (λ x. Passes t (ReadsFrom clouds) x fs new) one two
 passes_on t clouds old mid new (e ∷ es) fs one two = (one.0, (one.1.0, one.1.1, passes_on t clouds one.1.0 mid new es fs one.1.2 two))
 

@@ -1,4 +1,4 @@
-pub mod Said
+pub mod Refused
 pub mod Leading
 pub mod Causing
 pub mod Bringing
@@ -9,3 +9,4 @@ pub mod Sharing
 pub mod Batches
 pub mod Ending
 pub mod Speaking
+pub mod Beside

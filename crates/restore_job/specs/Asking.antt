@@ -53,19 +53,8 @@ pub record StoppedAt (at : ℕ) (Stops : Peer → Peer → Type 0) (clouds : Lis
   pub others : (cloud : ℕ) → (Contains (front ++ at ∷ []) cloud → ⊥) → after cloud ≡ before cloud
 
 abbrev pub is_loss : RestoreErr → Bool
-is_loss (errors.Missing cloud) = false
 is_loss (errors.Lost cloud) = true
-is_loss (errors.CloudFault cloud) = false
-is_loss (errors.CloudDamaged cloud at byte) = false
-is_loss (errors.CloudRotten cloud named found) = false
-is_loss (errors.CloudNoMemory cloud) = false
-is_loss (errors.Strange cloud kind) = false
-is_loss (errors.RecipesDiffer a b place) = false
-is_loss (errors.ShareLength cloud secret found wanted) = false
-is_loss (errors.BadShare cloud secret named found) = false
-is_loss (errors.BadSecret secret named found) = false
-is_loss (errors.BadPad secret at byte) = false
-is_loss errors.NoMemory = false
+is_loss e = false
 
 -- whether a result is that an ask was lost
 abbrev pub is_lost : {A : Type 0} → Result A RestoreErr → Bool

@@ -1,5 +1,5 @@
 -- What was said with the clouds of a link: which replies came to which requests, in order.
-use Rattle.std.specs.Prelude.{◌≡◌, ℕ, ◌+◌, ◌-◌, ◌<◌, ◌≤◌, min, length, ◌==◌, List, [], ◌∷◌, ◌++◌, take, drop, if◌then◌else◌, Result, Ok, Err, OnOk}
+use Rattle.std.specs.Prelude.{◌≡◌, ◌≢◌, ℕ, ◌+◌, ◌-◌, ◌<◌, ◌≤◌, min, length, ◌==◌, List, [], ◌∷◌, ◌++◌, take, drop, if◌then◌else◌, Result, Ok, Err, OnOk}
 use Rattle.cd_base.specs.declared.ids.UserId.{UserId}
 use Rattle.messages.specs.Requests.{IsRequest}
 use Rattle.messages.specs.declared.request.Request.TheVariants as requests
@@ -48,6 +48,17 @@ Unlost (Ok x) P = P
 Unlost (Err (errors.Lost c)) P = Unit {0}
 Unlost (Err errors.NoMemory) P = Unit {0}
 Unlost (Err e) P = P
+
+-- With each cloud but one some exchanges were had, whatever was said before.
+abbrev pub SpeaksBeside : {L : Type 0} → (L → ℕ → Talk → Type 0) → ℕ → L → L → Type 0
+SpeaksBeside talk lost old new = (cloud : ℕ) → cloud ≢ lost → (before : Talk) → talk old cloud before
+    → (log : List Exchange) × talk new cloud (behind_all cloud log before) × AreReplies cloud log before
+
+-- Where an ask was lost, exchanges were had with each other cloud.
+abbrev pub LostSaid : {L A : Type 0} → (L → ℕ → Talk → Type 0) → L → L → Result A RestoreErr → Type 0
+LostSaid talk old new (Ok x) = Unit {0}
+LostSaid talk old new (Err (errors.Lost c)) = SpeaksBeside talk c.0 old new
+LostSaid talk old new (Err e) = Unit {0}
 
 -- a cloud was asked this, and its reply brings a recipe or is this refusal
 pub record RecipeSaid (shape : Shape) (request : List ℕ) (cloud : CloudNo) (x : Exchange) (result : Result Recipe RestoreErr) : Type 0 where

@@ -14,6 +14,7 @@ use Rattle.recipe.specs.declared.items.Item.{Item}
 use Rattle.recipe.specs.declared.recipe.Recipe.{Recipe}
 use Rattle.messages.specs.declared.reply.Reply.{Reply}
 use Rattle.messages.specs.declared.reply.Reply.TheVariants as replies
+use Rattle.messages.specs.ReplyViews.{kind_in}
 use Rattle.user_dedup.specs.Cloud.{held_string}
 use Rattle.user_dedup.specs.Exec.{Peer}
 use Rattle.user_dedup.specs.Link.{LinkTelling}
@@ -23,90 +24,36 @@ use Rattle.restore_job.specs.Restored
 use Rattle.restore_job.specs.Restored.{Unrestored, Given, no_item, item_of, string_at, recipe_in, missing, wrong_strings, wrong_length, differing}
 use Rattle.restore_job.specs.declared.error.RestoreErr.{RestoreErr}
 use Rattle.restore_job.specs.declared.error.RestoreErr.TheVariants as errors
-use Rattle.restore_job.specs.declared.reply.Said.{Said}
-use Rattle.restore_job.specs.declared.reply.Said.TheVariants as saids
 
 -- ---- what a reply says
-
--- the kind of a reply, or 0 of an empty one
-abbrev pub kind_in : List ℕ → ℕ
-kind_in [] = 0
-kind_in (kind ∷ fields) = kind
-
--- no reply of these that a reading request has
-abbrev pub IsOther : Reply → Type 0
-IsOther (replies.Hello n k cloud format) = Unit {0}
-IsOther (replies.Known flags) = Unit {0}
-IsOther (replies.Stored new) = Unit {0}
-IsOther replies.Committed = Unit {0}
-IsOther replies.Exists = Unit {0}
-IsOther (replies.Lacking place) = Unit {0}
-IsOther (replies.Recipe bytes) = ⊥
-IsOther replies.Missing = ⊥
-IsOther (replies.Shares shares) = ⊥
-IsOther (replies.NotYours place) = Unit {0}
-IsOther (replies.Entries entries) = Unit {0}
-IsOther (replies.Full room used need limit) = Unit {0}
-IsOther replies.Fault = ⊥
-IsOther (replies.Damaged at byte) = ⊥
-IsOther (replies.Rotten named found) = ⊥
-IsOther (replies.Malformed at) = Unit {0}
-IsOther replies.NoMemory = ⊥
-
--- a reply that is neither a recipe nor shares
-abbrev pub IsPlain : Reply → Type 0
-IsPlain (replies.Hello n k cloud format) = Unit {0}
-IsPlain (replies.Known flags) = Unit {0}
-IsPlain (replies.Stored new) = Unit {0}
-IsPlain replies.Committed = Unit {0}
-IsPlain replies.Exists = Unit {0}
-IsPlain (replies.Lacking place) = Unit {0}
-IsPlain (replies.Recipe bytes) = ⊥
-IsPlain replies.Missing = Unit {0}
-IsPlain (replies.Shares shares) = ⊥
-IsPlain (replies.NotYours place) = Unit {0}
-IsPlain (replies.Entries entries) = Unit {0}
-IsPlain (replies.Full room used need limit) = Unit {0}
-IsPlain replies.Fault = Unit {0}
-IsPlain (replies.Damaged at byte) = Unit {0}
-IsPlain (replies.Rotten named found) = Unit {0}
-IsPlain (replies.Malformed at) = Unit {0}
-IsPlain replies.NoMemory = Unit {0}
-
--- what is said is what reading the reply gives
-abbrev pub Says : Result Reply ℕ → Said → Type 0
-Says read (saids.Recipe bytes) = read ≡ Ok (replies.Recipe bytes.now)
-Says read (saids.Shares shares) = read ≡ Ok (replies.Shares shares)
-Says read saids.Missing = read ≡ Ok replies.Missing
-Says read saids.Fault = read ≡ Ok replies.Fault
-Says read (saids.Damaged at byte) = read ≡ Ok (replies.Damaged at byte)
-Says read (saids.Rotten named found) = read ≡ Ok (replies.Rotten named found)
-Says read saids.NoMemory = read ≡ Ok replies.NoMemory
-Says read saids.Other = (reply : Reply) → read ≡ Ok reply → IsOther reply
-
--- the bytes of a recipe stand behind the kind of its reply
-abbrev pub IsRecipeIn : List ℕ → Said → Type 0
-IsRecipeIn content (saids.Recipe bytes) = content ≡ 0x87 ∷ bytes.now
-IsRecipeIn content (saids.Shares shares) = Unit {0}
-IsRecipeIn content saids.Missing = Unit {0}
-IsRecipeIn content saids.Fault = Unit {0}
-IsRecipeIn content (saids.Damaged at byte) = Unit {0}
-IsRecipeIn content (saids.Rotten named found) = Unit {0}
-IsRecipeIn content saids.NoMemory = Unit {0}
-IsRecipeIn content saids.Other = Unit {0}
 
 -- a reply that no server gives to a request for a recipe
 abbrev pub NoRecipe : Shape → Reply → Type 0
 NoRecipe shape (replies.Recipe bytes) = (recipe : Recipe) → recipe_at shape bytes ≢ Ok recipe
-NoRecipe shape (replies.Shares shares) = Unit {0}
-NoRecipe shape reply = IsOther reply
+NoRecipe shape replies.Missing = ⊥
+NoRecipe shape replies.Fault = ⊥
+NoRecipe shape (replies.Damaged at byte) = ⊥
+NoRecipe shape (replies.Rotten named found) = ⊥
+NoRecipe shape replies.NoMemory = ⊥
+NoRecipe shape reply = Unit {0}
 
 -- a reply that no server gives to a request for so many shares
 abbrev pub NoShares : ℕ → Reply → Type 0
 NoShares n (replies.Shares shares) = length shares ≢ n
-NoShares n (replies.Recipe bytes) = Unit {0}
-NoShares n replies.Missing = Unit {0}
-NoShares n reply = IsOther reply
+NoShares n replies.Fault = ⊥
+NoShares n (replies.Damaged at byte) = ⊥
+NoShares n (replies.Rotten named found) = ⊥
+NoShares n replies.NoMemory = ⊥
+NoShares n reply = Unit {0}
+
+-- the refusal that a reply is, where it brings nothing and `missing` is what Missing says
+abbrev pub refusal : CloudNo → ℕ → RestoreErr → Reply → RestoreErr
+refusal cloud kind missing replies.Missing = missing
+refusal cloud kind missing replies.Fault = errors.CloudFault cloud
+refusal cloud kind missing (replies.Damaged at byte) = errors.CloudDamaged cloud at byte
+refusal cloud kind missing (replies.Rotten named found) = errors.CloudRotten cloud named found
+refusal cloud kind missing replies.NoMemory = errors.CloudNoMemory cloud
+refusal cloud kind missing reply = errors.Strange cloud kind
 
 -- a cloud's refusal that any request may have
 abbrev pub Refuses : CloudNo → Result Reply ℕ → (Reply → Type 0) → RestoreErr → Type 0
@@ -116,13 +63,7 @@ Refuses cloud read IsStrange (errors.CloudRotten c named found) = (c ≡ cloud) 
 Refuses cloud read IsStrange (errors.CloudNoMemory c) = (c ≡ cloud) × (read ≡ Ok replies.NoMemory)
 Refuses cloud read IsStrange (errors.Strange c kind) = (c ≡ cloud) × ((reply : Reply) → read ≡ Ok reply → IsStrange reply)
 Refuses cloud read IsStrange errors.NoMemory = Unit {0}
-Refuses cloud read IsStrange (errors.Missing c) = ⊥
-Refuses cloud read IsStrange (errors.Lost c) = ⊥
-Refuses cloud read IsStrange (errors.RecipesDiffer a b place) = ⊥
-Refuses cloud read IsStrange (errors.ShareLength c secret found wanted) = ⊥
-Refuses cloud read IsStrange (errors.BadShare c secret named found) = ⊥
-Refuses cloud read IsStrange (errors.BadSecret secret named found) = ⊥
-Refuses cloud read IsStrange (errors.BadPad secret at byte) = ⊥
+Refuses cloud read IsStrange e = ⊥
 
 abbrev pub RecipeRefused : Shape → CloudNo → Result Reply ℕ → RestoreErr → Type 0
 RecipeRefused shape cloud read (errors.Missing c) = (c ≡ cloud) × (read ≡ Ok replies.Missing)
@@ -139,10 +80,13 @@ SharesFrom cloud n read (Ok shares) = (read ≡ Ok (replies.Shares shares)) × (
 SharesFrom cloud n read (Err e) = Refuses cloud read (NoShares n) e
 
 -- the kind of a strange reply is its first byte
+abbrev pub HasKind : List ℕ → RestoreErr → Type 0
+HasKind content (errors.Strange c kind) = kind ≡ kind_in content
+HasKind content e = Unit {0}
+
 abbrev pub NamesKind : {A : Type 0} → List ℕ → Result A RestoreErr → Type 0
 NamesKind content (Ok x) = Unit {0}
-NamesKind content (Err (errors.Strange c kind)) = kind ≡ kind_in content
-NamesKind content (Err e) = Unit {0}
+NamesKind content (Err e) = HasKind content e
 
 -- ---- recipes
 

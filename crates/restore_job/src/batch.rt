@@ -9,7 +9,7 @@ ghost use Rattle.reed_solomon.specs.Dispersal.{AreChoice};
 ghost use Rattle.restore_job.specs.Asking.{Asked, Leads, is_lost};
 ghost use Rattle.restore_job.specs.Reading.{Ends};
 ghost use Rattle.restore_job.specs.Brought.{AreSecrets, Extends};
-ghost use Rattle.restore_job.specs.Exchanges.{BatchRun, Exchange, HasSpoken, ItemsRun, Unlost};
+ghost use Rattle.restore_job.specs.Exchanges.{BatchRun, Exchange, HasSpoken, ItemsRun, LostSaid, Unlost};
 ghost use Rattle.restore_job.specs.Refusals.{Names};
 ghost use Rattle.restore_job.specs.Restored.{batch_opened, items_opened};
 ghost use Rattle.restore_job.specs.Steps.{AreItemsAt, BatchCaused, Grows, Ready, givens};
@@ -72,6 +72,7 @@ fn restore_batch<L: Link>(
     ensures grows { Grows out.old out.new }
     ensures rooms { length rooms.new ≡ length rooms.old }
     ensures said { Unlost result ((log : List Exchange) × HasSpoken L.talk link.old link.new log × BatchRun shape user clouds.now points.now firsts.now recipes.now place count log out.old out.new result) }
+    ensures beside { LostSaid L.talk link.old link.new result }
 {
     rooms.clear();
     match fetch_batch(
@@ -115,6 +116,7 @@ pub fn restore_items<L: Link>(
     ensures brought { OnOk result ((file : List ℕ) × (out.new ≡ out.old ++ file) × AreSecrets shape (numbers_of clouds.now) firsts.now recipes.now (length firsts.now) file) }
     ensures grows { Grows out.old out.new }
     ensures said { Unlost result ((log : List Exchange) × HasSpoken L.talk link.old link.new log × ItemsRun shape user clouds.now points.now firsts.now recipes.now 0 log out.old out.new result) }
+    ensures beside { LostSaid L.talk link.old link.new result }
 {
     let mut rooms = match Rooms::make(alloc, BATCH) {
         Ok(rooms) => rooms,

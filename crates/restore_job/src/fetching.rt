@@ -17,7 +17,7 @@ ghost use Rattle.user_dedup.specs.Requests.{IsAsked};
 ghost use Rattle.restore_job.specs.Asking.{Asked, Leads, is_lost};
 ghost use Rattle.restore_job.specs.Brought.{HasShares};
 ghost use Rattle.restore_job.specs.Refusals.{Names};
-ghost use Rattle.restore_job.specs.Exchanges.{BatchSaid, Exchange, HasSpoken, RecipeSaid, RecipesSaid, SharesSaid, Unlost};
+ghost use Rattle.restore_job.specs.Exchanges.{BatchSaid, Exchange, HasSpoken, LostSaid, RecipeSaid, RecipesSaid, SharesSaid, Unlost};
 ghost use Rattle.restore_job.specs.Restored.{item_of};
 ghost use Rattle.restore_job.specs.Steps.{AreItemsAt, BatchCaused, BatchTold, Ready, ReadyAt, RecipeCaused, RecipeTold, RecipesCaused, RecipesTold, SharesCaused, SharesTold, given_of, givens, room_of};
 
@@ -49,6 +49,7 @@ fn ask<L: Link>(
     ensures others { LeavesOthers L.tells cloud.0 link.old link.new }
     ensures lost { OnErr result (result ≡ Err (RestoreErr.Lost cloud)) }
     ensures spoken { OnOk result (HasSpoken L.talk link.old link.new (record { cloud = cloud.0; request = request.now; reply = reply.new } ∷ [])) }
+    ensures beside { LostSaid L.talk link.old link.new result }
 {
     match link.ask(cloud, request, reply) {
         Ok(()) => Ok(()),
@@ -76,6 +77,7 @@ fn fetch_recipe<L: Link>(
     ensures named { IfErr result (Names (λ c. c ≡ cloud.0)) }
     ensures fits { IfOk result (Fits shape) }
     ensures said { Unlost result ((x : Exchange) × HasSpoken L.talk link.old link.new (x ∷ []) × RecipeSaid shape request.now cloud x result) }
+    ensures beside { LostSaid L.talk link.old link.new result }
 {
     match ask(link, cloud, request, reply) {
         Ok(()) => recipe_from(alloc, shape, cloud, reply.content()),
@@ -114,6 +116,7 @@ pub fn fetch_recipes<L: Link>(
     ensures fits { IfOk result (All (Fits shape)) }
     ensures pairs { IfOk result (λ recipes. length recipes ≡ length clouds.now) }
     ensures said { Unlost result ((log : List Exchange) × HasSpoken L.talk link.old link.new log × RecipesSaid shape request.now clouds.now log result) }
+    ensures beside { LostSaid L.talk link.old link.new result }
 {
     let mut recipes = Recipes::new(alloc);
     let mut rest = clouds;
@@ -197,6 +200,7 @@ fn fetch_shares<L: Link>(
     ensures lens { OnOk result ((j : ℕ) → j < count → length (room_of rooms.new j) ≡ length (room_of rooms.old j) + share_len_of shape.k (item_of firsts.now (place + j)).secret_len) }
     ensures rooms { length rooms.new ≡ length rooms.old }
     ensures said { Unlost result ((x : Exchange) × HasSpoken L.talk link.old link.new (x ∷ []) × SharesSaid shape user cloud firsts.now recipe.now place count x rooms.old rooms.new result) }
+    ensures beside { LostSaid L.talk link.old link.new result }
 {
     let items = recipe.items.as_slice();
     let request = match shares_request(alloc, user, &items[place..place + count]) {
@@ -264,6 +268,7 @@ pub fn fetch_batch<L: Link>(
     ensures lens { OnOk result ((j : ℕ) → j < count → length (room_of rooms.new j) ≡ length (room_of rooms.old j) + length clouds.now * share_len_of shape.k (item_of firsts.now (place + j)).secret_len) }
     ensures rooms { length rooms.new ≡ length rooms.old }
     ensures said { Unlost result ((log : List Exchange) × HasSpoken L.talk link.old link.new log × BatchSaid shape user firsts.now place count clouds.now recipes.now log rooms.old rooms.new result) }
+    ensures beside { LostSaid L.talk link.old link.new result }
 {
     let Some((cloud, recipe, more, rest)) = next_pair(clouds, recipes) else {
         return Ok(());

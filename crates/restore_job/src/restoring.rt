@@ -14,7 +14,7 @@ ghost use Rattle.reed_solomon.specs.Dispersal.{AreChoice};
 ghost use Rattle.restore_job.specs.Asking.{Asked, Leads, is_lost};
 ghost use Rattle.restore_job.specs.Reading.{Ends, Restores};
 ghost use Rattle.restore_job.specs.Brought.{Agree, Appends, Brought};
-ghost use Rattle.restore_job.specs.Exchanges.{AgreedRun, Exchange, HasSpoken, RestoreRun, RestoreSaid, Unlost};
+ghost use Rattle.restore_job.specs.Exchanges.{AgreedRun, Exchange, HasSpoken, LostSaid, RestoreRun, RestoreSaid, Unlost};
 ghost use Rattle.restore_job.specs.Refusals.{Causes, Names};
 ghost use Rattle.restore_job.specs.Restored.{agreed};
 ghost use Rattle.restore_job.specs.Steps.{BatchCaused, Grows, Ready, givens};
@@ -82,6 +82,7 @@ pub fn restore_agreed<L: Link>(
     ensures brought { OnOk result (Agree recipes.now × Appends shape (numbers_of clouds.now) recipes.now out.old out.new) }
     ensures grows { Grows out.old out.new }
     ensures said { Unlost result ((log : List Exchange) × HasSpoken L.talk link.old link.new log × AgreedRun shape user clouds.now recipes.now log out.old out.new result) }
+    ensures beside { LostSaid L.talk link.old link.new result }
 {
     let Some((first, recipe, others, rest)) = next_pair(clouds, recipes) else {
         return Ok(());
@@ -127,6 +128,7 @@ fn restore_into<L: Link>(
     ensures grows { Grows out.old out.new }
     ensures said { Unlost result ((log : List Exchange) × HasSpoken L.talk link.old link.new log
         × RestoreRun shape user (record { 0 = tag_at shape path.now }) version clouds.now log out.old out.new result) }
+    ensures beside { LostSaid L.talk link.old link.new result }
 {
     let request = match recipe_request(alloc, shape, user, path, version) {
         Ok(request) => request,
@@ -199,6 +201,9 @@ pub fn restore<L: Link>(
     // Over a link that tells its replies: what was asked and what came, in order, and the result by it. Nothing is said where an ask was
     // lost or memory ran out.
     ensures said { Unlost result (RestoreSaid L.talk link.old link.new shape user (record { 0 = tag_at shape path.now }) version clouds.now out.old out.new result) }
+
+    // Where an ask was lost: with each other cloud exchanges were had, which say what is to come of it.
+    ensures beside { LostSaid L.talk link.old link.new result }
 {
     clouds.rises();
     let before = out.len();

@@ -162,8 +162,8 @@ pub fn clouds_of(alloc: Global, numbers: &[u8]) -> Result<Clouds, Fail> {
     Ok(clouds)
 }
 
-// Whether each of these clouds has a number below n.
-fn are_below(n: u8, clouds: &[CloudNo]) -> bool
+/// Whether each of these clouds has a number below n.
+pub fn are_below(n: u8, clouds: &[CloudNo]) -> bool
     ensures { IsTrue result → All (λ cloud. cloud < n) (numbers_of clouds.now) }
 {
     match clouds {

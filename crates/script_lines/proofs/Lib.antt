@@ -1,4 +1,5 @@
 pub mod Going
+pub mod Getting
 pub mod Walking
 pub mod Reaching
 pub mod Lines

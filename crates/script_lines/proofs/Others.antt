@@ -1,7 +1,7 @@
 -- What the lines do to a vault that bring no reply to a lane.
 use Rattle.std.proofs.Common.{◌≡◌, ℕ, zero, suc, ◌+◌, ◌<◌, ◌≤◌, Bool, true, false, List, [], ◌∷◌, ◌++◌, map, length, Option, Some, None, refl, sym, ap, ◌∙◌, subst, inl, inr, ◌⊎◌, arith, append-nil}
 use Rattle.std.proofs.lemmas.List.{length-append, length-map, map-append}
-use Rattle.std.specs.Prelude.{IsTrue, IsSomeAnd, Result, Ok, Err, IfErr, nat_lt}
+use Rattle.std.specs.Prelude.{IsTrue, IsSomeAnd, Result, Ok, Err, IfErr, OnErr, nat_lt}
 use Rattle.std.specs.Bool.{MatchBool}
 use Rattle.std.specs.List.{Contains}
 use Rattle.std.proofs.lemmas.Bool.{lt-ltb, ltb-true}
@@ -23,13 +23,14 @@ use Rattle.user_dedup.specs.declared.command.Command.{Command}
 use Rattle.user_dedup.specs.Dedup.{FullRoom}
 use Rattle.user_dedup.specs.Requests.{asked_at}
 use Rattle.user_dedup.specs.Exec.{Peer, MaySettleAs, Stays, CountsOn}
-use Rattle.user_dedup.specs.Link.{LeavesOthers}
+use Rattle.user_dedup.specs.Link.{LeavesOthers, Talk}
 use Rattle.cloud_store.specs.Standing.{StandsForSome, ImagesNow, ImagesSince}
 use Rattle.restore_job.specs.Asking.{PeersOf, OnlyRead, Leads, Asked, is_lost, TellsAll}
-use Rattle.restore_job.specs.Reading.{Restores}
 use Rattle.restore_job.specs.Refusals.{Names, Causes}
 use Rattle.restore_job.specs.declared.error.RestoreErr.{RestoreErr}
 use Rattle.restore_job.specs.declared.error.RestoreErr.TheVariants as restore_errors
+use Rattle.subset_restore.specs.Ends.{AnyEnds}
+use Rattle.subset_restore.specs.Going.{sought}
 use Rattle.share_server.specs.declared.server.Server.{Server}
 use Rattle.share_server.specs.Serving.{ReopensAs}
 use Rattle.upload_job.specs.Lanes.{LaneView, lanes_begun, request_at, IsAsked}
@@ -44,12 +45,12 @@ use Rattle.local_link.specs.Calls.{header_of, Armed}
 use Rattle.local_link.proofs.Passing.{read_images, read_others, read_same}
 use Rattle.local_link.proofs.Standing.{some_server, known_of, header_same}
 use Rattle.session.specs.declared.event.Event.TheVariants as events
-use Rattle.session.specs.Spelling.{AreClouds}
+use Rattle.session.specs.Spelling.{AreSources}
 use Rattle.transcript.specs.declared.line.Line.{Line}
 use Rattle.transcript.specs.declared.line.Line.TheVariants as lines
 use Rattle.transcript.specs.declared.news.News.TheVariants as news
 use Rattle.vault.specs.Vault.{Setting, JobState, Vault, new_job, lanes_of}
-use Rattle.vault.specs.Steps.{Moment, quiet, cloud_no, version_of, lose_lines, DropStep, IsGetLine, told_so, IsRestartLine, RestartStep, ReopensUntold, IsFault}
+use Rattle.vault.specs.Steps.{Moment, quiet, cloud_no, version_of, lose_lines, DropStep, IsGetLine, Gets, told_so, IsRestartLine, RestartStep, ReopensUntold, IsFault}
 use Rattle.vault.specs.Run.{IsListIn}
 use Rattle.vault.specs.Headline.{IsPartOf}
 use Rattle.session.specs.Texts.{text_of}
@@ -57,8 +58,10 @@ use Rattle.script_lines.specs.At.{LinkAt, IsAt, Leaves}
 use Rattle.script_lines.specs.Does.{Images, Goes, Cut}
 use Rattle.script_lines.specs.Jobs.{job_lanes}
 use Rattle.script_lines.specs.Dropping.{Executed, Drops}
+use Rattle.script_lines.proofs.Getting.{GetsIf, got_by}
 use Rattle.script_lines.proofs.Walking.{views_are}
-use Rattle.script_lines.specs.Stepping.{IsDamage, IsOpening}
+use Rattle.opening_damage.specs.Damage.{IsDamage}
+use Rattle.script_lines.specs.Stepping.{IsOpening}
 use Rattle.script_lines.proofs.Going.{put, put_here, put_other, before_exec, now_by, moves, executes, listed, images_weaker, images_still, images_one, images_executed}
 
 -- ---- a new job
@@ -326,10 +329,10 @@ module _ {V : Type 0} (clouds : V → ℕ → Cloud) (s : Setting) (old new : Lo
 -- ---- a version is read
 
 module _ {V : Type 0} (clouds : V → ℕ → Cloud) (old new : LocalLink V) (named : List ℕ) where
-  within_at : (shape : Shape) → AreClouds shape named → (c : ℕ) → Contains named c → c < shape.n
+  within_at : (shape : Shape) → AreSources shape named → (c : ℕ) → Contains named c → c < shape.n
   within_at shape are c has = subst (λ (x : ℕ). x < shape.n) has.2 (are.within has.0 c has.1)
 
-  pub get_leaves : (loss : Bool) → Asked (telling clouds) named old new loss → AreClouds old.servers.shape named → Leaves clouds old new
+  pub get_leaves : (loss : Bool) → Asked (telling clouds) named old new loss → AreSources old.servers.shape named → Leaves clouds old new
   get_leaves loss asked are = record {
     shape = asked.shape;
     told = λ c. ap (λ (f : ℕ → Bool). f c) asked.told;
@@ -342,12 +345,20 @@ module _ {V : Type 0} (clouds : V → ℕ → Cloud) (old new : LocalLink V) (na
   pub get_same : (loss : Bool) → Asked (telling clouds) named old new loss → new.shelf.ghost_name ≡ old.shelf.ghost_name
   get_same loss asked = read_same clouds named asked.asks old new asked.passed
 
-  pub read_by : (shape : Shape) (user : UserId) (path : List ℕ) (version : Version) (result : Result (Unit {0}) RestoreErr) (was file : List ℕ) → shape ≡ old.servers.shape → was ≡ []
-      → Leads (telling clouds) named old new (Causes (telling clouds) old shape user (key_of shape path version) result) (Restores shape user (key_of shape path version) named result was file)
-      → Leads (telling clouds) named old new (Causes (telling clouds) old old.servers.shape user (key_of old.servers.shape path version) result) (Restores old.servers.shape user (key_of old.servers.shape path version) named result [] file)
-  read_by shape user path version result was file same empty leads =
-      subst (λ (sh : Shape). Leads (telling clouds) named old new (Causes (telling clouds) old sh user (key_of sh path version) result) (Restores sh user (key_of sh path version) named result [] file)) same
-      (subst (λ (l : List ℕ). Leads (telling clouds) named old new (Causes (telling clouds) old shape user (key_of shape path version) result) (Restores shape user (key_of shape path version) named result l file)) empty leads)
+  pub read_by : (talk : LocalLink V → ℕ → Talk → Type 0) (shape : Shape) (user : UserId) (path : List ℕ) (version : Version) (result : Result (Unit {0}) RestoreErr) (was file : List ℕ) → shape ≡ old.servers.shape → was ≡ []
+      → old.fate ≡ Deliver → AnyEnds (telling clouds) talk (sought shape user path version named) old new was file result → OnErr result (file ≡ was)
+      → Leads (telling clouds) named old new (Causes (telling clouds) old old.servers.shape user (key_of old.servers.shape path version) result) (GetsIf (sought old.servers.shape user path version named) result file)
+  read_by talk shape user path version result was file same empty fate ends kept =
+      got_by (telling clouds) talk (sought old.servers.shape user path version named) old new file result (ap is_delivered fate)
+      (subst (λ (sh : Shape). AnyEnds (telling clouds) talk (sought sh user path version named) old new [] file result) same
+      (subst (λ (l : List ℕ). AnyEnds (telling clouds) talk (sought shape user path version named) old new l file result) empty ends))
+      (subst (λ (l : List ℕ). OnErr result (file ≡ l)) empty kept)
+
+  -- want of memory has no line
+  pub has_line : (result : Result (Unit {0}) RestoreErr) (file : List ℕ) (line : Line) → IsGetLine result file line → result ≡ Err restore_errors.NoMemory → ⊥
+  has_line result file line is want =
+      let x = subst (λ (r : Result (Unit {0}) RestoreErr). IsGetLine r file line) want is in
+      let f : None ≡ Some x.0 = x.1 in cc
 
 module _ {V : Type 0} (clouds : V → ℕ → Cloud) (s : Setting) (old new : LocalLink V) (named : List ℕ) (result : Result (Unit {0}) RestoreErr) where
   known_told : (peers : ℕ → Peer) → LinkAt clouds s old peers → (user : UserId) (key : _) (before after : ℕ → Peer) → Causes (telling clouds) old old.servers.shape user key result before after
@@ -384,7 +395,7 @@ module _ {V : Type 0} (clouds : V → ℕ → Cloud) (s : Setting) (old new : Lo
   -- what a restore ensures
   pub record Read (user : UserId) (path : List ℕ) (version : Version) (file : List ℕ) : Type 0 where
     pub restored : Leads (telling clouds) named old new (Causes (telling clouds) old old.servers.shape user (key_of old.servers.shape path version) result)
-        (Restores old.servers.shape user (key_of old.servers.shape path version) named result [] file)
+        (GetsIf (sought old.servers.shape user path version named) result file)
     pub asked : Asked (telling clouds) named old new (is_lost result)
     pub named_so : IfErr result (Names (Contains named))
 
@@ -398,13 +409,13 @@ module _ {V : Type 0} (clouds : V → ℕ → Cloud) (s : Setting) (old new : Lo
         subst (λ (sh : Shape). ImagesSince (clouds old.shelf.now c) (clouds new.shelf.now c) (header_of sh c) (MaySettleAs (v.peers c))) is.shape
         (read_images clouds named r.asked.asks old new c (v.peers c) r.asked.passed (subst (λ (sh : Shape). c < sh.n) (sym is.shape) lt) (is.told c ∙ told) (is.stands c lt))
 
-    gone : AreClouds old.servers.shape named → (after : ℕ → Peer) × PeersOf (telling clouds) new (λ c. nat_lt c old.servers.shape.n) after × OnlyRead named v.peers after
+    gone : AreSources old.servers.shape named → (after : ℕ → Peer) × PeersOf (telling clouds) new (λ c. nat_lt c old.servers.shape.n) after × OnlyRead named v.peers after
         × Causes (telling clouds) old old.servers.shape user (key_of old.servers.shape path version) result v.peers after
-        × (TellsAll (telling clouds) old named → Restores old.servers.shape user (key_of old.servers.shape path version) named result [] file v.peers after)
+        × (TellsAll (telling clouds) old named → GetsIf (sought old.servers.shape user path version named) result file v.peers after)
     gone are = r.restored (λ c. nat_lt c old.servers.shape.n) (λ c has. lt-ltb c old.servers.shape.n (within_at clouds old new named old.servers.shape are c has)) v.peers
         (λ c below. is.stands c (subst (λ (sh : Shape). c < sh.n) is.shape (ltb-true c old.servers.shape.n below)))
 
-    pub get_goes : (jobs : List (List LaneView)) (line : Line) → AreClouds old.servers.shape named → map (λ (j : JobState). j.lanes) v.jobs ≡ jobs → IsGetLine result file line
+    pub get_goes : (jobs : List (List LaneView)) (line : Line) → AreSources old.servers.shape named → map (λ (j : JobState). j.lanes) v.jobs ≡ jobs → IsGetLine result file line
         → Goes clouds s (events.Get user path version named) old new jobs v (line ∷ [])
     get_goes jobs line are jobs_are said =
         let went = gone are in
@@ -433,7 +444,8 @@ module _ {V : Type 0} (clouds : V → ℕ → Cloud) (s : Setting) (old new : Lo
               named = r.named_so;
               caused = known_told v.peers is user (key_of s.shape path version) v.peers went.0
                   (subst (λ (sh : Shape). Causes (telling clouds) old old.servers.shape user (key_of sh path version) result v.peers went.0) is.shape went.3);
-              told = λ told. subst (λ (sh : Shape). Restores sh user (key_of sh path version) named result [] file v.peers went.0) is.shape (went.4 (λ c has. is.told c ∙ told c has));
+              told = λ told. subst (λ (sh : Shape). Gets (sought sh user path version named) result file v.peers went.0) is.shape
+                  (went.4 (λ c has. is.told c ∙ told c has) (has_line clouds old new named result file line said));
             },
             refl,
             refl,
@@ -442,7 +454,7 @@ module _ {V : Type 0} (clouds : V → ℕ → Cloud) (s : Setting) (old new : Lo
           images = λ c lt told. images_weaker clouds s old new c (MaySettleAs (v.peers c)) (IsListIn s c (quiet v.peers) went.0) (λ list settles. listed clouds s c (record { peers = v.peers; event = None }) [] went.0 list settles) (read_since c lt told);
         }
 
-    pub get_cut : AreClouds old.servers.shape named → IsPartOf s v (record { event = events.Get user path version named; moments = [] }) v.peers → Cut clouds s (events.Get user path version named) old new v
+    pub get_cut : AreSources old.servers.shape named → IsPartOf s v (record { event = events.Get user path version named; moments = [] }) v.peers → Cut clouds s (events.Get user path version named) old new v
     get_cut are part =
         let went = gone are in
         record {

@@ -1,9 +1,8 @@
 -- What one line says of what came of it.
-use Rattle.std.specs.Prelude.{◌≡◌, ◌≢◌, ℕ, ◌+◌, Bool, List, [], ◌∷◌, Option, Some, None, Result, Ok, Err, if◌then◌else◌}
+use Rattle.std.specs.Prelude.{◌≡◌, ℕ, Bool, List, [], ◌∷◌, Option, Some, None, Result, Ok, Err, if◌then◌else◌}
 use Rattle.commit_journal.specs.declared.errors.OpenErr.{OpenErr}
 use Rattle.commit_journal.specs.declared.errors.OpenErr.TheVariants as errors
-use Rattle.commit_journal.specs.Headers.{header_bytes}
-use Rattle.share_server.specs.Refusals.{DiffersAt, header_place, open_gate}
+use Rattle.opening_damage.specs.Damage.{IsDamage}
 use Rattle.upload_job.specs.declared.news.LaneNews.{LaneNews}
 use Rattle.lane_steps.specs.declared.error.StepErr.{StepErr}
 use Rattle.lane_steps.specs.declared.error.StepErr.TheVariants as step_errors
@@ -29,16 +28,6 @@ step_lines job cloud (Err step_errors.NoMemory) stored = []
 abbrev pub IsTold : Result (Option LaneNews) StepErr → Type 0
 IsTold (Err step_errors.NoMemory) = ⊥
 IsTold came = Unit {0}
-
--- The place and the byte by which an opening's error is named: those of the damage; of another store's header the first
--- byte that differs; and of a record for which a room is too small its gate.
-abbrev pub IsDamage : OpenErr → ℕ → ℕ → Type 0
-IsDamage (errors.Damaged place found) at byte = (at ≡ place) × (byte ≡ found)
-IsDamage (errors.OtherStore found asked) at byte =
-    (place : ℕ) × (at ≡ header_place + place)
-    × (found ≢ asked → DiffersAt (header_bytes found) (header_bytes asked) place byte)
-IsDamage (errors.RoomsTooSmall room limit gate) at byte = (at ≡ gate) × (byte ≡ open_gate)
-IsDamage error at byte = Unit {0}
 
 -- the line of an opening that ended so
 abbrev pub IsOpening : ℕ → Result ℕ OpenErr → Line → Type 0

@@ -2,7 +2,7 @@
 
 ghost use Rattle.std.specs.Prelude.{◌≡◌, ◌<◌, ◌++◌, ◌∷◌, [], ℕ, List, Ok, Err, length, OnOk, OnErr};
 ghost use Rattle.cd_base.specs.Limits.{IsPath};
-ghost use Rattle.session.specs.Spelling.{AreClouds};
+ghost use Rattle.session.specs.Spelling.{AreSources};
 ghost use Rattle.session.specs.declared.event.Event.TheVariants as events;
 ghost use Rattle.vault.specs.Steps.{IsGetLine};
 ghost use Rattle.script_lines.specs.At.{Leaves};
@@ -10,12 +10,14 @@ ghost use Rattle.script_lines.specs.Does.{CarriesOut, IsCutOff};
 ghost use Rattle.script_lines.specs.Getting.{SaysGet};
 
 use crate::Jobs;
-use crate::news::{as_refusal, put_line};
+use crate::news::put_line;
 use cd_base::{Bytes, Clouds, NoMemory, UserId, Version};
 use cd_edges::Shelf;
 use local_link::LocalLink;
-use restore_job::{RestoreErr, restore};
+use restore_job::RestoreErr;
+use restore_lines::as_refusal;
 use std::alloc::Global;
+use subset_restore::restore_any;
 use transcript::Line;
 use vault::law_of_parts;
 
@@ -32,7 +34,7 @@ fn put_file(file: Bytes, came: Result<(), RestoreErr>, text: &mut Bytes) -> Resu
     }
 }
 
-/// `get USER PATH VERSION CLOUDS`: the version's bytes from these clouds, or why not.
+/// `get USER PATH VERSION CLOUDS`: the version's bytes from any k of these clouds, or why not.
 pub fn get_line<V: Shelf>(
     alloc: Global,
     link: &mut LocalLink<'_, V>,
@@ -44,7 +46,7 @@ pub fn get_line<V: Shelf>(
     text: &mut Bytes,
 ) -> Result<(), NoMemory>
     requires path { IsPath path.now }
-    requires clouds { AreClouds link.old.servers.shape clouds.now }
+    requires clouds { AreSources link.old.servers.shape clouds.now }
     ensures does { OnOk result (CarriesOut V.cloud_at (events.Get user path.now version clouds.now) link.old jobs.now
         link.new jobs.now text.old text.new) }
     ensures cut { OnErr result (IsCutOff V.cloud_at (events.Get user path.now version clouds.now)
@@ -55,6 +57,6 @@ pub fn get_line<V: Shelf>(
     law_of_parts();
     let shape = link.shape();
     let mut file = Bytes::new(alloc);
-    let came = restore(alloc, link, shape, user, path, version, clouds, &mut file);
+    let came = restore_any(alloc, link, shape, user, path, version, clouds, &mut file);
     put_file(file, came, text)
 }

@@ -3,7 +3,6 @@
 #![tactic(auto)]
 
 mod carry;
-mod damage;
 mod error;
 mod finish;
 mod get;
@@ -16,9 +15,5 @@ mod rebuilding;
 mod upload;
 
 pub use carry::{Buffers, carry_out};
-pub use damage::damage_of;
 pub use error::CarryErr;
 pub use jobs::Jobs;
-
-#[cfg(test)]
-mod tests;

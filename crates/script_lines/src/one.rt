@@ -8,13 +8,13 @@ ghost use Rattle.script_lines.specs.Replacing.{IsNewStore, IsShelfFault};
 ghost use Rattle.script_lines.specs.Stepping.{IsOpening};
 ghost use Rattle.share_server.specs.Serving.{an_error};
 
-use crate::damage::damage_of;
 use crate::news::put_line;
 use crate::{CarryErr, Jobs};
 use cd_base::{Bytes, CloudNo, NoMemory};
 use cd_edges::{Failed, Shelf};
 use commit_journal::OpenErr;
 use local_link::LocalLink;
+use opening_damage::damage_of;
 use transcript::Line;
 use vault::law_of_parts;
 

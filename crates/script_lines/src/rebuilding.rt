@@ -12,11 +12,12 @@ ghost use Rattle.script_lines.specs.Does.{CarriesOut, IsCutOff};
 ghost use Rattle.script_lines.specs.Rebuilding.{SaysRebuild};
 
 use crate::Jobs;
-use crate::news::{as_refusal, put_line};
+use crate::news::put_line;
 use cd_base::{Bytes, CloudNo, Clouds, NoMemory, UserId};
 use cd_edges::Shelf;
 use local_link::LocalLink;
 use rebuild::{RebuildErr, Rebuilt, Skip, SkipWhy, Skips, rebuild};
+use restore_lines::as_refusal;
 use std::alloc::Global;
 use transcript::{Line, Refusal, SkipWord, TargetWhy};
 use vault::law_of_parts;

@@ -2,16 +2,15 @@
 use Rattle.std.proofs.Common.{◌≡◌, ◌⊎◌, ⊎_elim, inl, inr, ℕ, ◌-◌, ◌^◌, ◌≤◌, min, [], refl, arith}
 use Rattle.cd_base.specs.Limits.{greatest_rooms}
 use Rattle.cd_edges.specs.Causes.{Rose}
+use Rattle.cd_edges.specs.Disk.{reads}
 use Rattle.commit_journal.specs.declared.errors.OpenErr.{OpenErr}
 use Rattle.commit_journal.specs.declared.errors.OpenErr.TheVariants as errors
-use Rattle.user_dedup.specs.Dedup.{Begun}
 use Rattle.cloud_opening.specs.Replied.{IsOkOrFault}
-use Rattle.cloud_store.specs.Space.{IsWithin}
-use Rattle.cloud_store.specs.Store.{StandsFor}
 use Rattle.cloud_serving.specs.Serving.{RepliesOne}
+use Rattle.share_server.proofs.NoCommands.{unbegun_stands, none_within}
 use Rattle.share_server.specs.Serving.{an_error}
 use Rattle.serve_command.specs.Complete.{IsStill, HasList, IsNew, GoesWell}
-use Rattle.serve_command.specs.Served.{Call, old_cloud, Refuses, IsUnopened, IsOpened, Ends, IsServed}
+use Rattle.serve_command.specs.Served.{Call, old_cloud, own_header, Refuses, IsUnopened, IsOpened, Ends, IsServed}
 use Rattle.serve_command.proofs.Running.{run_later}
 
 not_risen : (before now : ℕ) → IsStill before now → Rose before now → ⊥
@@ -21,21 +20,10 @@ not_risen before now still rose = omega (arith, still.0, still.1, rose)
 not_risen_since : (before after now : ℕ) → IsStill before now → min before (2 ^ 64 - 1) ≤ after → Rose after now → ⊥
 not_risen_since before after now still later rose = omega (arith, still.0, still.1, later, rose)
 
--- no commands are within the rooms
-none_within : IsWithin greatest_rooms []
-none_within = record {
-  fps = omega arith;
-  owners = omega arith;
-  files = omega arith;
-  shares = omega arith;
-  recipes = omega arith;
-  journal = omega arith;
-}
-
 has_list : (call : Call) → HasList call ⊎ IsNew call → HasList call
-unfolding StandsFor
 has_list call (inl has) = has
-has_list call (inr unbegun) = ([], (Begun, inr (unbegun, refl)), none_within)
+has_list call (inr unbegun) =
+    ([], unbegun_stands (reads (old_cloud call).now) (own_header call) unbegun, none_within greatest_rooms (omega arith))
 
 not_refused : (call : Call) (error : OpenErr) → Refuses call error → IsOkOrFault (an_error error)
     → IsStill (old_cloud call).faults (call.new call.cloud.0).faults → ⊥

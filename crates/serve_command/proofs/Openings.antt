@@ -1,5 +1,5 @@
 -- A cloud that was to be opened, and what comes of it.
-use Rattle.std.proofs.Common.{◌≡◌, inr, ℕ, true, IsTrue, List, length, Result, Ok, Err, IfOk, None, refl, ◌∙◌, subst}
+use Rattle.std.proofs.Common.{◌≡◌, inr, ℕ, true, IsTrue, List, Result, Ok, Err, IfOk, None, refl, ◌∙◌, subst}
 use Rattle.std.specs.List.{Contains}
 use Rattle.cd_base.specs.Limits.{greatest_rooms}
 use Rattle.cd_base.specs.declared.ids.CloudNo.{CloudNo}
@@ -21,6 +21,7 @@ use Rattle.cloud_store.specs.Space.{IsWithin, served_by}
 use Rattle.cloud_store.specs.Standing.{ImagesNow, ImagesSince, StandsAs}
 use Rattle.cloud_store.specs.Store.{StandsFor}
 use Rattle.cloud_serving.specs.Serving.{ServesOne}
+use Rattle.share_server.specs.Names.{header_of, counted}
 use Rattle.share_server.specs.Refusals.{MayCome}
 use Rattle.share_server.specs.Serving.{IsOf, IsServing, an_error, settled_with}
 use Rattle.share_server.specs.declared.server.Server.{Server}
@@ -31,9 +32,9 @@ use Rattle.serve_command.specs.Steps.{Moment, Closes, ServesAll}
 
 -- the header of a server that was made for a cloud of a store
 pub made_for : (server : Server) (cloud : CloudNo) (shape : Shape) → IsOf server cloud shape greatest_rooms
-    → server.state.header ≡ record { format = 1; shape = shape; cloud = cloud }
+    → server.state.header ≡ header_of shape cloud.0
 made_for server cloud shape of =
-    let e : server.state.header ≡ record { format = 1; shape = shape; cloud = cloud } =
+    let e : server.state.header ≡ header_of shape cloud.0 =
     λ i. record { format = server.settled.written.format i; shape = of.shape_is i; cloud = of.cloud_is i } in e
 
 -- the errors of an opening that begins a store
@@ -56,7 +57,7 @@ pub record Reopened (header : Header) (rooms : Rooms) (server : Server) (old new
       → ImagesSince (old header.cloud.0) (new header.cloud.0) header (Contains lists)
   pub loaded : IsTrue (old header.cloud.0).told → (list : List Command)
       → StandsFor (reads (old header.cloud.0).now) header list
-      → IfOk result (λ commands. (commands ≡ length list)
+      → IfOk result (λ commands. (commands ≡ counted list)
       × IsServing server (new header.cloud.0) (settled_with list (new header.cloud.0)))
   pub whole : IsTrue (old header.cloud.0).told → (list : List Command)
       → StandsFor (reads (old header.cloud.0).now) header list
@@ -75,11 +76,11 @@ pub reopened : (made server : Server) (cloud : CloudNo) (old new : ℕ → Cloud
     (result answer : Result ℕ OpenErr)
     → IsOf made cloud made.state.header.shape greatest_rooms → result ≡ answer
     → Reopened made.state.header made.state.rooms server old new before now result
-    → Reopened (record { format = 1; shape = made.state.header.shape; cloud = cloud }) greatest_rooms server old new
+    → Reopened (header_of made.state.header.shape cloud.0) greatest_rooms server old new
     before now answer
 reopened made server cloud old new before now result answer of is raw =
     subst (λ (r : Result ℕ OpenErr).
-    Reopened (record { format = 1; shape = made.state.header.shape; cloud = cloud }) greatest_rooms server old new
+    Reopened (header_of made.state.header.shape cloud.0) greatest_rooms server old new
     before now r) is
     (subst (λ (h : Header). Reopened h greatest_rooms server old new before now result)
     (made_for made cloud made.state.header.shape of)

@@ -1,13 +1,12 @@
 -- When all connections are served, or memory runs out: a told cloud that stands for a list within the rooms or isn't
 -- begun, and nothing that fails.
-use Rattle.std.specs.Prelude.{◌≡◌, ◌⊎◌, ℕ, ◌-◌, ◌^◌, ◌<◌, false, IsTrue, List}
+use Rattle.std.specs.Prelude.{◌≡◌, ◌⊎◌, ℕ, ◌-◌, ◌^◌, ◌<◌, IsTrue, List}
 use Rattle.cd_base.specs.Limits.{greatest_rooms}
-use Rattle.cd_edges.specs.declared.area.Area.TheVariants.{Journal}
 use Rattle.cd_edges.specs.Disk.{reads}
-use Rattle.commit_journal.specs.Records.{is_begun}
 use Rattle.user_dedup.specs.declared.command.Command.{Command}
 use Rattle.cloud_store.specs.Space.{IsWithin}
 use Rattle.cloud_store.specs.Store.{StandsFor}
+use Rattle.share_server.specs.Names.{IsUnbegun}
 use Rattle.serve_command.specs.Served.{Call, old_cloud, new_cloud, own_header}
 
 -- the count didn't rise, and isn't at its last value
@@ -21,7 +20,7 @@ HasList call = (list : List Command) × StandsFor (reads (old_cloud call).now) (
 
 -- the store isn't begun
 abbrev pub IsNew : Call → Type 0
-IsNew call = is_begun (reads (old_cloud call).now Journal) ≡ false
+IsNew call = IsUnbegun (reads (old_cloud call).now)
 
 -- Nothing fails in the call.
 pub record GoesWell (call : Call) : Type 0 where

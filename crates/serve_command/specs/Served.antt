@@ -24,6 +24,7 @@ use Rattle.cloud_store.specs.Standing.{ImagesNow, ImagesSince, StandsAs}
 use Rattle.cloud_store.specs.Store.{StandsFor}
 use Rattle.cloud_serving.specs.Serving.{RepliesOne, ServesOne}
 use Rattle.frame_serving.specs.declared.served.Served.{Served}
+use Rattle.share_server.specs.Names.{header_of}
 use Rattle.share_server.specs.Serving.{an_error, settled_with}
 use Rattle.transcript.specs.Endings.{ending_text}
 use Rattle.transcript.specs.declared.ending.Ending.TheVariants as endings
@@ -67,7 +68,7 @@ new_cloud call = call.new call.cloud.0
 
 -- the header of the served cloud's journal
 abbrev pub own_header : Call → Header
-own_header call = record { format = 1; shape = call.shape; cloud = call.cloud }
+own_header call = header_of call.shape call.cloud.0
 
 -- ---- no memory
 

@@ -77,12 +77,19 @@ rises (x ∷ y ∷ ys) = nat_lt x y && rises (y ∷ ys)
 abbrev pub is_choice : ℕ → List ℕ → Bool
 is_choice k clouds = length clouds == k && rises clouds
 
+abbrev pub are_enough : ℕ → List ℕ → Bool
+are_enough k clouds = nat_le k (length clouds) && rises clouds
+
 -- the numbers between commas
 abbrev pub listed : Shape → List ℕ → Option (List ℕ)
 listed shape text = each (cloud shape) (slice_split is_comma text)
 
 unfoldable pub clouds : Shape → List ℕ → Option (List ℕ)
 clouds shape text = keep (is_choice shape.k) (listed shape text)
+
+-- k or more of them
+unfoldable pub sources : Shape → List ℕ → Option (List ℕ)
+sources shape text = keep (are_enough shape.k) (listed shape text)
 
 -- none of the clouds is this one
 abbrev pub lacks : ℕ → List ℕ → Bool
@@ -144,7 +151,7 @@ abbrev pub make_get : ℕ × (List ℕ × (ℕ × List ℕ)) → Event
 make_get x = events.Get (record { 0 = x.0 }) x.1.0 (record { 0 = x.1.1.0 }) x.1.1.1
 
 unfoldable pub get_at : Shape → List ℕ → Result Event ℕ
-get_at shape = whole make_get (field_at user ▷ field_at path ▷ field_at version ▷ field_at (clouds shape))
+get_at shape = whole make_get (field_at user ▷ field_at path ▷ field_at version ▷ field_at (sources shape))
 
 abbrev pub make_list : ℕ × ℕ → Event
 make_list x = events.List (record { 0 = x.0 }) (record { 0 = x.1 })

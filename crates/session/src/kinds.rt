@@ -1,9 +1,9 @@
 //! The kinds of words that only scripts have.
 
-ghost use Rattle.std.specs.Prelude.{◌≡◌, ◌≢◌, IfOk, IfErr, length, if◌then◌else◌, ◌==◌};
+ghost use Rattle.std.specs.Prelude.{◌≡◌, ◌≢◌, IfOk, IfErr, length, if◌then◌else◌, ◌==◌, nat_le};
 ghost use Rattle.grammar.specs.Readers.{Gives};
-ghost use Rattle.grammar.specs.Words.{word_at, field_at};
-ghost use Rattle.session.specs.Reading.{literal, path, contents, cloud, clouds, lacks, others, named_command, is_allowed, command};
+ghost use Rattle.grammar.specs.Words.{word_at, field_at, keep};
+ghost use Rattle.session.specs.Reading.{literal, path, contents, listed, rises, cloud, clouds, sources, lacks, others, named_command, is_allowed, command};
 ghost use Rattle.cd_base.specs.Numbers.{numbers_of};
 
 use crate::limits::{FILE_LIMIT, UPLOAD_LIMIT};
@@ -137,9 +137,20 @@ fn full_of(clouds: Clouds, shape: Shape) -> Option<Clouds>
     }
 }
 
+// The clouds, where there are k or more of them.
+fn enough_of(clouds: Clouds, shape: Shape) -> Option<Clouds>
+    ensures { result ≡ (if nat_le shape.k (length clouds) then Some clouds else None) }
+{
+    if clouds.len() >= shape.k as usize {
+        Some(clouds)
+    } else {
+        None
+    }
+}
+
 // The clouds between commas. The first that doesn't rise ends the reading, so no more of them are kept than there are.
-fn clouds_of(alloc: Global, word: &[u8], shape: Shape) -> Result<Option<Clouds>, NoMemory>
-    ensures { IfOk result (λ o. o ≡ clouds shape word.now) }
+fn rising_of(alloc: Global, word: &[u8], shape: Shape) -> Result<Option<Clouds>, NoMemory>
+    ensures { IfOk result (λ o. o ≡ keep rises (listed shape word.now)) }
 {
     let mut out = Clouds::new(alloc);
     let mut rest = word;
@@ -154,21 +165,41 @@ fn clouds_of(alloc: Global, word: &[u8], shape: Shape) -> Result<Option<Clouds>,
         }
         out.push(cloud)?;
         if end == rest.len() {
-            return Ok(full_of(out, shape));
+            return Ok(Some(out));
         }
         rest = after(rest, end + 1);
     }
 }
 
-/// k clouds behind a blank, and what follows them.
+// k clouds between commas.
+fn clouds_of(alloc: Global, word: &[u8], shape: Shape) -> Result<Option<Clouds>, NoMemory>
+    ensures { IfOk result (λ o. o ≡ clouds shape word.now) }
+{
+    match rising_of(alloc, word, shape)? {
+        Some(clouds) => Ok(full_of(clouds, shape)),
+        None => Ok(None),
+    }
+}
+
+// k or more clouds between commas.
+fn sources_of(alloc: Global, word: &[u8], shape: Shape) -> Result<Option<Clouds>, NoMemory>
+    ensures { IfOk result (λ o. o ≡ sources shape word.now) }
+{
+    match rising_of(alloc, word, shape)? {
+        Some(clouds) => Ok(enough_of(clouds, shape)),
+        None => Ok(None),
+    }
+}
+
+/// k or more clouds behind a blank, and what follows them.
 #[tactic(auto, unfolding(grammar::specs::Words::field_at, grammar::specs::Words::word_at))]
-pub fn clouds_field(alloc: Global, bytes: &[u8], shape: Shape) -> Result<(Clouds, &[u8]), Stop>
-    ensures { Gives (λ x. (x.0, x.1.now)) result (field_at (clouds shape) bytes.now) }
+pub fn sources_field(alloc: Global, bytes: &[u8], shape: Shape) -> Result<(Clouds, &[u8]), Stop>
+    ensures { Gives (λ x. (x.0, x.1.now)) result (field_at (sources shape) bytes.now) }
 {
     match bytes {
         [b' ', bytes @ ..] => {
             let (word, rest) = cut_word(bytes);
-            match clouds_of(alloc, word, shape)? {
+            match sources_of(alloc, word, shape)? {
                 Some(clouds) => Ok((clouds, rest)),
                 None => Err(Stop::Left(bytes.len())),
             }

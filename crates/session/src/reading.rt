@@ -11,7 +11,7 @@ ghost use Rattle.session.specs.declared.event.Event.{Event};
 use crate::Event;
 use crate::header::header_of;
 use crate::kinds::{
-    Command, cloud_field, clouds_field, contents_field, first_word, others_field, path_field,
+    Command, cloud_field, contents_field, first_word, others_field, path_field, sources_field,
 };
 use cd_base::{CloudNo, Rooms, Shape, UserId, Version};
 use grammar::{Stop, u32_field, u64_field};
@@ -111,7 +111,7 @@ fn get_of(alloc: Global, shape: Shape, bytes: &[u8]) -> Result<Event, Stop>
     let (user, bytes) = u32_field(bytes, 0, u32::MAX)?;
     let (path, bytes) = path_field(alloc, bytes)?;
     let (version, bytes) = u64_field(bytes, 0, u64::MAX)?;
-    let (clouds, bytes) = clouds_field(alloc, bytes, shape)?;
+    let (clouds, bytes) = sources_field(alloc, bytes, shape)?;
     if !bytes.is_empty() {
         return Err(Stop::Left(bytes.len()));
     }

@@ -115,7 +115,7 @@ fn wrong_choices(rt: HostRuntime) {
         (b"get 1 61 x 0,1,2", 9, Some(b'x')),
         (b"get 1 61 1", 10, None),
         (b"get 1 61 1 0,1", 11, Some(b'0')),
-        (b"get 1 61 1 0,1,2,3", 11, Some(b'0')),
+        (b"get 1 61 1 0,1,2,3,4", 11, Some(b'0')),
         (b"get 1 61 1 0,2,1", 11, Some(b'0')),
         (b"get 1 61 1 1,2,4", 11, Some(b'1')),
         (b"get 1 61 1 0,1,,2", 11, Some(b'0')),
@@ -183,7 +183,7 @@ fn events(rt: HostRuntime) {
         assert!(rt; false);
         return;
     };
-    let rows: [Read; 13] = [
+    let rows: [Read; 14] = [
         (
             b"upload 7 6162 18446744073709551615 410a",
             [7, 2, u64::MAX, 2],
@@ -194,6 +194,7 @@ fn events(rt: HostRuntime) {
         (b"drop 1 0", [3, 1, 0, 0]),
         (b"finish 2", [4, 2, 0, 0]),
         (b"get 4294967295 61 1 0,1,3", [4_294_967_295, 1, 1, 3]),
+        (b"get 7 6162 2 0,1,2,3", [7, 2, 2, 3]),
         (b"list 8 2", [5, 8, 2, 0]),
         (b"arm 0 3 57", [6, 0, 3, 57]),
         (b"arm 3 0 4294967295", [6, 3, 0, 4_294_967_295]),

@@ -1,4 +1,5 @@
 pub mod Headers
+pub mod NoCommands
 pub mod Peers
 pub mod Openings
 pub mod Executed

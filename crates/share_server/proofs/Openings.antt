@@ -1,5 +1,5 @@
 -- What an opening makes of a peer.
-use Rattle.std.proofs.Common.{◌≡◌, ⊎_elim, inl, ℕ, Bool, true, false, List, [], ◌∷◌, ◌++◌, length, Result, Ok, Err, refl, sym, ap, ◌∙◌, subst}
+use Rattle.std.proofs.Common.{◌≡◌, ⊎_elim, inl, ℕ, ◌<◌, ◌^◌, Bool, true, false, List, [], ◌∷◌, ◌++◌, length, Result, Ok, Err, refl, sym, ap, ◌∙◌, subst, arith}
 use Rattle.std.specs.Prelude.{IfOk, OnErr}
 use Rattle.std.specs.List.{Contains}
 use Rattle.cd_base.specs.declared.rooms.Rooms.{Rooms}
@@ -24,6 +24,7 @@ use Rattle.cloud_store.specs.Store.{HasList, StandsFor}
 use Rattle.cloud_state.specs.declared.state.CloudState.{CloudState}
 use Rattle.cloud_state.specs.State.{IsOpen, Agrees, IsSameServer}
 use Rattle.cloud_opening.specs.Replied.{IsOkOrFault, MayBegin, NotBegunIs}
+use Rattle.share_server.specs.Names.{counted}
 use Rattle.share_server.specs.Serving.{ReopensAs}
 use Rattle.share_server.specs.Steps.{ServesAs, OpensAs}
 use Rattle.share_server.proofs.Peers.{lists_of, settles_as, from_lists, settled_peer, open_serves, read_stands}
@@ -55,6 +56,10 @@ closed_serves state cloud p images faults armings within shut = record {
 
 -- ---- an opening
 
+-- a length that 64 bits hold
+counted_all : (commands : ℕ) (list : List Command) → commands < 2 ^ 64 → commands ≡ length list → commands ≡ counted list
+counted_all commands list few is = omega (arith, few, is)
+
 -- the same list and pending command, and the counts of the cloud
 still_peer : Peer → Cloud → Peer
 still_peer p cloud = record { list = p.list; pending = p.pending; faults = cloud.faults; armings = cloud.armings }
@@ -67,19 +72,26 @@ module _ (old new : CloudState) (before after : Cloud) (p : Peer) (begin : Bool)
   images_new kept = λ image left. subst (λ (header : Header). StandsForSome header (MaySettleAs p) image) (sym same.header)
       (from_lists p old.header image (at_end before after (StandsForSome old.header (Contains (lists_of p))) kept image left))
 
-  opened_peer : (commands : ℕ) (number now : ℕ) → after.armings ≡ before.armings → KeepsCounts before after number now
+  pub settled_peer_of : (commands : ℕ) (number now : ℕ) → after.armings ≡ before.armings → KeepsCounts before after number now
       → (list : List Command) × Contains (lists_of p) list × (commands ≡ length list) × Agrees new after list × IsWithin old.rooms list
-      → (q : Peer) × ServesAs new after q × ReopensAs begin p q (Ok commands)
-  opened_peer commands number now armings counts opened = (
+      → (q : Peer) × ServesAs new after q × OpensAs p q (Ok tt)
+  settled_peer_of commands number now armings counts opened = (
     settled_peer opened.0 after,
     open_serves new after opened.0 opened.3 (within_new opened.0 opened.4),
     (
       record { list = settles_as p opened.0 opened.1; pending = refl },
       counts.cloud ∙ sym serving.stands.faults,
       armings ∙ sym serving.stands.armings,
-      opened.2,
     ),
   )
+
+  opened_peer : (commands : ℕ) (number now : ℕ) → commands < 2 ^ 64 → after.armings ≡ before.armings → KeepsCounts before after number now
+      → (list : List Command) × Contains (lists_of p) list × (commands ≡ length list) × Agrees new after list × IsWithin old.rooms list
+      → (q : Peer) × ServesAs new after q × ReopensAs begin p q (Ok commands)
+  unfolding settled_peer_of
+  opened_peer commands number now few armings counts opened =
+      let q = settled_peer_of commands number now armings counts opened in
+      (q.0, q.1, (q.2.0, q.2.1, q.2.2, counted_all commands opened.0 few opened.2))
 
   failed_peer : after.armings ≡ before.armings → Rose before.faults after.faults → ImagesSince before after old.header (Contains (lists_of p)) → new.log.journal.stage ≡ Shut
       → (q : Peer) × ServesAs new after q × ReopensAs begin p q (Err errors.Fault)
@@ -114,21 +126,21 @@ module _ (old new : CloudState) (before after : Cloud) (p : Peer) (begin : Bool)
       let stands = read_stands old before p serving read in
       whole stands.0 stands.2 (serving.within stands.0 stands.1) may
 
-  pub reopens : (r : Result ℕ OpenErr) (number now : ℕ) → IsImage before.now (reads before.now) → OnErr r (new.log.journal.stage ≡ Shut)
+  pub reopens : (r : Result ℕ OpenErr) (number now : ℕ) → IfOk r (λ (commands : ℕ). commands < 2 ^ 64) → IsImage before.now (reads before.now) → OnErr r (new.log.journal.stage ≡ Shut)
       → after.armings ≡ before.armings → ImagesSince before after old.header (Contains (lists_of p))
       → IfOk r (λ (commands : ℕ). (list : List Command) × Contains (lists_of p) list × (commands ≡ length list) × Agrees new after list × IsWithin old.rooms list)
       → ((list : List Command) → StandsFor (reads before.now) old.header list → IsWithin old.rooms list → MayBegin (before.now Journal).read begin → IsOkOrFault r)
       → NotBegunIs before after begin r
       → OnFault r (HasFailed before after number now) (KeepsCounts before after number now)
       → (q : Peer) × ServesAs new after q × ReopensAs begin p q r
-  reopens (Ok commands) number now read shut armings kept opened whole not_begun counts = opened_peer commands number now armings counts opened
-  reopens (Err errors.Fault) number now read shut armings kept opened whole not_begun counts = failed_peer armings counts.cloud kept shut
-  reopens (Err (errors.NotBegun len)) number now read shut armings kept opened whole not_begun counts =
+  reopens (Ok commands) number now few read shut armings kept opened whole not_begun counts = opened_peer commands number now few armings counts opened
+  reopens (Err errors.Fault) number now few read shut armings kept opened whole not_begun counts = failed_peer armings counts.cloud kept shut
+  reopens (Err (errors.NotBegun len)) number now few read shut armings kept opened whole not_begun counts =
       unbegun_peer len number now read armings counts kept shut not_begun.0 not_begun.1
-  reopens (Err (errors.Damaged at byte)) number now read shut armings kept opened whole not_begun counts = absurd (ends_well (Err (errors.Damaged at byte)) read whole not_begun)
-  reopens (Err (errors.OtherStore found asked)) number now read shut armings kept opened whole not_begun counts = absurd (ends_well (Err (errors.OtherStore found asked)) read whole not_begun)
-  reopens (Err (errors.RoomsTooSmall room limit at)) number now read shut armings kept opened whole not_begun counts = absurd (ends_well (Err (errors.RoomsTooSmall room limit at)) read whole not_begun)
-  reopens (Err errors.NoMemory) number now read shut armings kept opened whole not_begun counts = absurd (ends_well (Err errors.NoMemory) read whole not_begun)
+  reopens (Err (errors.Damaged at byte)) number now few read shut armings kept opened whole not_begun counts = absurd (ends_well (Err (errors.Damaged at byte)) read whole not_begun)
+  reopens (Err (errors.OtherStore found asked)) number now few read shut armings kept opened whole not_begun counts = absurd (ends_well (Err (errors.OtherStore found asked)) read whole not_begun)
+  reopens (Err (errors.RoomsTooSmall room limit at)) number now few read shut armings kept opened whole not_begun counts = absurd (ends_well (Err (errors.RoomsTooSmall room limit at)) read whole not_begun)
+  reopens (Err errors.NoMemory) number now few read shut armings kept opened whole not_begun counts = absurd (ends_well (Err errors.NoMemory) read whole not_begun)
 
 -- ---- an opening where it is needed
 
@@ -156,7 +168,15 @@ error_opens p q errors.NoMemory opens = opens
 
 -- an opening over areas that read as a list's
 pub loads : (old new : CloudState) (after : Cloud) (list : List Command) (r : Result ℕ OpenErr) → IsSameServer old new
+    → IfOk r (λ (commands : ℕ). commands < 2 ^ 64)
     → IfOk r (λ (commands : ℕ). (commands ≡ length list) × Agrees new after list × IsWithin old.rooms list)
-    → IfOk r (λ (commands : ℕ). (commands ≡ length list) × ServesAs new after (settled_peer list after))
-loads old new after list (Ok commands) same e = (e.0, open_serves new after list e.1 (subst (λ (rooms : Rooms). IsWithin rooms list) (sym same.rooms) e.2))
-loads old new after list (Err e) same x = tt
+    → IfOk r (λ (commands : ℕ). (commands ≡ counted list) × ServesAs new after (settled_peer list after))
+loads old new after list (Ok commands) same few e = (counted_all commands list few e.0, open_serves new after list e.1 (subst (λ (rooms : Rooms). IsWithin rooms list) (sym same.rooms) e.2))
+loads old new after list (Err e) same few x = tt
+
+-- and the number of the list that it opened
+pub counts : (lists : List (List Command)) (r : Result ℕ OpenErr) (new : CloudState) (after : Cloud) (rooms : Rooms) → IfOk r (λ (commands : ℕ). commands < 2 ^ 64)
+    → IfOk r (λ (commands : ℕ). (list : List Command) × Contains lists list × (commands ≡ length list) × Agrees new after list × IsWithin rooms list)
+    → IfOk r (λ (commands : ℕ). (list : List Command) × Contains lists list × (commands ≡ counted list) × Agrees new after list × IsWithin rooms list)
+counts lists (Ok commands) new after rooms few x = (x.0, x.1, counted_all commands x.0 few x.2, x.3, x.4)
+counts lists (Err e) new after rooms few x = tt

@@ -1,5 +1,5 @@
 -- A server over its cloud, as a peer that users ask.
-use Rattle.std.specs.Prelude.{◌≡◌, ◌≢◌, ℕ, Bool, IsTrue, true, false, List, [], length, None, Result, Ok, Err}
+use Rattle.std.specs.Prelude.{◌≡◌, ◌≢◌, ℕ, Bool, IsTrue, true, false, List, [], None, Result, Ok, Err}
 use Rattle.cd_base.specs.declared.ids.CloudNo.{CloudNo}
 use Rattle.cd_base.specs.declared.rooms.Rooms.{Rooms}
 use Rattle.cd_base.specs.declared.shape.Shape.{Shape}
@@ -28,6 +28,7 @@ use Rattle.cloud_store.specs.Store.{StandsFor}
 use Rattle.cloud_opening.specs.Exact.{Opens}
 use Rattle.cloud_opening.specs.Replied.{IsOkOrFault, OtherStoreIs}
 use Rattle.cloud_opening.specs.Spared.{Spares}
+use Rattle.share_server.specs.Names.{counted}
 use Rattle.share_server.specs.Refusals.{Refuses}
 use Rattle.share_server.specs.declared.server.Server.{Server}
 
@@ -61,7 +62,7 @@ server_serves server = served_by server.state.rooms server.state.header.shape se
 -- What an opening does to a peer: Ok settles it, and answers how many commands its list then has. Nothing else changes it: where a device failed
 -- its count rose, and where the store isn't begun and isn't to be begun the peer may stand for no commands.
 abbrev pub ReopensAs : Bool → Peer → Peer → Result ℕ OpenErr → Type 0
-ReopensAs begin old new (Ok commands) = Settles old new × (new.faults ≡ old.faults) × (new.armings ≡ old.armings) × (commands ≡ length new.list)
+ReopensAs begin old new (Ok commands) = Settles old new × (new.faults ≡ old.faults) × (new.armings ≡ old.armings) × (commands ≡ counted new.list)
 ReopensAs begin old new (Err errors.Fault) = Stays old new × Rose old.faults new.faults × (new.armings ≡ old.armings)
 ReopensAs begin old new (Err (errors.NotBegun len)) = (new ≡ old) × (begin ≡ false) × MaySettleAs old []
 ReopensAs begin old new (Err (errors.OtherStore found asked)) = ⊥

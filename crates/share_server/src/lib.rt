@@ -2,6 +2,7 @@
 //! a prefix of it that has every acknowledged command.
 #![tactic(auto)]
 
+pub mod laws;
 mod refusals;
 mod server;
 mod serving;

@@ -2,46 +2,17 @@
 
 ghost use Rattle.std.specs.Prelude.{◌≡◌, ◌≢◌, ◌<◌, ◌≤◌, ◌+◌, ◌^◌, ℕ, length, take, slice_index};
 ghost use Rattle.commit_journal.specs.Headers.{header_bytes};
-ghost use Rattle.messages.specs.declared.reply.Reply.TheVariants as replies;
-ghost use Rattle.messages.specs.Replies.{IsReply, reply_bytes};
 ghost use Rattle.share_server.specs.Refusals.{DiffersAt, IsRefusal, Refuses, MayCome};
 
 use commit_journal::{Header, OpenErr};
 use frames::ReplyBuf;
+use messages::{write_damaged, write_fault};
 
 // The place of the header's body in the journal, behind the first gate and the length.
 const HEADER_AT: u64 = 5;
 
 // An open gate.
 const OPEN_GATE: u8 = 1;
-
-/// The reply that a device failed becomes the content.
-pub(crate) fn put_fault(reply: &mut ReplyBuf)
-    ensures value { reply.new ≡ reply_bytes replies.Fault }
-    ensures is { IsReply reply.new replies.Fault }
-{
-    reply.clear();
-    reply.put(&[0x8D]);
-}
-
-/// The reply that the content was no request becomes the content.
-pub(crate) fn put_malformed(reply: &mut ReplyBuf, at: u32)
-    ensures { reply.new ≡ reply_bytes (replies.Malformed at) }
-{
-    reply.clear();
-    reply.put(&[0x90]);
-    reply.put(&at.to_be_bytes());
-}
-
-// The reply that the journal is damaged becomes the content.
-fn put_damaged(reply: &mut ReplyBuf, at: u64, byte: u8)
-    ensures { IsReply reply.new (replies.Damaged at byte) }
-{
-    reply.clear();
-    reply.put(&[0x8E]);
-    reply.put(&at.to_be_bytes());
-    reply.put(&[byte]);
-}
 
 // The first place at which the bytes differ, or the last one where none before it does.
 fn first_difference(found: &[u8; 8], asked: &[u8; 8]) -> usize
@@ -73,13 +44,13 @@ pub(crate) fn put_refusal(reply: &mut ReplyBuf, error: OpenErr)
     ensures { Refuses error reply.new }
 {
     match error {
-        OpenErr::Fault => put_fault(reply),
-        OpenErr::Damaged { at, byte } => put_damaged(reply, at, byte),
+        OpenErr::Fault => write_fault(reply),
+        OpenErr::Damaged { at, byte } => write_damaged(reply, at, byte),
         OpenErr::OtherStore { found, asked } => {
             let (at, byte) = other_header(&found, &asked);
-            put_damaged(reply, at, byte);
+            write_damaged(reply, at, byte);
         }
-        OpenErr::RoomsTooSmall { at, .. } => put_damaged(reply, at, OPEN_GATE),
+        OpenErr::RoomsTooSmall { at, .. } => write_damaged(reply, at, OPEN_GATE),
         OpenErr::NotBegun { .. } => unreachable!(),
         OpenErr::NoMemory => unreachable!(),
     }

@@ -2,7 +2,6 @@
 
 ghost use Rattle.cloud_state.specs.State.{IsSettled};
 
-use crate::refusals::put_malformed;
 use crate::serving::answer;
 use cd_base::{CloudNo, NoMemory, Rooms, Shape};
 use cd_edges::Shelf;
@@ -10,6 +9,7 @@ use cloud_opening::reopen;
 use cloud_state::CloudState;
 use commit_journal::{Header, OpenErr};
 use frames::ReplyBuf;
+use messages::write_malformed;
 use request_dispatch::Asked;
 use std::alloc::Global;
 
@@ -49,6 +49,7 @@ impl Server {
     ghost use Rattle.cloud_opening.specs.Exact.{Opens};
     ghost use Rattle.cloud_opening.specs.Spared.{Spares};
     ghost use Rattle.cloud_opening.specs.Replied.{IsOkOrFault, HasMemory, MayBegin, NotBegunIs, OtherStoreIs};
+    ghost use Rattle.share_server.specs.Names.{counted};
     ghost use Rattle.share_server.specs.Serving.{IsOf, number_of, IsServing, server_serves, settled_with, ReopensAs, Executes, Answered, Refused, CanOpen, IsClosedFrom};
 
     /// A closed server of this cloud of a store of this shape, in these rooms. It takes all its memory here; the only error is want of memory.
@@ -112,11 +113,11 @@ impl Server {
             → ImagesSince (V.cloud_at shelf.old (number_of self.old)) (V.cloud_at shelf.new (number_of self.old)) self.old.state.header (Contains lists) }
         ensures opened { IsTrue (V.cloud_at shelf.old (number_of self.old)).told → (lists : List (List Command))
             → ImagesNow (V.cloud_at shelf.old (number_of self.old)) self.old.state.header (Contains lists)
-            → IfOk result (λ commands. (list : List Command) × Contains lists list × (commands ≡ length list)
+            → IfOk result (λ commands. (list : List Command) × Contains lists list × (commands ≡ counted list)
             × Agrees self.new.state (V.cloud_at shelf.new (number_of self.old)) list × IsWithin self.old.state.rooms list) }
         ensures loaded { IsTrue (V.cloud_at shelf.old (number_of self.old)).told → (list : List Command)
             → StandsFor (reads (V.cloud_at shelf.old (number_of self.old)).now) self.old.state.header list
-            → IfOk result (λ commands. (commands ≡ length list) × IsServing self.new (V.cloud_at shelf.new (number_of self.old)) (settled_with list (V.cloud_at shelf.new (number_of self.old)))) }
+            → IfOk result (λ commands. (commands ≡ counted list) × IsServing self.new (V.cloud_at shelf.new (number_of self.old)) (settled_with list (V.cloud_at shelf.new (number_of self.old)))) }
         ensures whole { IsTrue (V.cloud_at shelf.old (number_of self.old)).told → (list : List Command)
             → StandsFor (reads (V.cloud_at shelf.old (number_of self.old)).now) self.old.state.header list → IsWithin self.old.state.rooms list
             → MayBegin ((V.cloud_at shelf.old (number_of self.old)).now Journal).read begin → IsOkOrFault result }
@@ -137,7 +138,10 @@ impl Server {
             (HasFailed (V.cloud_at shelf.old (number_of self.old)) (V.cloud_at shelf.new (number_of self.old)) (V.faults shelf.old) (V.faults shelf.new))
             (KeepsCounts (V.cloud_at shelf.old (number_of self.old)) (V.cloud_at shelf.new (number_of self.old)) (V.faults shelf.old) (V.faults shelf.new)) }
     {
-        reopen(&mut self.state, shelf, begin)
+        match reopen(&mut self.state, shelf, begin) {
+            Ok(commands) => Ok(commands),
+            Err(error) => Err(error),
+        }
     }
 
     /// The reply to a request becomes the content. The request is one content of a frame, of fewer than 4,294,967,296 bytes.
@@ -200,7 +204,7 @@ impl Server {
     {
         match Asked::read(self.state.header.shape, request) {
             Ok(asked) => answer(&mut self.state, shelf, &asked, reply),
-            Err(at) => put_malformed(reply, at),
+            Err(at) => write_malformed(reply, at),
         }
     }
 }

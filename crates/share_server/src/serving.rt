@@ -23,13 +23,14 @@ ghost use Rattle.share_server.specs.Refusals.{MayCome};
 ghost use Rattle.share_server.specs.Serving.{Executes, Answered, IsUnopened, Refused, CanOpen};
 ghost use Rattle.share_server.specs.Steps.{ServesAs, OpensAs, Does, AreNumbered};
 
-use crate::refusals::{put_fault, put_refusal};
+use crate::refusals::put_refusal;
 use cd_base::Rooms;
 use cd_edges::{Failed, Shelf};
 use cloud_opening::reopen;
 use cloud_state::CloudState;
 use commit_journal::OpenErr;
 use frames::ReplyBuf;
+use messages::write_fault;
 use request_dispatch::{Asked, dispatch};
 
 // The rooms that are no bytes are numbers of 32 bits, as they always are. It is here for its contract.
@@ -75,7 +76,7 @@ fn serve<V: Shelf>(state: &mut CloudState, shelf: &mut V, asked: &Asked<'_>, rep
     number_rooms(&state.rooms);
     match dispatch(state, shelf, asked, reply) {
         Ok(()) => {}
-        Err(Failed) => put_fault(reply),
+        Err(Failed) => write_fault(reply),
     }
 }
 

@@ -36,25 +36,31 @@ pub struct PoolFull<T> {
 /// from the live slots to an account and a value, and each account's limit. It takes no memory once it is made.
 #[derive(Drop)]
 pub struct Pool<T> {
+    // what the slots hold that have been taken; those behind them are empty, and their memory isn't touched
     cells: Vec<Content<T>>,
-    // empty slots
+    // how many slots there are
+    count: u32,
+    // the empty slots among the cells
     free: Vec<u32>,
     // how many slots each account uses
     used: Vec<u32>,
     limits: Vec<u32>,
+    // what a slot behind the cells holds
+    empty: Content<T>,
 }
 
 impl<T> Model for Pool<T> {
-    ghost use Rattle.std.specs.Prelude.{vec_capacity};
+    ghost use Rattle.std.specs.Prelude.{◌≡◌, vec_capacity};
     ghost use Rattle.slot_pool.specs.Pool.{Pool as Slots};
+    ghost use Rattle.slot_pool.specs.declared.Content.TheVariants.{Empty};
 
     ghost Value = { Slots T };
 
-    ghost use Rattle.slot_pool.specs.Sound.{IsSound};
+    ghost use Rattle.slot_pool.specs.Sound.{IsLaid, all_slots};
 
-    ghost view = { λ p. record { slots = p.cells.items; limits = p.limits.items } };
+    ghost view = { λ p. record { slots = all_slots p.cells.items p.count; limits = p.limits.items } };
 
-    ghost invariant = { λ p. IsSound p.cells.items p.free.items p.used.items p.limits.items (vec_capacity p.free) };
+    ghost invariant = { λ p. IsLaid p.cells.items p.count p.free.items p.used.items p.limits.items (vec_capacity p.cells) (vec_capacity p.free) × (p.empty ≡ Empty) };
 }
 
 impl<T> Content<T> {
@@ -116,7 +122,12 @@ impl<T> Pool<T> {
                     Content::Held(_, _) => unreachable!(),
                 }
             }
-            None => unreachable!(),
+            None => {
+                let number = self.cells.len() as u32;
+                self.used[account as usize] = used + 1;
+                self.cells.push_reserved(Content::Held(account, value));
+                Ok(Slot { number })
+            }
         }
     }
 
@@ -161,14 +172,17 @@ impl<T> Pool<T> {
         requires { number < length self.now.slots }
         ensures { result.now ≡ content self.now number }
     {
-        &self.cells[number as usize]
+        match self.cells.get(number as usize) {
+            Some(content) => content,
+            None => &self.empty,
+        }
     }
 
     /// The number of slots, live or not, as given to `with_capacity`.
     pub fn slots(&self) -> u32
         ensures { result ≡ length self.now.slots }
     {
-        self.cells.len() as u32
+        self.count
     }
 
     /// Whether the slot is live: whether it holds a value.
@@ -198,27 +212,23 @@ impl<T: Drop> Pool<T> {
     ghost use Rattle.slot_pool.specs.declared.Content.TheVariants.{Empty};
 
     /// A pool of empty slots, with an account for each limit. The limits together are at most the number of slots.
-    /// `AllocError` is want of memory.
+    /// `AllocError` is want of memory. The memory of a slot is written to when it is first taken, and not here.
     pub fn with_capacity(alloc: Global, slots: u32, limits: &[u32]) -> Result<Self, AllocError>
         requires { sum limits.now ≤ slots }
         ensures slots { IfOk result (λ p. p.slots ≡ replicate slots Empty) }
         ensures limits { IfOk result (λ p. p.limits ≡ limits.now) }
     {
-        let mut cells = Vec::with_capacity(alloc, slots as usize)?;
-        let mut free = Vec::with_capacity(alloc, slots as usize)?;
-        for number in 0..slots {
-            cells.push_reserved(Content::Empty);
-            free.push_reserved(number);
-        }
         let mut used = Vec::with_capacity(alloc, limits.len())?;
         for _limit in limits {
             used.push_reserved(0);
         }
         Ok(Pool {
-            cells,
-            free,
+            cells: Vec::with_capacity(alloc, slots as usize)?,
+            count: slots,
+            free: Vec::with_capacity(alloc, slots as usize)?,
             used,
             limits: limits.to_vec(alloc)?,
+            empty: Content::Empty,
         })
     }
 }

@@ -193,6 +193,13 @@ none_left (suc need) (cloud ∷ rest) few =
     λ i. map (λ s. cloud ∷ s) (one i) ++ other i
 
 -- each that is among these clouds
+-- all of them are one choice
+pub one_choice : (clouds : List ℕ) → subsets (length clouds) clouds ≡ clouds ∷ []
+one_choice [] = refl
+one_choice (x ∷ clouds) =
+    ap (λ (l : List (List ℕ)). map (λ subset. x ∷ subset) l ++ subsets (suc (length clouds)) clouds) (one_choice clouds)
+    ∙ ap (λ (l : List (List ℕ)). (x ∷ clouds) ∷ l) (none_left (suc (length clouds)) clouds (omega arith))
+
 pub subset_among : (k : ℕ) (clouds subset : List ℕ) → Contains (subsets k clouds) subset → (x : ℕ) → Contains subset x → Contains clouds x
 subset_among zero clouds subset c x has = elim (contains_cases [] [] subset c) [
   | inl e ↦ absurd (contains_nothing x (subst (λ (l : List ℕ). Contains l x) (sym e) has))
@@ -241,6 +248,25 @@ map_nothing (s ∷ all) = let more = map_nothing all in λ i. s ∷ more i
 -- from the start these are all
 pub behind_nothing : (need : ℕ) (rest : List ℕ) → behind [] need rest ≡ subsets need rest
 behind_nothing need rest = map_nothing (subsets need rest)
+
+-- of just so many there is one choice
+pub only_choice : (k : ℕ) (clouds : List ℕ) → length clouds ≡ k → subsets k clouds ≡ clouds ∷ []
+only_choice zero [] few = refl
+only_choice zero (cloud ∷ clouds) few = absurd (omega (arith, few))
+only_choice (suc k) [] few = absurd (omega (arith, few))
+only_choice (suc k) (cloud ∷ clouds) few =
+    let one : subsets k clouds ≡ clouds ∷ [] = only_choice k clouds (omega (arith, few)) in
+    let none : subsets (suc k) clouds ≡ [] = none_left (suc k) clouds (omega (arith, few)) in
+    λ i. map (λ s. cloud ∷ s) (one i) ++ none i
+
+no_middle : {A : Type 0} (front : List A) (x : A) (rest : List A) → front ++ x ∷ rest ≡ [] → ⊥
+no_middle [] x rest e = cc
+no_middle (z ∷ front) x rest e = cc
+
+-- in a list of one that one
+pub sole : {A : Type 0} (front : List A) (x : A) (rest : List A) (y : A) → front ++ x ∷ rest ≡ y ∷ [] → x ≡ y
+sole [] x rest y e = cc
+sole (z ∷ front) x rest y e = absurd (no_middle front x rest (let f : z ∷ (front ++ x ∷ rest) ≡ y ∷ [] = e in cc))
 
 -- where there are enough there is a first
 pub first_choice : (k : ℕ) (clouds : List ℕ) → k ≤ length clouds → (first : List ℕ) × (more : List (List ℕ)) × (subsets k clouds ≡ first ∷ more)

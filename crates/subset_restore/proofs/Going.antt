@@ -1,5 +1,5 @@
 -- A call under way, one choice after another.
-use Rattle.std.proofs.Common.{◌≡◌, ◌≢◌, ℕ, ◌≤◌, ◌⊎◌, Bool, true, false, List, [], ◌∷◌, ◌++◌, map, Some, None, Result, Ok, Err, refl, sym, ap, ◌∙◌, subst, inl, inr, append_assoc, append-nil}
+use Rattle.std.proofs.Common.{◌≡◌, ◌≢◌, ℕ, ◌≤◌, ◌⊎◌, Bool, true, false, List, [], ◌∷◌, ◌++◌, map, Some, None, Result, Ok, Err, refl, sym, ap, ◌∙◌, subst, inl, inr, length, arith, append_assoc, append-nil, length-append}
 use Rattle.std.specs.List.{Contains}
 use Rattle.cd_base.specs.declared.ids.UserId.{UserId}
 use Rattle.cd_base.specs.declared.ids.Version.{Version}
@@ -8,10 +8,10 @@ use Rattle.cd_edges.specs.Causes.{Rose}
 use Rattle.user_dedup.specs.Exec.{Peer}
 use Rattle.user_dedup.specs.Link.{LinkTelling, Talk}
 use Rattle.user_dedup.proofs.Owned.{contains_here, contains_later, contains_nothing}
-use Rattle.restore_job.specs.Asking.{Asked, Leads, OnlyRead, is_loss, is_lost}
+use Rattle.restore_job.specs.Asking.{Asked, Leads, OnlyRead, AreRead, is_loss, is_lost}
 use Rattle.restore_job.specs.Brought.{Brought}
-use Rattle.restore_job.specs.Exchanges.{RestoreSaid, Unlost}
-use Rattle.restore_job.specs.Reading.{Restores}
+use Rattle.restore_job.specs.Exchanges.{LostSaid, RestoreSaid, Unlost}
+use Rattle.restore_job.specs.Reading.{Ends, ReadsBy, Restores}
 use Rattle.restore_job.specs.Refusals.{Caused, Causes, Names}
 use Rattle.restore_job.specs.Restored.{Unrestored}
 use Rattle.restore_job.specs.declared.error.RestoreErr.{RestoreErr}
@@ -19,16 +19,16 @@ use Rattle.restore_job.specs.declared.error.RestoreErr.TheVariants as errors
 use Rattle.restore_job.proofs.Leading.{rose_on, rose_off, leads_on, leads_to, leads_none, asked_on, asked_in, asked_none}
 use Rattle.restore_job.proofs.Causing.{caused_on, names_to}
 use Rattle.subset_restore.specs.Subsets.{subsets}
-use Rattle.subset_restore.specs.Tries.{Try, NoneYet, Passed, Refused, HoldsRefuser, HasRefused, WasTried, refuser}
+use Rattle.subset_restore.specs.Tries.{Try, GoneThrough, NoneYet, Passed, Refused, HoldsRefuser, HasRefused, WasTried, refuser}
 use Rattle.subset_restore.specs.Restored.{first_bytes, first_given, restored_any}
 use Rattle.subset_restore.specs.Ends.{Sought, outcome_of, any_outcome, GivesNone, IsNone, NoneFailed, OneRestore, AllRefused, AllCaused, CameTold, Came, NoneTold, NoneCame, OnlyLeads, NoneBy}
 use Rattle.subset_restore.specs.Tracking.{Tracks, HoldsMarked, first_of}
-use Rattle.subset_restore.specs.Going.{sought, TryTold, EachTold, EachCaused, Begun, SoFar, GoesOn, Goes}
+use Rattle.subset_restore.specs.Going.{sought, TryTold, EachTold, AllStand, EachCaused, Begun, SoFar, GoesOn, Goes}
 use Rattle.subset_restore.specs.declared.refusals.Refusals.{Refusals}
 use Rattle.subset_restore.specs.declared.trying.Went.{Went}
 use Rattle.subset_restore.specs.declared.trying.Went.TheVariants as went
 use Rattle.subset_restore.proofs.Elements.{contains_front, contains_last, contains_end, all_of}
-use Rattle.subset_restore.proofs.Choices.{subset_among}
+use Rattle.subset_restore.proofs.Choices.{subset_among, only_choice, sole}
 use Rattle.subset_restore.proofs.Files.{gives}
 use Rattle.subset_restore.proofs.Standing.{told_later, told_first, may_reads, caused_later, tried_none, held_none, ends_among}
 
@@ -52,13 +52,13 @@ first_bytes_none f refusal (x ∷ all) none =
     ap (λ (o : Result (List ℕ) Unrestored). first_bytes refusal (o ∷ map f all)) (none x (contains_here x all)).1
     ∙ first_bytes_none f refusal all (λ y has. none y (contains_later x all y has))
 
-any_at : (s : Sought) (peers : ℕ → Peer) (front : List (List ℕ)) (subset : List ℕ) (rest : List (List ℕ)) (file : List ℕ) → subsets s.shape.k s.clouds ≡ front ++ subset ∷ rest
+pub any_at : (s : Sought) (peers : ℕ → Peer) (front : List (List ℕ)) (subset : List ℕ) (rest : List (List ℕ)) (file : List ℕ) → subsets s.shape.k s.clouds ≡ front ++ subset ∷ rest
     → ((x : List ℕ) → Contains front x → GivesNone s peers x) → outcome_of s peers subset ≡ gives file → any_outcome s peers ≡ gives file
 unfolding restored_any
 any_at s peers front subset rest file split none is =
     ap (λ (l : List (List ℕ)). first_given (map (outcome_of s peers) l)) split ∙ first_at (outcome_of s peers) front subset rest file none is
 
-any_none : (s : Sought) (peers : ℕ → Peer) (first : List ℕ) (rest : List (List ℕ)) → subsets s.shape.k s.clouds ≡ first ∷ rest
+pub any_none : (s : Sought) (peers : ℕ → Peer) (first : List ℕ) (rest : List (List ℕ)) → subsets s.shape.k s.clouds ≡ first ∷ rest
     → ((x : List ℕ) → Contains (subsets s.shape.k s.clouds) x → GivesNone s peers x) → any_outcome s peers ≡ outcome_of s peers first
 unfolding restored_any
 any_none s peers first rest split none =
@@ -97,6 +97,27 @@ all_refused_more : {L : Type 0} (t : LinkTelling L) (talk : L → ℕ → Talk �
 all_refused_more {L} t talk s bytes start mid now [] y all one = (now, subst (λ (l : L). OneRestore t talk s y.subset bytes bytes l (Err y.refusal) now) all one, refl)
 all_refused_more t talk s bytes start mid now (x ∷ tries) y all one = (all.0, all.1, all_refused_more t talk s bytes all.0 mid now tries y all.2 one)
 
+no_tries : (x : Try) → [] ≡ x ∷ [] → ⊥
+no_tries x e = cc
+
+no_end : (tries : List Try) (y : Try) → tries ++ y ∷ [] ≡ [] → ⊥
+no_end [] y e = cc
+no_end (z ∷ tries) y e = cc
+
+-- which clouds the one try read
+read_once : (tries : List Try) (y : Try) (a b c : ℕ → Peer) → (tries ≡ [] → b ≡ a) → ReadsBy y.subset (Err y.refusal) b c → (x : Try) → tries ++ y ∷ [] ≡ x ∷ [] → ReadsBy x.subset (Err x.refusal) a c
+read_once [] y a b c none reads x e =
+    let same : y ≡ x = cc in
+    subst (λ (z : Try). ReadsBy z.subset (Err z.refusal) a c) same (subst (λ (p : ℕ → Peer). ReadsBy y.subset (Err y.refusal) p c) (none refl) reads)
+read_once (z ∷ tries) y a b c none reads x e = absurd (no_end tries y (let f : z ∷ (tries ++ y ∷ []) ≡ x ∷ [] = e in cc))
+
+-- there are no more tries than choices
+tries_few : (done : List (List ℕ)) (tries : List Try) → GoneThrough done tries → length tries ≤ length done
+tries_few done tries NoneYet = omega arith
+tries_few all tries (Passed done tried subset gone holds) = omega (arith, tries_few done tries gone, length-append done (subset ∷ []))
+tries_few all more (Refused done tries subset e gone free plain) =
+    omega (arith, tries_few done tries gone, length-append done (subset ∷ []), length-append tries (record { subset = subset; refusal = e } ∷ []))
+
 -- ---- what was asked
 
 no_loss : {L : Type 0} (t : LinkTelling L) (clouds : List ℕ) (old new : L) (loss : Bool) → Asked t clouds old new loss → Asked t clouds old new false
@@ -127,7 +148,7 @@ module _ {L : Type 0} (t : LinkTelling L) (talk : L → ℕ → Talk → Type 0)
     lost = λ x has. absurd (contains_nothing x has);
     lossless = λ h x has. absurd (contains_nothing x has);
     refused = refl;
-    leads = leads_none t s.clouds start (EachCaused t start s []) (EachTold s [] bytes) (λ a x has. absurd (contains_nothing x has)) (λ a x has. absurd (contains_nothing x has));
+    leads = leads_none t s.clouds start (EachCaused t start s []) (AllStand s [] bytes) (λ a x has. absurd (contains_nothing x has)) (λ a. record { each = λ x has. absurd (contains_nothing x has); none = λ e. refl; one = λ x e. absurd (no_tries x e) });
   }
 
   each_behind : (done : List (List ℕ)) (tries : List Try) (subset : List ℕ) → ((x : List ℕ) → Contains done x → WasTried tries x ⊎ HoldsRefuser tries x) → WasTried tries subset ⊎ HoldsRefuser tries subset
@@ -156,6 +177,7 @@ module _ {L : Type 0} (t : LinkTelling L) (talk : L → ℕ → Talk → Type 0)
     pub asked : Asked t subset now new (is_lost result)
     pub restored : Leads t subset now new (Causes t now s.shape s.user (s.tag, s.version) result) (Restores s.shape s.user (s.tag, s.version) subset result bytes bytes')
     pub said : Unlost result (RestoreSaid talk now new s.shape s.user s.tag s.version subset bytes bytes' result)
+    pub beside : LostSaid talk now new result
 
   free_later : (tries : List Try) (subset : List ℕ) → (HoldsRefuser tries subset → ⊥) → (x : Try) → Contains tries x → (cloud : ℕ) → refuser x.refusal ≡ Some cloud → Contains subset cloud → ⊥
   free_later tries subset free x has cloud refused holds = free (cloud, holds, (x, has, refused))
@@ -177,15 +199,19 @@ module _ {L : Type 0} (t : LinkTelling L) (talk : L → ℕ → Talk → Type 0)
             (λ x has is. rose_off (t.losses start) (t.losses now) (t.losses new) (f.lost x has is) later)
             (λ is. rose_on (t.losses start) (t.losses now) (t.losses new) f.asked.later (step.asked.lost is));
         lossless = λ h. of_more (λ x. is_loss x.refusal ≡ false) tries y (f.lossless h) (step.asked.lossless (f.asked.lossless h).1).0;
-        refused = all_refused_more t talk s bytes start now new tries y f.refused (record { asked = step.asked; said = step.said });
-        leads = leads_on t s.clouds subset s.clouds start now new _ _ (EachCaused t start s (tries ++ y ∷ [])) _ _ (EachTold s (tries ++ y ∷ []) bytes) f.leads f.asked.told step.restored
+        refused = all_refused_more t talk s bytes start now new tries y f.refused (record { asked = step.asked; said = step.said; beside = step.beside });
+        leads = leads_on t s.clouds subset s.clouds start now new _ _ (EachCaused t start s (tries ++ y ∷ [])) _ _ (AllStand s (tries ++ y ∷ []) bytes) f.leads f.asked.told step.restored
             (λ x has. has) step.among
             (λ a b c one two r q. of_more (λ x. Caused t start s.shape s.user (s.tag, s.version) x.refusal a c) tries y
             (λ x has. caused_later t start s subset x.refusal a b c (r x has) two (free_later tries subset free x has))
             (caused_on t start now s.shape s.user (s.tag, s.version) e a b c f.asked.told one.read q))
-            (λ a b c one two r q. of_more (λ x. TryTold s x.subset x.refusal bytes a c) tries y
-            (λ x has. told_later s x.subset x.refusal bytes a b c (r x has) two.read)
-            (told_first s subset e bytes a b c one.read q));
+            (λ a b c one two r q. record {
+              each = of_more (λ x. TryTold s x.subset x.refusal bytes a c) tries y
+                  (λ x has. told_later s x.subset x.refusal bytes a b c (r.each x has) two.read)
+                  (told_first s subset e bytes a b c one.read q);
+              none = λ is. absurd (no_end tries y is);
+              one = λ x is. read_once tries y a b c r.none q.read x is;
+            });
       }
 
   -- ---- from which choices nothing comes
@@ -211,16 +237,17 @@ module _ {L : Type 0} (t : LinkTelling L) (talk : L → ℕ → Talk → Type 0)
 
   came_told : (now new : L) (done : List (List ℕ)) (tries : List Try) (subset : List ℕ) (rest : List (List ℕ)) (bytes' : List ℕ) (a b c : ℕ → Peer)
       → SoFar t talk s start now bytes done tries → t.losses now ≤ t.losses new → subsets s.shape.k s.clouds ≡ done ++ subset ∷ rest
-      → OnlyRead s.clouds a b → OnlyRead subset b c → EachTold s tries bytes a b → Restores s.shape s.user (s.tag, s.version) subset (Ok tt) bytes bytes' b c
+      → OnlyRead s.clouds a b → OnlyRead subset b c → AllStand s tries bytes a b → Restores s.shape s.user (s.tag, s.version) subset (Ok tt) bytes bytes' b c
       → CameTold s tries done subset (t.losses start) (t.losses new) bytes bytes' a c
   came_told now new done tries subset rest bytes' a b c f later split one two told r =
-      let told' : EachTold s tries bytes a c = λ x has. told_later s x.subset x.refusal bytes a b c (told x has) two.read in
+      let told' : EachTold s tries bytes a c = λ x has. told_later s x.subset x.refusal bytes a b c (told.each x has) two.read in
+      let read : AreRead subset a c = λ x has. may_reads (a x) (b x) (c x) (one.read x) (r.read x has) in
       let none : (x : List ℕ) → Contains done x → IsNone s tries a c x = λ x has. none_from tries a c f.plain told' x (f.each x has) in
       let within : (x : List ℕ) → Contains done x → (y : ℕ) → Contains x y → Contains s.clouds y =
       λ x has. subset_among s.shape.k s.clouds x (subst (λ (l : List (List ℕ)). Contains l x) (sym split) (contains_front done (subset ∷ rest) x has)) in
       record {
         ends = r.ends;
-        read = λ x has. may_reads (a x) (b x) (c x) (one.read x) (r.read x has);
+        read = read;
         front_none = all_of (IsNone s tries a c) done none;
         exact = λ free. (
           r.ends.0,
@@ -228,6 +255,8 @@ module _ {L : Type 0} (t : LinkTelling L) (talk : L → ℕ → Talk → Type 0)
           any_at s c done subset rest r.ends.0 split
               (λ x has. gives_none new tries a c x (λ y is loss. rose_off (t.losses start) (t.losses now) (t.losses new) (f.lost y is loss) later) (within x has) free (none x has)) r.ends.2,
         );
+        just = λ few. subst (λ (l : List ℕ). Restores s.shape s.user (s.tag, s.version) l (Ok tt) bytes bytes' a c)
+            (sole done subset rest s.clouds (sym split ∙ only_choice s.shape.k s.clouds few)) (record { ends = r.ends; read = read });
       }
 
   pub came : (now new : L) (done : List (List ℕ)) (tries : List Try) (subset : List ℕ) (rest : List (List ℕ)) (bytes' : List ℕ) → SoFar t talk s start now bytes done tries
@@ -244,7 +273,7 @@ module _ {L : Type 0} (t : LinkTelling L) (talk : L → ℕ → Talk → Type 0)
     brought = brought;
     mid = now;
     refused = f.refused;
-    restored = record { asked = step.asked; said = step.said };
+    restored = record { asked = step.asked; said = step.said; beside = step.beside };
     leads = leads_on t s.clouds subset s.clouds start now new _ _ (AllCaused t start s tries) _ _ (CameTold s tries done subset (t.losses start) (t.losses new) bytes bytes') f.leads f.asked.told step.restored
         (λ x has. has) step.among
         (λ a b c one two r q. all_of (λ x. Caused t start s.shape s.user (s.tag, s.version) x.refusal a c) tries
@@ -269,6 +298,10 @@ module _ {L : Type 0} (t : LinkTelling L) (talk : L → ℕ → Talk → Type 0)
 
   -- ---- no file comes
 
+  no_more : (more : List Try) → length more ≤ 0 → more ≡ []
+  no_more [] few = refl
+  no_more (x ∷ more) few = absurd (omega arith)
+
   record FirstTry (tries : List Try) (e : RestoreErr) (first : List ℕ) : Type 0 where
     pub more : List Try
     pub is : tries ≡ record { subset = first; refusal = e } ∷ more
@@ -285,19 +318,31 @@ module _ {L : Type 0} (t : LinkTelling L) (talk : L → ℕ → Talk → Type 0)
       let same : x.subset ≡ first = subst (λ (l : List (List ℕ)). Begun l (x ∷ tries)) split begun in
       record { more = tries; is = λ i. record { subset = same i; refusal = error_some x.refusal e is i } ∷ tries }
 
+  -- from just k clouds
+  just_first : (tries : List Try) (e : RestoreErr) (first : List ℕ) (rest : List (List ℕ)) (a b : ℕ → Peer) → GoneThrough (subsets s.shape.k s.clouds) tries → subsets s.shape.k s.clouds ≡ first ∷ rest
+      → FirstTry tries e first → Ends (outcome_of s b first) first (Err e) bytes bytes a b → ((x : Try) → tries ≡ x ∷ [] → ReadsBy x.subset (Err x.refusal) a b) → subsets s.shape.k s.clouds ≡ s.clouds ∷ []
+      → Restores s.shape s.user (s.tag, s.version) s.clouds (Err e) bytes bytes a b
+  just_first tries e first rest a b gone split one ends reads all =
+      let first_is : first ≡ s.clouds = sole [] first rest s.clouds (sym split ∙ all) in
+      let few : length tries ≤ 1 = tries_few (s.clouds ∷ []) tries (subst (λ (l : List (List ℕ)). GoneThrough l tries) all gone) in
+      let y : Try = record { subset = first; refusal = e } in
+      subst (λ (l : List ℕ). Restores s.shape s.user (s.tag, s.version) l (Err e) bytes bytes a b) first_is
+      (record { ends = ends; read = reads y (one.is ∙ ap (λ (l : List Try). y ∷ l) (no_more one.more (omega (arith, few, ap length one.is)))) })
+
   none_told : (now : L) (tries : List Try) (e : RestoreErr) (first : List ℕ) (rest : List (List ℕ)) (a b : ℕ → Peer) → SoFar t talk s start now bytes (subsets s.shape.k s.clouds) tries
-      → subsets s.shape.k s.clouds ≡ first ∷ rest → FirstTry tries e first → EachTold s tries bytes a b → NoneTold s tries first (t.losses start) (t.losses now) e bytes a b
+      → subsets s.shape.k s.clouds ≡ first ∷ rest → FirstTry tries e first → AllStand s tries bytes a b → NoneTold s tries first (t.losses start) (t.losses now) e bytes a b
   none_told now tries e first rest a b f split one told =
       let y : Try = record { subset = first; refusal = e } in
       let has : Contains tries y = subst (λ (l : List Try). Contains l y) (sym one.is) (contains_here y one.more) in
-      let none : (x : List ℕ) → Contains (subsets s.shape.k s.clouds) x → IsNone s tries a b x = λ x has. none_from tries a b f.plain told x (f.each x has) in
+      let none : (x : List ℕ) → Contains (subsets s.shape.k s.clouds) x → IsNone s tries a b x = λ x has. none_from tries a b f.plain told.each x (f.each x has) in
       let here : Contains (subsets s.shape.k s.clouds) first = subst (λ (l : List (List ℕ)). Contains l first) (sym split) (contains_here first rest) in
       record {
-        ends = (told y has).ends;
+        ends = (told.each y has).ends;
         none = all_of (IsNone s tries a b) (subsets s.shape.k s.clouds) none;
         exact = λ free. ends_among (outcome_of s b first) (any_outcome s b) first s.clouds e bytes a b
             (any_none s b first rest split (λ x within. gives_none now tries a b x f.lost (subset_among s.shape.k s.clouds x within) free (none x within)))
-            (subset_among s.shape.k s.clouds first here) (told y has).ends;
+            (subset_among s.shape.k s.clouds first here) (told.each y has).ends;
+        just = λ few. just_first tries e first rest a b f.gone split one (told.each y has).ends told.one (only_choice s.shape.k s.clouds few);
       }
 
   none_came : (now : L) (tries : List Try) (e : RestoreErr) (first : List ℕ) (rest : List (List ℕ)) → SoFar t talk s start now bytes (subsets s.shape.k s.clouds) tries
@@ -439,10 +484,11 @@ module _ {L : Type 0} (t : LinkTelling L) (talk : L → ℕ → Talk → Type 0)
         Leads t subset old new (Causes t old s.shape s.user (s.tag, s.version) result) (Restores s.shape s.user (s.tag, s.version) subset result bytes bytes')
     pub said : (clouds : List ℕ) → let s = sought shape user path version clouds in
         Unlost result (RestoreSaid talk old new s.shape s.user s.tag s.version subset bytes bytes' result)
+    pub beside : LostSaid talk old new result
 
   step_of : (old new : L) (start : L) (bytes bytes' subset : List ℕ) (result : Result (Unit {0}) RestoreErr) (clouds : List ℕ) → ((x : ℕ) → Contains subset x → Contains clouds x)
       → Restored old new bytes bytes' subset result → OneStep t talk (sought shape user path version clouds) start bytes old new subset bytes' result
-  step_of old new start bytes bytes' subset result clouds all r = record { among = all; asked = r.asked; restored = r.restored clouds; said = r.said clouds }
+  step_of old new start bytes bytes' subset result clouds all r = record { among = all; asked = r.asked; restored = r.restored clouds; said = r.said clouds; beside = r.beside }
 
   pub goes_refused : (old new : L) (bytes bytes' subset : List ℕ) (r r' : Refusals) (e : RestoreErr) → (HoldsMarked r.marks subset → ⊥) → e ≢ errors.NoMemory → bytes' ≡ bytes → Names (Contains subset) e
       → Restored old new bytes bytes' subset (Err e) → ((tries : List Try) (x : List ℕ) → Tracks tries r → Tracks (tries ++ record { subset = x; refusal = e } ∷ []) r')

@@ -5,3 +5,4 @@ pub mod Standing
 pub mod Going
 pub mod Marks
 pub mod Walking
+pub mod Calling

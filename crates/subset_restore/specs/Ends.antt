@@ -1,5 +1,5 @@
 -- How a restore from any k of some clouds ends.
-use Rattle.std.specs.Prelude.{◌≡◌, ℕ, ◌⊎◌, List, [], ◌∷◌, ◌++◌, Result, Ok, Err, All}
+use Rattle.std.specs.Prelude.{◌≡◌, ℕ, ◌⊎◌, List, [], ◌∷◌, ◌++◌, length, Result, Ok, Err, All}
 use Rattle.std.specs.List.{Contains}
 use Rattle.cd_base.specs.declared.ids.Tag.{Tag}
 use Rattle.cd_base.specs.declared.ids.UserId.{UserId}
@@ -10,8 +10,8 @@ use Rattle.user_dedup.specs.Exec.{Peer}
 use Rattle.user_dedup.specs.Link.{LinkTelling, Talk}
 use Rattle.restore_job.specs.Asking.{Asked, Leads, AreRead, is_lost}
 use Rattle.restore_job.specs.Brought.{Brought}
-use Rattle.restore_job.specs.Exchanges.{RestoreSaid, Unlost}
-use Rattle.restore_job.specs.Reading.{Ends}
+use Rattle.restore_job.specs.Exchanges.{LostSaid, RestoreSaid, Unlost}
+use Rattle.restore_job.specs.Reading.{Ends, Restores}
 use Rattle.restore_job.specs.Refusals.{Caused}
 use Rattle.restore_job.specs.Restored.{Unrestored, restored_file}
 use Rattle.restore_job.specs.declared.error.RestoreErr.{RestoreErr}
@@ -37,6 +37,11 @@ outcome_of s peers clouds = restored_file s.shape (λ cloud. (peers cloud).list)
 abbrev pub any_outcome : Sought → (ℕ → Peer) → Result (List ℕ) Unrestored
 any_outcome s peers = restored_any s.shape (λ cloud. (peers cloud).list) s.user (s.tag, s.version) s.clouds
 
+-- from just k clouds it's what a restore from these gives, and which of them that reads
+abbrev pub JustRestores : Sought → Result (Unit {0}) RestoreErr → List ℕ → List ℕ → (ℕ → Peer) → (ℕ → Peer) → Type 0
+JustRestores s result old new before after =
+    length s.clouds ≡ s.shape.k → Restores s.shape s.user (s.tag, s.version) s.clouds result old new before after
+
 -- the lists of these clouds give no bytes
 abbrev pub GivesNone : Sought → (ℕ → Peer) → List ℕ → Type 0
 GivesNone s peers clouds = (why : Unrestored) × (outcome_of s peers clouds ≡ Err why)
@@ -47,7 +52,8 @@ WasLost tries cloud = (x : Try) × Contains tries x × (x.refusal ≡ errors.Los
 
 -- a device of one of these clouds failed, whose count rose, or an ask of it was lost
 abbrev pub HoldsFailed : List Try → (ℕ → Peer) → (ℕ → Peer) → List ℕ → Type 0
-HoldsFailed tries before after clouds = (cloud : ℕ) × Contains clouds cloud × (Rose (before cloud).faults (after cloud).faults ⊎ WasLost tries cloud)
+HoldsFailed tries before after clouds = (cloud : ℕ) × Contains clouds cloud
+    × (Rose (before cloud).faults (after cloud).faults ⊎ WasLost tries cloud)
 
 -- the file doesn't come from this choice of clouds: their lists give none, or one of them failed
 abbrev pub IsNone : Sought → List Try → (ℕ → Peer) → (ℕ → Peer) → List ℕ → Type 0
@@ -60,33 +66,43 @@ pub record NoneFailed (s : Sought) (losses losses_after : ℕ) (before after : �
 
 -- ---- what was said with the clouds
 
--- One restore from a choice of clouds: what was asked, and how its result follows from what came.
-pub record OneRestore {L : Type 0} (t : LinkTelling L) (talk : L → ℕ → Talk → Type 0) (s : Sought) (subset old new : List ℕ) (before : L) (result : Result (Unit {0}) RestoreErr) (after : L) : Type 0 where
+-- One restore from a choice of clouds: what was asked, and how its result follows from what came. Where an ask was lost,
+-- what is to come of the other clouds is told.
+pub record OneRestore {L : Type 0} (t : LinkTelling L) (talk : L → ℕ → Talk → Type 0) (s : Sought)
+    (subset old new : List ℕ) (before : L) (result : Result (Unit {0}) RestoreErr) (after : L) : Type 0 where
   pub asked : Asked t subset before after (is_lost result)
   pub said : Unlost result (RestoreSaid talk before after s.shape s.user s.tag s.version subset old new result)
+  pub beside : LostSaid talk before after result
 
 -- One such restore after another, each of which was refused.
-abbrev pub AllRefused : {L : Type 0} → LinkTelling L → (L → ℕ → Talk → Type 0) → Sought → List ℕ → L → List Try → L → Type 0
+abbrev pub AllRefused : {L : Type 0} → LinkTelling L → (L → ℕ → Talk → Type 0) → Sought → List ℕ → L → List Try → L
+    → Type 0
 AllRefused t talk s bytes before [] after = after ≡ before
 AllRefused {L} t talk s bytes before (x ∷ tries) after =
-    (mid : L) × OneRestore t talk s x.subset bytes bytes before (Err x.refusal) mid × AllRefused t talk s bytes mid tries after
+    (mid : L) × OneRestore t talk s x.subset bytes bytes before (Err x.refusal) mid
+    × AllRefused t talk s bytes mid tries after
 
 -- ---- the end
 
 -- what each refusal says of the cloud that it names, told or not
 abbrev pub AllCaused : {L : Type 0} → LinkTelling L → L → Sought → List Try → (ℕ → Peer) → (ℕ → Peer) → Type 0
-AllCaused t link s tries before after = All (λ x. Caused t link s.shape s.user (s.tag, s.version) x.refusal before after) tries
+AllCaused t link s tries before after =
+    All (λ x. Caused t link s.shape s.user (s.tag, s.version) x.refusal before after) tries
 
--- The file came over told clouds: from these clouds, all of which were read, and from no choice in front of them. It is that of any k
--- of the clouds where none failed.
-pub record CameTold (s : Sought) (tries : List Try) (front : List (List ℕ)) (subset : List ℕ) (losses losses_after : ℕ) (old new : List ℕ) (before after : ℕ → Peer) : Type 0 where
+-- The file came over told clouds: from these clouds, all of which were read, and from no choice in front of them. It is
+-- that of any k of the clouds where none failed.
+pub record CameTold (s : Sought) (tries : List Try) (front : List (List ℕ)) (subset : List ℕ)
+    (losses losses_after : ℕ) (old new : List ℕ) (before after : ℕ → Peer) : Type 0 where
   pub ends : Ends (outcome_of s after subset) subset (Ok tt) old new before after
   pub read : AreRead subset before after
   pub front_none : All (IsNone s tries before after) front
-  pub exact : NoneFailed s losses losses_after before after → Ends (any_outcome s after) s.clouds (Ok tt) old new before after
+  pub exact : NoneFailed s losses losses_after before after
+      → Ends (any_outcome s after) s.clouds (Ok tt) old new before after
+  pub just : JustRestores s (Ok tt) old new before after
 
 -- The file came: from these clouds, the first choice in order from which it wasn't refused and of which none had refused.
-pub record Came {L : Type 0} (t : LinkTelling L) (talk : L → ℕ → Talk → Type 0) (s : Sought) (start end : L) (old new : List ℕ) : Type 0 where
+pub record Came {L : Type 0} (t : LinkTelling L) (talk : L → ℕ → Talk → Type 0) (s : Sought) (start end : L)
+    (old new : List ℕ) : Type 0 where
   pub tries : List Try
   pub front : List (List ℕ)
   pub subset : List ℕ
@@ -98,16 +114,23 @@ pub record Came {L : Type 0} (t : LinkTelling L) (talk : L → ℕ → Talk → 
   pub mid : L
   pub refused : AllRefused t talk s old start tries mid
   pub restored : OneRestore t talk s subset old new mid (Ok tt) end
-  pub leads : Leads t s.clouds start end (AllCaused t start s tries) (CameTold s tries front subset (t.losses start) (t.losses end) old new)
+  pub leads : Leads t s.clouds start end (AllCaused t start s tries)
+      (CameTold s tries front subset (t.losses start) (t.losses end) old new)
 
--- No file came over told clouds: from no choice, and the refusal is that of the first. It is that of any k of the clouds where none failed.
-pub record NoneTold (s : Sought) (tries : List Try) (first : List ℕ) (losses losses_after : ℕ) (e : RestoreErr) (bytes : List ℕ) (before after : ℕ → Peer) : Type 0 where
+-- No file came over told clouds: from no choice, and the refusal is that of the first. It is that of any k of the clouds
+-- where none failed.
+pub record NoneTold (s : Sought) (tries : List Try) (first : List ℕ) (losses losses_after : ℕ) (e : RestoreErr)
+    (bytes : List ℕ) (before after : ℕ → Peer) : Type 0 where
   pub ends : Ends (outcome_of s after first) first (Err e) bytes bytes before after
   pub none : All (IsNone s tries before after) (subsets s.shape.k s.clouds)
-  pub exact : NoneFailed s losses losses_after before after → Ends (any_outcome s after) s.clouds (Err e) bytes bytes before after
+  pub exact : NoneFailed s losses losses_after before after
+      → Ends (any_outcome s after) s.clouds (Err e) bytes bytes before after
+  pub just : JustRestores s (Err e) bytes bytes before after
 
--- No file came: each choice was refused in this call or holds a cloud that refused in it, and the refusal is that of the first.
-pub record NoneCame {L : Type 0} (t : LinkTelling L) (talk : L → ℕ → Talk → Type 0) (s : Sought) (start end : L) (bytes : List ℕ) (e : RestoreErr) : Type 0 where
+-- No file came: each choice was refused in this call or holds a cloud that refused in it, and the refusal is that of the
+-- first.
+pub record NoneCame {L : Type 0} (t : LinkTelling L) (talk : L → ℕ → Talk → Type 0) (s : Sought) (start end : L)
+    (bytes : List ℕ) (e : RestoreErr) : Type 0 where
   pub tries : List Try
   pub first : List ℕ
   pub more : List Try
@@ -117,18 +140,21 @@ pub record NoneCame {L : Type 0} (t : LinkTelling L) (talk : L → ℕ → Talk 
   pub gone : GoneThrough (subsets s.shape.k s.clouds) tries
   pub each : All (λ subset. WasTried tries subset ⊎ HoldsRefuser tries subset) (subsets s.shape.k s.clouds)
   pub refused : AllRefused t talk s bytes start tries end
-  pub leads : Leads t s.clouds start end (AllCaused t start s tries) (NoneTold s tries first (t.losses start) (t.losses end) e bytes)
+  pub leads : Leads t s.clouds start end (AllCaused t start s tries)
+      (NoneTold s tries first (t.losses start) (t.losses end) e bytes)
 
 -- these were read at most
 abbrev pub OnlyLeads : {L : Type 0} → LinkTelling L → List ℕ → L → L → Type 0
 OnlyLeads t clouds start end = Leads t clouds start end (λ before after. Unit {0}) (λ before after. Unit {0})
 
 -- where memory ran out the clouds were read at most
-abbrev pub NoneBy : {L : Type 0} → LinkTelling L → (L → ℕ → Talk → Type 0) → Sought → L → L → List ℕ → RestoreErr → Type 0
+abbrev pub NoneBy : {L : Type 0} → LinkTelling L → (L → ℕ → Talk → Type 0) → Sought → L → L → List ℕ → RestoreErr
+    → Type 0
 NoneBy t talk s start end bytes errors.NoMemory = OnlyLeads t s.clouds start end
 NoneBy t talk s start end bytes e = NoneCame t talk s start end bytes e
 
 -- How it ends: the file came, or memory ran out, or no file came.
-abbrev pub AnyEnds : {L : Type 0} → LinkTelling L → (L → ℕ → Talk → Type 0) → Sought → L → L → List ℕ → List ℕ → Result (Unit {0}) RestoreErr → Type 0
+abbrev pub AnyEnds : {L : Type 0} → LinkTelling L → (L → ℕ → Talk → Type 0) → Sought → L → L → List ℕ → List ℕ
+    → Result (Unit {0}) RestoreErr → Type 0
 AnyEnds t talk s start end old new (Ok u) = Came t talk s start end old new
 AnyEnds t talk s start end old new (Err e) = NoneBy t talk s start end old e

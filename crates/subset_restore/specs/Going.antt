@@ -9,7 +9,7 @@ use Rattle.caont_rs.specs.Package.{tag as tag_at}
 use Rattle.user_dedup.specs.Exec.{Peer}
 use Rattle.user_dedup.specs.Link.{LinkTelling, Talk}
 use Rattle.restore_job.specs.Asking.{Asked, Leads, is_loss}
-use Rattle.restore_job.specs.Reading.{Ends}
+use Rattle.restore_job.specs.Reading.{Ends, ReadsBy}
 use Rattle.restore_job.specs.Refusals.{Caused, Names}
 use Rattle.restore_job.specs.declared.error.RestoreErr.{RestoreErr}
 use Rattle.restore_job.specs.declared.error.RestoreErr.TheVariants as errors
@@ -23,7 +23,13 @@ use Rattle.subset_restore.specs.declared.trying.Went.TheVariants as went
 
 -- a version that is sought by its path
 abbrev pub sought : Shape → UserId → List ℕ → Version → List ℕ → Sought
-sought shape user path version clouds = record { shape = shape; user = user; tag = record { 0 = tag_at shape path }; version = version; clouds = clouds }
+sought shape user path version clouds = record {
+  shape = shape;
+  user = user;
+  tag = record { 0 = tag_at shape path };
+  version = version;
+  clouds = clouds;
+}
 
 -- ---- what stands of a refusal
 
@@ -32,7 +38,8 @@ AreSettled clouds peers = (cloud : ℕ) → Contains clouds cloud → (peers clo
 
 -- the clouds whose lists a refusal hangs on are settled
 abbrev pub IsRested : List ℕ → RestoreErr → (ℕ → Peer) → Type 0
-IsRested subset (errors.Missing c) after = (front : List ℕ) × (rest : List ℕ) × (subset ≡ front ++ c.0 ∷ rest) × AreSettled (front ++ c.0 ∷ []) after
+IsRested subset (errors.Missing c) after =
+    (front : List ℕ) × (rest : List ℕ) × (subset ≡ front ++ c.0 ∷ rest) × AreSettled (front ++ c.0 ∷ []) after
 IsRested subset (errors.Lost c) after = Unit {0}
 IsRested subset (errors.CloudFault c) after = Unit {0}
 IsRested subset (errors.CloudDamaged c at byte) after = Unit {0}
@@ -47,15 +54,23 @@ IsRested subset (errors.BadPad secret at byte) after = AreSettled subset after
 IsRested subset errors.NoMemory after = Unit {0}
 
 -- a refusal over told clouds
-pub record TryTold (s : Sought) (subset : List ℕ) (e : RestoreErr) (bytes : List ℕ) (before after : ℕ → Peer) : Type 0 where
+pub record TryTold (s : Sought) (subset : List ℕ) (e : RestoreErr) (bytes : List ℕ) (before after : ℕ → Peer)
+    : Type 0 where
   pub ends : Ends (outcome_of s after subset) subset (Err e) bytes bytes before after
   pub rested : IsRested subset e after
 
 abbrev pub EachTold : Sought → List Try → List ℕ → (ℕ → Peer) → (ℕ → Peer) → Type 0
 EachTold s tries bytes before after = (x : Try) → Contains tries x → TryTold s x.subset x.refusal bytes before after
 
+-- So each stands; where none was asked all is as it was, and where there was one try it tells which clouds were read.
+pub record AllStand (s : Sought) (tries : List Try) (bytes : List ℕ) (before after : ℕ → Peer) : Type 0 where
+  pub each : EachTold s tries bytes before after
+  pub none : tries ≡ [] → after ≡ before
+  pub one : (x : Try) → tries ≡ x ∷ [] → ReadsBy x.subset (Err x.refusal) before after
+
 abbrev pub EachCaused : {L : Type 0} → LinkTelling L → L → Sought → List Try → (ℕ → Peer) → (ℕ → Peer) → Type 0
-EachCaused t link s tries before after = (x : Try) → Contains tries x → Caused t link s.shape s.user (s.tag, s.version) x.refusal before after
+EachCaused t link s tries before after =
+    (x : Try) → Contains tries x → Caused t link s.shape s.user (s.tag, s.version) x.refusal before after
 
 -- ---- so far
 
@@ -67,7 +82,8 @@ Begun (subset ∷ done) [] = ⊥
 Begun (subset ∷ done) (x ∷ tries) = x.subset ≡ subset
 
 -- These choices were gone through, with these refusals.
-pub record SoFar {L : Type 0} (t : LinkTelling L) (talk : L → ℕ → Talk → Type 0) (s : Sought) (start now : L) (bytes : List ℕ) (done : List (List ℕ)) (tries : List Try) : Type 0 where
+pub record SoFar {L : Type 0} (t : LinkTelling L) (talk : L → ℕ → Talk → Type 0) (s : Sought) (start now : L)
+    (bytes : List ℕ) (done : List (List ℕ)) (tries : List Try) : Type 0 where
   pub gone : GoneThrough done tries
   pub begun : Begun done tries
   pub each : (subset : List ℕ) → Contains done subset → WasTried tries subset ⊎ HoldsRefuser tries subset
@@ -77,22 +93,27 @@ pub record SoFar {L : Type 0} (t : LinkTelling L) (talk : L → ℕ → Talk →
   pub lost : (x : Try) → Contains tries x → is_loss x.refusal ≡ true → Rose (t.losses start) (t.losses now)
   pub lossless : IsTrue (t.lossless start) → (x : Try) → Contains tries x → is_loss x.refusal ≡ false
   pub refused : AllRefused t talk s bytes start tries now
-  pub leads : Leads t s.clouds start now (EachCaused t start s tries) (EachTold s tries bytes)
+  pub leads : Leads t s.clouds start now (EachCaused t start s tries) (AllStand s tries bytes)
 
 -- ---- further
 
 -- How it went on through some choices: the file came, or memory ran out, or each was passed over or refused.
-abbrev pub GoesOn : {L : Type 0} → LinkTelling L → (L → ℕ → Talk → Type 0) → Sought → L → L → List ℕ → List ℕ → List (List ℕ) → List (List ℕ) → Refusals → Went → Type 0
+abbrev pub GoesOn : {L : Type 0} → LinkTelling L → (L → ℕ → Talk → Type 0) → Sought → L → L → List ℕ → List ℕ
+    → List (List ℕ) → List (List ℕ) → Refusals → Went → Type 0
 GoesOn t talk s start now bytes new done todo refusals went.Restored =
-    ((rest : List (List ℕ)) → subsets s.shape.k s.clouds ≡ (done ++ todo) ++ rest → Came t talk s start now bytes new) × Asked t s.clouds start now false
-GoesOn t talk s start now bytes new done todo refusals went.NoMemory = OnlyLeads t s.clouds start now × Asked t s.clouds start now false
+    ((rest : List (List ℕ)) → subsets s.shape.k s.clouds ≡ (done ++ todo) ++ rest → Came t talk s start now bytes new)
+    × Asked t s.clouds start now false
+GoesOn t talk s start now bytes new done todo refusals went.NoMemory =
+    OnlyLeads t s.clouds start now × Asked t s.clouds start now false
 GoesOn t talk s start now bytes new done todo refusals went.Refused =
     (tries : List Try) × SoFar t talk s start now bytes (done ++ todo) tries × Tracks tries refusals × (new ≡ bytes)
 
 -- From whatever was gone through, it went on so.
-abbrev pub Goes : {L : Type 0} → LinkTelling L → (L → ℕ → Talk → Type 0) → Shape → UserId → List ℕ → Version → L → L → List ℕ → List ℕ → List ℕ → List (List ℕ) → Refusals → Refusals → Went → Type 0
+abbrev pub Goes : {L : Type 0} → LinkTelling L → (L → ℕ → Talk → Type 0) → Shape → UserId → List ℕ → Version → L → L
+    → List ℕ → List ℕ → List ℕ → List (List ℕ) → Refusals → Refusals → Went → Type 0
 Goes {L} t talk shape user path version old now bytes new among todo refusals refusals_now result =
-    (clouds : List ℕ) (start : L) (done : List (List ℕ)) (tries : List Try) → ((cloud : ℕ) → Contains among cloud → Contains clouds cloud)
+    (clouds : List ℕ) (start : L) (done : List (List ℕ)) (tries : List Try)
+    → ((cloud : ℕ) → Contains among cloud → Contains clouds cloud)
     → SoFar t talk (sought shape user path version clouds) start old bytes done tries → Tracks tries refusals
     → GoesOn t talk (sought shape user path version clouds) start now bytes new done todo refusals_now result
 

@@ -37,10 +37,12 @@ HoldsRefuser tries subset = (cloud : ℕ) × Contains subset cloud × HasRefused
 abbrev pub WasTried : List Try → List ℕ → Type 0
 WasTried tries subset = (x : Try) × Contains tries x × (x.subset ≡ subset)
 
--- These choices were gone through in order: one with a cloud that had refused was passed over, and each other was tried and refused.
+-- These choices were gone through in order: one with a cloud that had refused was passed over, and each other was tried
+-- and refused.
 pub data GoneThrough : List (List ℕ) → List Try → Type 0 where
   NoneYet : GoneThrough [] []
   Passed : (done : List (List ℕ)) (tries : List Try) (subset : List ℕ) → GoneThrough done tries → HoldsRefuser tries subset
       → GoneThrough (done ++ subset ∷ []) tries
-  Refused : (done : List (List ℕ)) (tries : List Try) (subset : List ℕ) (e : RestoreErr) → GoneThrough done tries → (HoldsRefuser tries subset → ⊥) → e ≢ errors.NoMemory
+  Refused : (done : List (List ℕ)) (tries : List Try) (subset : List ℕ) (e : RestoreErr) → GoneThrough done tries
+      → (HoldsRefuser tries subset → ⊥) → e ≢ errors.NoMemory
       → GoneThrough (done ++ subset ∷ []) (tries ++ record { subset = subset; refusal = e } ∷ [])

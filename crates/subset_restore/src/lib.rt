@@ -1,5 +1,5 @@
-//! Bringing a version of a file back from any k of some clouds: one choice of k after another, so that clouds which lack it, are
-//! damaged or don't answer are passed over.
+//! Bringing a version of a file back from any k of some clouds: one choice of k after another, so that clouds which lack
+//! it, are damaged or don't answer are passed over.
 #![tactic(auto)]
 
 mod chosen;

@@ -79,7 +79,8 @@ impl Refusals {
 
     /// Whether one of these clouds refused.
     pub fn hold(&self, clouds: &[CloudNo]) -> bool
-        ensures { MatchBool result (HoldsMarked self.now.marks (numbers_of clouds.now)) (HoldsMarked self.now.marks (numbers_of clouds.now) → ⊥) }
+        ensures { MatchBool result (HoldsMarked self.now.marks (numbers_of clouds.now))
+            (HoldsMarked self.now.marks (numbers_of clouds.now) → ⊥) }
     {
         let Some((cloud, more)) = next_cloud(clouds) else {
             return false;
@@ -92,7 +93,8 @@ impl Refusals {
 
     /// Keeps a refusal.
     pub fn note(&mut self, refusal: RestoreErr)
-        ensures { (tries : List Try) (subset : List ℕ) → Tracks tries self.old → Tracks (tries ++ record { subset = subset; refusal = refusal } ∷ []) self.new }
+        ensures { (tries : List Try) (subset : List ℕ) → Tracks tries self.old
+            → Tracks (tries ++ record { subset = subset; refusal = refusal } ∷ []) self.new }
     {
         mark(&mut self.marks, refuser_of(refusal));
         self.first = first_behind(self.first, refusal);

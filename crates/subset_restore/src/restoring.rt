@@ -16,13 +16,14 @@ use restore_job::RestoreErr;
 use std::alloc::Global;
 use user_dedup::Link;
 
-/// Appends a version of a file to `out`, from any k of these clouds, which are k or more and which the link reaches. After an error
-/// `out` is as before.
+/// Appends a version of a file to `out`, from any k of these clouds, which are k or more and which the link reaches.
+/// After an error `out` is as before.
 ///
-/// The choices of k of the clouds are tried in lexicographic order by `restore_job::restore`. A choice with a cloud that refused in
-/// this call is passed over: one that lacks the version, whose ask was lost, that answered a refusal of its own or nothing that a
-/// server gives, or whose share has another hash or length. The first choice that gives the file ends it. Where none does the error
-/// is the refusal of the first choice. NoMemory comes where memory ran out, and ends it at once.
+/// The choices of k of the clouds are tried in lexicographic order by `restore_job::restore`. A choice with a cloud that
+/// refused in this call is passed over: one that lacks the version, whose ask was lost, that answered a refusal of its
+/// own or nothing that a server gives, or whose share has another hash or length. The first choice that gives the file
+/// ends it. Where none does the error is the refusal of the first choice. NoMemory comes where memory ran out, and ends
+/// it at once.
 pub fn restore_any<L: Link>(
     alloc: Global,
     link: &mut L,
@@ -39,14 +40,16 @@ pub fn restore_any<L: Link>(
     requires within { All (λ cloud. cloud < shape.n) clouds.now }
     requires path { IsPath path.now }
 
-    // Which choices were tried and which passed over, and what the refusals say of their clouds, each told or not. Where the link tells
-    // all of these clouds, the result is that of their lists as they stand after it (`restored_any`), but for clouds whose device failed
-    // and lost asks. What was asked and what came, restore by restore. The clouds went on from all that they stood for: these were read
-    // at most, and the others are as they were.
-    ensures restored { AnyEnds L.tells L.talk (sought shape user path.now version clouds.now) link.old link.new out.old out.new result }
+    // Which choices were tried and which passed over, and what the refusals say of their clouds, each told or not.
+    // Where the link tells all of these clouds, the result is that of their lists as they stand after it
+    // (`restored_any`), but for clouds whose device failed and lost asks. What was asked and what came, restore by
+    // restore. The clouds went on from all that they stood for: these were read at most, and the others are as they
+    // were.
+    ensures restored { AnyEnds L.tells L.talk (sought shape user path.now version clouds.now) link.old link.new
+        out.old out.new result }
 
-    // Each ask was of one of these clouds and adds nothing. One is lost only where the link's count of losses rose, and never where it
-    // tells that it loses nothing.
+    // Each ask was of one of these clouds and adds nothing. One is lost only where the link's count of losses rose, and
+    // never where it tells that it loses nothing.
     ensures asked { Asked L.tells clouds.now link.old link.new (is_lost result) }
 
     // A refusal names no other clouds.

@@ -69,7 +69,8 @@ fn restore_from<L: Link>(
     requires free { HoldsMarked refusals.old.marks named.now → ⊥ }
     ensures keeps { Keeps L.tells link.old link.new }
     ensures kept { result ≢ Went.Restored → out.new ≡ out.old }
-    ensures goes { Goes L.tells L.talk shape user path.now version link.old link.new out.old out.new named.now (named.now ∷ []) refusals.old refusals.new result }
+    ensures goes { Goes L.tells L.talk shape user path.now version link.old link.new out.old out.new
+        named.now (named.now ∷ []) refusals.old refusals.new result }
 {
     match restore(alloc, link, shape, user, path, version, named, out) {
         Ok(()) => Went::Restored,
@@ -104,7 +105,8 @@ fn try_one<L: Link>(
     requires path { IsPath path.now }
     ensures keeps { Keeps L.tells link.old link.new }
     ensures kept { result ≢ Went.Restored → out.new ≡ out.old }
-    ensures goes { Goes L.tells L.talk shape user path.now version link.old link.new out.old out.new (numbers_of clouds.now) (numbers_of clouds.now ∷ []) refusals.old refusals.new result }
+    ensures goes { Goes L.tells L.talk shape user path.now version link.old link.new out.old out.new
+        (numbers_of clouds.now) (numbers_of clouds.now ∷ []) refusals.old refusals.new result }
 {
     if refusals.hold(clouds) {
         return Went::Refused;
@@ -118,8 +120,8 @@ fn try_one<L: Link>(
     }
 }
 
-/// Tries the choices that have these clouds and `need` of the rest, in lexicographic order, up to the first from which the file comes.
-/// `named` is room for a choice's list.
+/// Tries the choices that have these clouds and `need` of the rest, in lexicographic order, up to the first from which
+/// the file comes. `named` is room for a choice's list.
 pub fn try_from<L: Link>(
     alloc: Global,
     link: &mut L,
@@ -135,14 +137,17 @@ pub fn try_from<L: Link>(
     out: &mut Bytes,
 ) -> Went
     requires shape { L.tells.shape link.old ≡ shape }
-    requires reached { (cloud : ℕ) → Contains (chosen.now ++ numbers_of rest.now) cloud → IsTrue (L.tells.reaches link.old cloud) }
+    requires reached { (cloud : ℕ) → Contains (chosen.now ++ numbers_of rest.now) cloud
+        → IsTrue (L.tells.reaches link.old cloud) }
     requires count { length chosen.now + need ≡ shape.k }
     requires rises { IsStrictlyIncreasing (chosen.now ++ numbers_of rest.now) }
     requires within { All (λ cloud. cloud < shape.n) (chosen.now ++ numbers_of rest.now) }
     requires path { IsPath path.now }
     ensures keeps { Keeps L.tells link.old link.new }
     ensures kept { result ≢ Went.Restored → out.new ≡ out.old }
-    ensures goes { Goes L.tells L.talk shape user path.now version link.old link.new out.old out.new (chosen.now ++ numbers_of rest.now) (behind chosen.now need (numbers_of rest.now)) refusals.old refusals.new result }
+    ensures goes { Goes L.tells L.talk shape user path.now version link.old link.new out.old out.new
+        (chosen.now ++ numbers_of rest.now) (behind chosen.now need (numbers_of rest.now))
+        refusals.old refusals.new result }
 {
     if need == 0 {
         return try_one(

@@ -1,5 +1,6 @@
 -- How a job keeps its lanes: where the wanted shares lie, and up to which of them the lane has come.
-use Rattle.std.specs.Prelude.{◌≡◌, ℕ, ◌+◌, ◌<◌, ◌≤◌, Bool, true, false, List, [], ◌∷◌, ◌++◌, length, map, take, drop, slice_range, slice_index_or, All, Option, Some, None, Ok, Err}
+use Rattle.std.specs.Prelude.{◌≡◌, ◌≢◌, ℕ, ◌+◌, ◌<◌, ◌≤◌, Bool, true, false, List, [], ◌∷◌, ◌++◌, length, map, take, drop, slice_range, slice_index_or, All, Option, Some, None, Ok, Err}
+use Rattle.cd_base.specs.declared.shape.Shape.{Shape}
 use Rattle.cd_base.specs.Lengths.{share_len_of}
 use Rattle.message_fields.specs.Fingerprints.{batch_limit}
 use Rattle.message_fields.specs.Shares.{share_limit}
@@ -69,31 +70,26 @@ state_in all (stages.Sending from flags) = Sending (take batch_limit (drop from 
 state_in all stages.Done = Done
 state_in all stages.Refused = Refused
 
--- a lane whose cloud's shares are these
-abbrev pub work_in : FileKey → List ℕ → Lane → Work
-work_in key shares lane = record {
+abbrev pub work_in : FileKey → Lane → Work
+work_in key lane = record {
   user = key.user;
   tag = key.tag;
   version = key.version;
   recipe = lane.recipe;
   items = lane.items;
-  batches = in_batches (shares_in shares lane.wanted.items);
+  batches = in_batches (shares_in lane.shares lane.wanted.items);
 }
 
-abbrev pub lane_in : FileKey → List ℕ → Lane → LaneView
-lane_in key shares lane = record { work = work_in key shares lane; state = state_in (shares_in shares lane.wanted.items) lane.stage }
+abbrev pub lane_in : FileKey → Lane → LaneView
+lane_in key lane = record { work = work_in key lane; state = state_in (shares_in lane.shares lane.wanted.items) lane.stage }
 
-abbrev pub lanes_in : FileKey → List CloudFile → List Lane → List LaneView
-lanes_in key [] lanes = []
-lanes_in key (f ∷ files) [] = []
-lanes_in key (f ∷ files) (lane ∷ lanes) = lane_in key f.shares lane ∷ lanes_in key files lanes
+abbrev pub lanes_in : FileKey → List Lane → List LaneView
+lanes_in key lanes = map (lane_in key) lanes
 
--- as many lanes as clouds, and the wanted shares lie in those of the cloud
-abbrev pub AreLanes : List CloudFile → List Lane → Type 0
-AreLanes [] [] = Unit {0}
-AreLanes [] (lane ∷ lanes) = ⊥
-AreLanes (f ∷ files) [] = ⊥
-AreLanes (f ∷ files) (lane ∷ lanes) = AreIn f.shares lane.wanted.items × AreLanes files lanes
+-- in each lane the wanted shares lie in those of its cloud
+abbrev pub AreLanes : List Lane → Type 0
+AreLanes [] = Unit {0}
+AreLanes (lane ∷ lanes) = AreIn lane.shares lane.wanted.items × AreLanes lanes
 
 -- ---- a step of a lane
 
@@ -104,7 +100,7 @@ next_in all state (Some stage) = state_in all stage
 
 abbrev pub moved_to : Lane → Option Stage → Lane
 moved_to lane None = lane
-moved_to lane (Some stage) = record { recipe = lane.recipe; items = lane.items; wanted = lane.wanted; stage = stage }
+moved_to lane (Some stage) = record { recipe = lane.recipe; items = lane.items; shares = lane.shares; wanted = lane.wanted; stage = stage }
 
 -- a step is made by a reply to the lane's request, and none by another
 abbrev pub StepIs : Work → List (List ℕ) → LaneState → Reply → Option Step → Type 0
@@ -115,6 +111,7 @@ StepIs w all state reply (Some step) = IsAnswer w state reply × ((news_of state
 pub record IsBegun (k : ℕ) (f : CloudFile) (lane : Lane) : Type 0 where
   pub recipe : lane.recipe ≡ spelling f.recipe
   pub items : lane.items ≡ length f.recipe.items
+  pub shares : lane.shares ≡ f.shares
   pub wanted : shares_in f.shares lane.wanted.items ≡ new_strings [] (pieces k f.recipe.items f.shares)
   pub inside : AreIn f.shares lane.wanted.items
   pub stage : lane.stage ≡ stages.Bringing 0
@@ -126,6 +123,19 @@ EachNamed k files = (i : ℕ) (f : CloudFile) → i < length files → (length (
 -- each lane is at its beginning
 abbrev pub EachBegun : ℕ → List CloudFile → List Lane → Type 0
 EachBegun k files lanes = (i : ℕ) (f : CloudFile) (lane : Lane) → i < length lanes → IsBegun k (slice_index_or files i f) (slice_index_or lanes i lane)
+
+-- a lane that has nothing to bring, and no request
+pub record IsIdle (lane : Lane) : Type 0 where
+  pub recipe : lane.recipe ≡ []
+  pub items : lane.items ≡ 0
+  pub wanted : lane.wanted.items ≡ []
+  pub stage : lane.stage ≡ stages.Refused
+
+-- as many lanes as clouds, of which that of the cloud is at its beginning, and the others have nothing to bring
+pub record IsAlone (shape : Shape) (cloud : ℕ) (f : CloudFile) (lanes : List Lane) : Type 0 where
+  pub len : length lanes ≡ shape.n
+  pub here : (lane : Lane) → IsBegun shape.k f (slice_index_or lanes cloud lane)
+  pub others : (i : ℕ) (lane : Lane) → i < shape.n → i ≢ cloud → IsIdle (slice_index_or lanes i lane)
 
 -- ---- what a reply does
 

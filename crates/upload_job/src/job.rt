@@ -1,24 +1,23 @@
-//! A job: a version of a file on its way to all clouds.
+//! A job: a version of a file on its way to all clouds, or to one alone.
 
-use crate::beginning::lanes_of;
+use crate::beginning::{lane_alone, lanes_of};
 use crate::lane::{FileKey, Lane, are_done, move_lane};
 use crate::requests::put_request;
 use crate::turn::{Turn, turn_of};
 use crate::{LaneErr, LaneNews};
 use caont_rs::tag_of;
 use cd_base::{Bytes, CloudNo, NoMemory, Shape, UserId, Version};
-use file_recipe::{CloudFiles, disperse_file};
+use file_recipe::{disperse_file, disperse_for};
 use std::alloc::Global;
 use std::marker::Model;
 use std::mem;
 
-/// A version of a file on its way to all clouds. It keeps each cloud's shares and recipe. Contracts see a list of lanes, one for
-/// each cloud in the order of their numbers: what each has to bring, and where it stands.
+/// A version of a file on its way to all clouds, or to one alone. It keeps the shares and the recipe of each cloud that it goes to.
+/// Contracts see a list of lanes, one for each cloud in the order of their numbers: what each has to bring, and where it stands.
 #[derive(Debug, Drop)]
 pub struct Job {
     alloc: Global,
     key: FileKey,
-    files: CloudFiles,
     lanes: Vec<Lane>,
     // a request is written here, and then takes the place of what the caller has
     spare: Bytes,
@@ -31,9 +30,9 @@ impl Model for Job {
 
     ghost Value = { List LaneView };
 
-    ghost view = { λ j. lanes_in j.key j.files j.lanes.items };
+    ghost view = { λ j. lanes_in j.key j.lanes.items };
 
-    ghost invariant = { λ j. AreLanes j.files j.lanes.items };
+    ghost invariant = { λ j. AreLanes j.lanes.items };
 }
 
 impl Job {
@@ -42,7 +41,7 @@ impl Job {
     ghost use Rattle.cd_base.specs.Limits.{IsPath};
     ghost use Rattle.recipe.specs.Spelling.{file_limit};
     ghost use Rattle.upload_job.specs.Lane.{Done};
-    ghost use Rattle.upload_job.specs.Lanes.{lanes_begun, request_at, IsAsked, AnswersAt};
+    ghost use Rattle.upload_job.specs.Lanes.{lanes_begun, lane_begun, request_at, IsAsked, AnswersAt};
 
     /// A new job of a version of a file of at most 67,108,864 bytes, each lane at its beginning. The file is cut and dispersed
     /// once, here.
@@ -60,11 +59,39 @@ impl Job {
     {
         let tag = tag_of(alloc, shape, path)?;
         let files = disperse_file(alloc, shape, path, bytes)?;
-        let lanes = lanes_of(alloc, shape, files.as_slice())?;
+        let lanes = lanes_of(alloc, shape, files.into_vec())?;
         Ok(Job {
             alloc,
             key: FileKey { user, tag, version },
-            files,
+            lanes,
+            spare: Bytes::new(alloc),
+        })
+    }
+
+    /// A new job that brings a version of a file of at most 67,108,864 bytes to one cloud alone, whose lane is at its beginning: the
+    /// file is cut and dispersed once, here, and of the shares only those of that cloud are kept and hashed. There are as many lanes
+    /// as clouds; the others have nothing to bring, and no request.
+    pub fn for_lane(
+        alloc: Global,
+        shape: Shape,
+        user: UserId,
+        path: &[u8],
+        version: Version,
+        bytes: &[u8],
+        lane: CloudNo,
+    ) -> Result<Job, NoMemory>
+        requires path { IsPath path.now }
+        requires few { length bytes.now ≤ file_limit }
+        requires lane { lane.0 < shape.n }
+        ensures { IfOk result (λ job. job
+            ≡ lane_begun shape (record { user = user; path = path.now; number = version; file = bytes.now }) lane.0) }
+    {
+        let tag = tag_of(alloc, shape, path)?;
+        let file = disperse_for(alloc, shape, lane, path, bytes)?;
+        let lanes = lane_alone(alloc, shape, lane, file)?;
+        Ok(Job {
+            alloc,
+            key: FileKey { user, tag, version },
             lanes,
             spare: Bytes::new(alloc),
         })
@@ -88,8 +115,7 @@ impl Job {
     {
         let place = lane.0 as usize;
         self.spare.clear();
-        let shares = self.files.as_slice()[place].shares.as_slice();
-        let more = put_request(&mut self.spare, &self.key, shares, &self.lanes[place])?;
+        let more = put_request(&mut self.spare, &self.key, &self.lanes[place])?;
         if more {
             mem::swap(&mut self.spare, out);
         }

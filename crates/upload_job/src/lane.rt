@@ -40,6 +40,9 @@ pub enum Stage {
 pub struct Lane {
     pub recipe: Bytes,
     pub items: u32,
+    /// The cloud's shares, one after another.
+    pub shares: Bytes,
+    /// Which of them it is to have.
     pub wanted: Vec<Wanted>,
     pub stage: Stage,
 }

@@ -103,16 +103,10 @@ fn put_commit(out: &mut Bytes, key: &FileKey, recipe: &[u8]) -> Result<(), NoMem
 }
 
 // The request of a lane that asks, or enters the recipe.
-fn put_bringing(
-    out: &mut Bytes,
-    key: &FileKey,
-    shares: &[u8],
-    lane: &Lane,
-    from: usize,
-) -> Result<(), NoMemory>
+fn put_bringing(out: &mut Bytes, key: &FileKey, lane: &Lane, from: usize) -> Result<(), NoMemory>
     requires empty { out.old ≡ [] }
-    requires inside { AreIn shares.now lane.now.wanted.items }
-    ensures { OnOk result (IsAsked (lane_request (work_in key.now shares.now lane.now) (state_in (shares_in shares.now lane.now.wanted.items) (stages.Bringing from))) true out.old out.new) }
+    requires inside { AreIn lane.now.shares lane.now.wanted.items }
+    ensures { OnOk result (IsAsked (lane_request (work_in key.now lane.now) (state_in (shares_in lane.now.shares lane.now.wanted.items) (stages.Bringing from))) true out.old out.new) }
 {
     if from < lane.wanted.len() {
         put_query(out, key.user, batch_at(lane.wanted.as_slice(), from))
@@ -122,23 +116,19 @@ fn put_bringing(
 }
 
 /// Writes the lane's request into an empty list, where it has one.
-pub fn put_request(
-    out: &mut Bytes,
-    key: &FileKey,
-    shares: &[u8],
-    lane: &Lane,
-) -> Result<bool, NoMemory>
+pub fn put_request(out: &mut Bytes, key: &FileKey, lane: &Lane) -> Result<bool, NoMemory>
     requires empty { out.old ≡ [] }
-    requires inside { AreIn shares.now lane.now.wanted.items }
-    ensures { IfOk result (λ more. IsAsked (lane_request (work_in key.now shares.now lane.now) (state_in (shares_in shares.now lane.now.wanted.items) lane.now.stage)) more out.old out.new) }
+    requires inside { AreIn lane.now.shares lane.now.wanted.items }
+    ensures { IfOk result (λ more. IsAsked (lane_request (work_in key.now lane.now) (state_in (shares_in lane.now.shares lane.now.wanted.items) lane.now.stage)) more out.old out.new) }
 {
     match &lane.stage {
         Stage::Bringing { from } => {
-            put_bringing(out, key, shares, lane, *from)?;
+            put_bringing(out, key, lane, *from)?;
             Ok(true)
         }
         Stage::Sending { from, flags } => {
             let batch = batch_at(lane.wanted.as_slice(), *from);
+            let shares = lane.shares.as_slice();
             put_put(out, key.user, shares, batch, flags.as_slice())?;
             Ok(true)
         }

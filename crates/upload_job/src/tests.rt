@@ -14,6 +14,17 @@ fn job_of(alloc: Global, path: &[u8], file: &[u8]) -> Result<Job, Fail> {
     Ok(Job::new(alloc, shape, UserId(7), path, Version(1), file)?)
 }
 
+// The same version's job for cloud 2 alone.
+fn alone_of(alloc: Global, path: &[u8], file: &[u8]) -> Result<Job, Fail> {
+    let shape = Shape::of(4, 3).unwrap_or(Shape { n: 4, k: 3 });
+    if !cd_base::is_path(path) || file.len() > 10_000_000 {
+        return Err(Fail::new("no such file"));
+    }
+    let (user, version) = (UserId(7), Version(1));
+    let job = Job::for_lane(alloc, shape, user, path, version, file, CloudNo(2))?;
+    Ok(job)
+}
+
 // The lane's request, or nothing.
 fn asked(job: &mut Job, lane: u8, out: &mut Bytes) -> Result<bool, NoMemory> {
     if job.lanes() > lane as usize {
@@ -71,6 +82,21 @@ fn an_empty_file(rt: HostRuntime) -> Result<(), Fail> {
     assert_eq!(rt; strange(&mut job, 1, &mut out, &[])?, Some(0));
     assert!(rt; !asked(&mut job, 1, &mut out)?);
     assert!(rt; !job.stored());
+    Ok(())
+}
+
+#[test]
+fn one_lane_alone(rt: HostRuntime) -> Result<(), Fail> {
+    let mut job = job_of(rt.alloc(), b"a", b"A")?;
+    let mut alone = alone_of(rt.alloc(), b"a", b"A")?;
+    let mut due = Bytes::new(rt.alloc());
+    let mut out = Bytes::new(rt.alloc());
+    assert!(rt; asked(&mut job, 2, &mut due)?);
+    assert!(rt; asked(&mut alone, 2, &mut out)?);
+    assert_eq!(rt; out.as_slice(), due.as_slice());
+    assert_eq!(rt; alone.lanes(), 4);
+    assert!(rt; !asked(&mut alone, 0, &mut out)?);
+    assert!(rt; !asked(&mut alone, 3, &mut out)?);
     Ok(())
 }
 

@@ -18,10 +18,17 @@ use Rattle.user_dedup.proofs.Owned.{contains_cases, contains_nothing, contains_h
 use Rattle.upload_job.specs.Upload.{FileVersion}
 use Rattle.restore_job.specs.declared.error.RestoreErr.{RestoreErr}
 use Rattle.restore_job.specs.declared.error.RestoreErr.TheVariants as restore_errors
-use Rattle.restore_job.specs.Asking.{is_lost}
-use Rattle.restore_job.specs.Restored.{Unrestored, restored_file}
+use Rattle.restore_job.specs.Asking.{is_loss, is_lost}
+use Rattle.restore_job.specs.Restored.{Unrestored, recipe_in}
 use Rattle.restore_job.specs.Restored
 use Rattle.restore_job.specs.Reading.{Ends}
+use Rattle.subset_restore.specs.Subsets.{subsets, IsSubset}
+use Rattle.subset_restore.specs.Ends.{Sought, outcome_of}
+use Rattle.subset_restore.specs.Going.{sought}
+use Rattle.subset_restore.proofs.Elements.{contains_middle, of_all}
+use Rattle.subset_restore.proofs.Choices.{subset_is_one}
+use Rattle.subset_restore.proofs.Files.{lacking_refuses}
+use Rattle.subset_restore.proofs.Standing.{ends_among}
 use Rattle.kept_files.specs.Kept.{Keeps, key_of}
 use Rattle.kept_files.proofs.Giving.{kept_is_given}
 use Rattle.kept_files.proofs.Keeping.{keeps_more}
@@ -39,11 +46,12 @@ use Rattle.transcript.specs.declared.line.Line.TheVariants as lines
 use Rattle.transcript.specs.declared.refusal.Refusal.{Refusal}
 use Rattle.transcript.specs.declared.refusal.Refusal.TheVariants as refusals
 use Rattle.vault.specs.Vault.{Setting, Vault, served_at, opening}
-use Rattle.vault.specs.Steps.{Moment, cloud_no, IsGetLine, skip_line, AreRebuildLines, AllTold, RebuildStep, VStep}
+use Rattle.vault.specs.Steps.{Moment, cloud_no, IsGetLine, NoneFrom, ComesBy, GetStep, skip_line, AreRebuildLines, AllTold, RebuildStep, VStep}
 use Rattle.vault.specs.Run.{Answered, Turns, script_of, moments_of}
 use Rattle.vault.specs.Kept.{upload_of, uploads, Commits, Ends as Ended, Refills, Kept, IsDispersed}
-use Rattle.vault.specs.Headline.{Session, IsRun, script_in, moments_in, moments_begun, event_of, Clashes, GivesVersion, GivesAcknowledged, DisksKeep}
-use Rattle.vault.proofs.Ranged.{IsRanged, are_ranged, are_choice, line_fits, get_chooses, chosen_below}
+use Rattle.vault.specs.Headline.{Session, IsRun, script_in, moments_in, moments_begun, event_of, Clashes, GivesVersion, GivesAcknowledged, Lacks, GivesFromSome, GivesFromMore, DisksKeep}
+use Rattle.session.specs.Spelling.{AreSources}
+use Rattle.vault.proofs.Ranged.{IsRanged, are_ranged, chosen_of, is_chosen, are_choice, line_fits, get_sources, chosen_below}
 use Rattle.vault.proofs.Growing.{grows_last, stays_in, settles_in, grows_step}
 use Rattle.vault.proofs.Jobs.{brings_turns}
 use Rattle.vault.proofs.Seen.{Seen, seen_turns}
@@ -257,60 +265,165 @@ module _ (clouds : ℕ → Cloud) (run : Session) (is : IsRun clouds run) (apart
 
   -- ---- a get
 
-  given : (named : List ℕ) (v : FileVersion) (a : Answered) (before after : ℕ → Peer) (result : Result (Unit {0}) RestoreErr) (file : List ℕ) (line : Line) → IsGetLine result file line → is_lost result ≡ false
-      → Ends (Ok v.file) named result [] file before after → ((cloud : ℕ) → Rose (before cloud).faults (after cloud).faults → Rose (a.before.peers cloud).faults (a.after.peers cloud).faults) → GivesVersion named v a (line ∷ [])
-  given named v a before after (Ok u) file line is_line found ends rose =
-      subst (λ (l : Line). GivesVersion named v a (l ∷ [])) (sym is_line) (let f : Ok v.file ≡ Ok ends.0 = ends.2 in let g : v.file ≡ ends.0 = cc in ends.1 ∙ sym g)
-  given named v a before after (Err (restore_errors.CloudFault c)) file line is_line found ends rose =
+  refused_given : (named : List ℕ) (v : FileVersion) (a : Answered) (before after : ℕ → Peer) (e : RestoreErr) (file : List ℕ) (line : Line) → IsGetLine (Err e) file line → is_loss e ≡ false
+      → Ends (Ok v.file) named (Err e) [] [] before after → ((cloud : ℕ) → Rose (before cloud).faults (after cloud).faults → Rose (a.before.peers cloud).faults (a.after.peers cloud).faults) → GivesVersion named v a (line ∷ [])
+  refused_given named v a before after (restore_errors.CloudFault c) file line is_line found ends rose =
       let same : lines.Refused _ ≡ line = sym is_line.2 in
       fault_line is_line.0 (let f : Some (refusals.Fault c) ≡ Some is_line.0 = is_line.1 in cc) same
     where
       fault_line : (why : Refusal) → refusals.Fault c ≡ why → lines.Refused why ≡ line → GivesVersion named v a (line ∷ [])
       fault_line why e f = subst (λ (l : Line). GivesVersion named v a (l ∷ [])) (ap (λ (w : Refusal). lines.Refused w) e ∙ f) (ends.0, rose c.0 ends.1)
-  given named v a before after (Err (restore_errors.Missing c)) file line is_line found ends rose = absurd (let f : Ok v.file ≡ Err (Restored.Missing c.0) = ends in cc)
-  given named v a before after (Err (restore_errors.RecipesDiffer x y place)) file line is_line found ends rose = absurd (let f : Ok v.file ≡ Err (Restored.RecipesDiffer x.0 y.0 place) = ends in cc)
-  given named v a before after (Err (restore_errors.ShareLength c secret got wanted)) file line is_line found ends rose = absurd (let f : Ok v.file ≡ Err (Restored.ShareLength c.0 secret got wanted) = ends in cc)
-  given named v a before after (Err (restore_errors.BadSecret secret x y)) file line is_line found ends rose = absurd (let f : Ok v.file ≡ Err _ = ends in cc)
-  given named v a before after (Err (restore_errors.BadPad secret at byte)) file line is_line found ends rose = absurd (let f : Ok v.file ≡ Err _ = ends in cc)
-  given named v a before after (Err (restore_errors.Lost c)) file line is_line found ends rose = absurd (let f : true ≡ false = found in cc)
-  given named v a before after (Err restore_errors.NoMemory) file line is_line found ends rose = absurd (let f : None ≡ Some is_line.0 = is_line.1 in cc)
-  given named v a before after (Err (restore_errors.CloudDamaged c at byte)) file line is_line found ends rose = absurd ends
-  given named v a before after (Err (restore_errors.CloudRotten c x y)) file line is_line found ends rose = absurd ends
-  given named v a before after (Err (restore_errors.CloudNoMemory c)) file line is_line found ends rose = absurd ends
-  given named v a before after (Err (restore_errors.Strange c kind)) file line is_line found ends rose = absurd ends
-  given named v a before after (Err (restore_errors.BadShare c secret x y)) file line is_line found ends rose = absurd ends
+  refused_given named v a before after (restore_errors.Missing c) file line is_line found ends rose = absurd (let f : Ok v.file ≡ Err (Restored.Missing c.0) = ends in cc)
+  refused_given named v a before after (restore_errors.RecipesDiffer x y place) file line is_line found ends rose = absurd (let f : Ok v.file ≡ Err (Restored.RecipesDiffer x.0 y.0 place) = ends in cc)
+  refused_given named v a before after (restore_errors.ShareLength c secret got wanted) file line is_line found ends rose = absurd (let f : Ok v.file ≡ Err (Restored.ShareLength c.0 secret got wanted) = ends in cc)
+  refused_given named v a before after (restore_errors.BadSecret secret x y) file line is_line found ends rose = absurd (let f : Ok v.file ≡ Err _ = ends in cc)
+  refused_given named v a before after (restore_errors.BadPad secret at byte) file line is_line found ends rose = absurd (let f : Ok v.file ≡ Err _ = ends in cc)
+  refused_given named v a before after (restore_errors.Lost c) file line is_line found ends rose = absurd (let f : true ≡ false = found in cc)
+  refused_given named v a before after restore_errors.NoMemory file line is_line found ends rose = absurd (let f : None ≡ Some is_line.0 = is_line.1 in cc)
+  refused_given named v a before after (restore_errors.CloudDamaged c at byte) file line is_line found ends rose = absurd ends
+  refused_given named v a before after (restore_errors.CloudRotten c x y) file line is_line found ends rose = absurd ends
+  refused_given named v a before after (restore_errors.CloudNoMemory c) file line is_line found ends rose = absurd ends
+  refused_given named v a before after (restore_errors.Strange c kind) file line is_line found ends rose = absurd ends
+  refused_given named v a before after (restore_errors.BadShare c secret x y) file line is_line found ends rose = absurd ends
 
-  pub acknowledged_given : (earlier later : List Answered) (a : Answered) (named : List ℕ) (v : FileVersion) → run.history ≡ earlier ++ a ∷ later → a.event ≡ events.Get v.user v.path v.number named
-      → AreChoice run.setting.shape named → Contains (uploads (script_in run)) v → ((cloud : ℕ) → Contains named cloud → Kept run.setting (reverse earlier) cloud v) → GivesVersion named v a a.answers
-  acknowledged_given earlier later a named v e get choice uploaded kept =
+  -- of the clouds of a get each choice of k that acknowledged the version gives it by their lists
+  chosen_give : (earlier later : List Answered) (a : Answered) (named : List ℕ) (v : FileVersion) → run.history ≡ earlier ++ a ∷ later → a.event ≡ events.Get v.user v.path v.number named
+      → AreSources run.setting.shape named → (subset : List ℕ) → IsSubset run.setting.shape.k named subset → ((cloud : ℕ) → Contains subset cloud → Kept run.setting (reverse earlier) cloud v)
+      → outcome_of (sought run.setting.shape v.user v.path v.number named) a.after.peers subset ≡ Ok v.file
+  chosen_give earlier later a named v e get are subset chosen kept =
       let t = splits run.setting (opening clouds) earlier a later run.between (subst (λ (l : List Answered). Turns run.setting (opening clouds) l run.between) e is.answered) in
       let g = subst (λ (ev : Event). VStep run.setting t.mid ev a.answers a.moments a.after) get t.step in
-      let r = ranged v uploaded in
+      let choice = are_choice run.setting.shape subset (chosen_of run.setting.shape named subset are chosen) in
+      let some = named_some run.setting.shape subset choice in
       let back = reverse-reverse earlier in
-      let keeps : (cloud : ℕ) → Contains named cloud → KeepsThere cloud v (t.mid.peers cloud) = λ cloud has.
-      kept_keeps (reverse earlier) (a ∷ later) cloud (chosen_below run.setting.shape named choice cloud has) v (e ∙ ap (λ (l : List Answered). l ++ a ∷ later) (sym back)) t.mid
+      let here = e ∙ ap (λ (l : List Answered). l ++ a ∷ later) (sym back) in
+      let r = ranged v (kept_uploaded (reverse earlier) (a ∷ later) some.0 v here (kept some.0 some.1)) in
+      let keeps : (cloud : ℕ) → Contains subset cloud → KeepsThere cloud v (t.mid.peers cloud) = λ cloud has.
+      kept_keeps (reverse earlier) (a ∷ later) cloud (chosen_below run.setting.shape subset choice cloud has) v here t.mid
       (subst (λ (l : List Answered). Turns run.setting (opening clouds) l t.mid) (sym back) t.front) (t.before, t.step, t.behind) (kept cloud has) in
-      let after_keeps : (cloud : ℕ) → Contains named cloud → Keeps run.setting.shape cloud (a.after.peers cloud).list v.user v.path v.number v.file = λ cloud has.
+      let after_keeps : (cloud : ℕ) → Contains subset cloud → Keeps run.setting.shape cloud (a.after.peers cloud).list v.user v.path v.number v.file = λ cloud has.
       read_keeps cloud v (t.mid.peers cloud) (a.after.peers cloud) (g.1.read.read cloud).0 (keeps cloud has) in
-      let restored = kept_is_given run.setting.shape (λ cloud. (a.after.peers cloud).list) v.user v.path v.number v.file named r.path r.bytes r.few choice after_keeps in
-      let ends = subst (λ (o : Result (List ℕ) Unrestored). Ends o named g.1.result [] g.1.file t.mid.peers a.after.peers) restored (g.1.told (λ cloud has. kept_told (reverse earlier) cloud v (kept cloud has))).ends in
-      subst (λ (l : List Line). GivesVersion named v a l) (sym g.2)
-      (given named v a t.mid.peers a.after.peers g.1.result g.1.file g.0 g.1.line_is g.1.found ends (λ cloud rose. subst (λ (w : Vault). Rose (w.peers cloud).faults (a.after.peers cloud).faults) (sym t.before) rose))
+      kept_is_given run.setting.shape (λ cloud. (a.after.peers cloud).list) v.user v.path v.number v.file subset r.path r.bytes r.few choice after_keeps
+
+  -- the get among the lines
+  pub record GetAt (a : Answered) (named : List ℕ) (v : FileVersion) : Type 0 where
+    pub mid : Vault
+    pub before : a.before ≡ mid
+    pub line : Line
+    pub step : GetStep run.setting v.user v.path v.number named mid.peers line a.after.peers
+    pub answers_are : a.answers ≡ line ∷ []
+
+  get_at : (earlier later : List Answered) (a : Answered) (named : List ℕ) (v : FileVersion) → run.history ≡ earlier ++ a ∷ later → a.event ≡ events.Get v.user v.path v.number named → GetAt a named v
+  get_at earlier later a named v e get =
+      let t = splits run.setting (opening clouds) earlier a later run.between (subst (λ (l : List Answered). Turns run.setting (opening clouds) l run.between) e is.answered) in
+      let g = subst (λ (ev : Event). VStep run.setting t.mid ev a.answers a.moments a.after) get t.step in
+      record { mid = t.mid; before = t.before; line = g.0; step = g.1; answers_are = g.2 }
+
+  -- whatever choice gave it
+  came_right : (v : FileVersion) (f : Sought) (peers : ℕ → Peer) (subset file : List ℕ) → outcome_of f peers subset ≡ Ok v.file → outcome_of f peers subset ≡ Ok file → file ≡ v.file
+  came_right v f peers subset file kept gives = let q : Ok file ≡ Ok v.file = sym gives ∙ kept in cc
+
+  has_middle : (f : Sought) (front : List (List ℕ)) (subset : List ℕ) (rest : List (List ℕ)) → subsets f.shape.k f.clouds ≡ front ++ subset ∷ rest → Contains (subsets f.shape.k f.clouds) subset
+  has_middle f front subset rest split = subst (λ (l : List (List ℕ)). Contains l subset) (sym split) (contains_middle front rest subset)
+
+  got_line : (named : List ℕ) (v : FileVersion) (a : Answered) (file : List ℕ) (line : Line) → line ≡ lines.Got file → file ≡ v.file → GivesVersion named v a (line ∷ [])
+  got_line named v a file line is same = subst (λ (l : Line). GivesVersion named v a (l ∷ [])) (sym is) same
+
+  pub acknowledged_given : (earlier later : List Answered) (a : Answered) (named : List ℕ) (v : FileVersion) → run.history ≡ earlier ++ a ∷ later → a.event ≡ events.Get v.user v.path v.number named
+      → AreSources run.setting.shape named → ((cloud : ℕ) → Contains named cloud → Kept run.setting (reverse earlier) cloud v) → GivesVersion named v a a.answers
+  acknowledged_given earlier later a named v e get are kept =
+      let g = get_at earlier later a named v e get in
+      subst (λ (l : List Line). GivesVersion named v a l) (sym g.answers_are)
+      (by_result g g.step.result g.step.line_is g.step.found (g.step.told (λ cloud has. kept_told (reverse earlier) cloud v (kept cloud has))).comes)
+    where
+      by_result : (g : GetAt a named v) (result : Result (Unit {0}) RestoreErr) → IsGetLine result g.step.file g.line → is_lost result ≡ false
+          → ComesBy (sought run.setting.shape v.user v.path v.number named) result g.step.file g.mid.peers a.after.peers → GivesVersion named v a (g.line ∷ [])
+      by_result g (Ok u) is_line found comes =
+          let is = is_chosen run.setting.shape named comes.subset are (has_middle (sought run.setting.shape v.user v.path v.number named) comes.front comes.subset comes.rest comes.split) in
+          got_line named v a g.step.file g.line is_line
+          (came_right v (sought run.setting.shape v.user v.path v.number named) a.after.peers comes.subset g.step.file
+          (chosen_give earlier later a named v e get are comes.subset is (λ cloud has. kept cloud (of_all (Contains named) comes.subset cloud is.among has))) comes.gives)
+      by_result g (Err r) is_line found comes =
+          let is = is_chosen run.setting.shape named comes.first are (has_middle (sought run.setting.shape v.user v.path v.number named) [] comes.first comes.rest comes.first_is) in
+          let gives = chosen_give earlier later a named v e get are comes.first is (λ cloud has. kept cloud (of_all (Contains named) comes.first cloud is.among has)) in
+          refused_given named v a g.mid.peers a.after.peers r g.step.file g.line is_line found
+          (ends_among (outcome_of (sought run.setting.shape v.user v.path v.number named) a.after.peers comes.first) (Ok v.file) comes.first named r [] g.mid.peers a.after.peers (sym gives)
+          (λ cloud has. of_all (Contains named) comes.first cloud is.among has) comes.ends)
+          (λ cloud rose. subst (λ (w : Vault). Rose (w.peers cloud).faults (a.after.peers cloud).faults) (sym g.before) rose)
+
+  -- ---- a get of which some clouds have none of it
+
+  -- a choice with a cloud that has none gives none
+  lacking_chosen : (earlier : List Answered) (a : Answered) (named : List ℕ) (v : FileVersion) (g : GetAt a named v) (subset : List ℕ) (cloud : ℕ) → Contains subset cloud → Lacks run.setting cloud (a.before.peers cloud) v
+      → (why : Unrestored) × (outcome_of (sought run.setting.shape v.user v.path v.number named) a.after.peers subset ≡ Err why)
+  lacking_chosen earlier a named v g subset cloud has lacks =
+      let p = subst (λ (w : Vault). (list : List Command) → MaySettleAs (w.peers cloud) list → recipe_in run.setting.shape list v.user (key_of run.setting.shape v.path v.number) ≡ None) g.before lacks.none in
+      lacking_refuses run.setting.shape (λ c. (a.after.peers c).list) v.user (key_of run.setting.shape v.path v.number) subset cloud has
+      (p (a.after.peers cloud).list (may_settle (g.mid.peers cloud) (a.after.peers cloud) (g.step.read.read cloud).0))
+    where
+      may_settle : (p q : Peer) → Stays p q ⊎ Settles p q → MaySettleAs p q.list
+      may_settle p q (inl stays) = stays_in p q stays q.list (inl refl)
+      may_settle p q (inr settles) = settles_in p q settles q.list (inl refl)
+
+  -- so from whatever choice it came, its clouds acknowledged it
+  all_kept : (earlier : List Answered) (a : Answered) (named : List ℕ) (v : FileVersion) (g : GetAt a named v) (subset file : List ℕ)
+      → ((cloud : ℕ) → Contains subset cloud → Kept run.setting (reverse earlier) cloud v ⊎ Lacks run.setting cloud (a.before.peers cloud) v)
+      → outcome_of (sought run.setting.shape v.user v.path v.number named) a.after.peers subset ≡ Ok file → (cloud : ℕ) → Contains subset cloud → Kept run.setting (reverse earlier) cloud v
+  all_kept earlier a named v g subset file each gives cloud has = elim (each cloud has) [
+    | inl kept ↦ kept
+    | inr lacks ↦ (let x = lacking_chosen earlier a named v g subset cloud has lacks in let q : Ok file ≡ Err x.0 = sym gives ∙ x.1 in absurd (let r = q in cc))
+  ]
+
+  some_told : (earlier : List Answered) (a : Answered) (cloud : ℕ) (v : FileVersion) → Kept run.setting (reverse earlier) cloud v ⊎ Lacks run.setting cloud (a.before.peers cloud) v → IsTrue (run.setting.told cloud)
+  some_told earlier a cloud v (inl kept) = kept_told (reverse earlier) cloud v kept
+  some_told earlier a cloud v (inr lacks) = lacks.told
+
+  abbrev GivesLine : List Answered → Answered → List ℕ → FileVersion → Line → Type 0
+  GivesLine earlier a named v line = GivesFromSome run.setting.shape (λ cloud. Kept run.setting (reverse earlier) cloud v) named v a (line ∷ [])
+
+  pub more_given : (earlier later : List Answered) (a : Answered) (named : List ℕ) (v : FileVersion) → run.history ≡ earlier ++ a ∷ later → a.event ≡ events.Get v.user v.path v.number named
+      → AreSources run.setting.shape named → ((cloud : ℕ) → Contains named cloud → Kept run.setting (reverse earlier) cloud v ⊎ Lacks run.setting cloud (a.before.peers cloud) v)
+      → GivesFromSome run.setting.shape (λ cloud. Kept run.setting (reverse earlier) cloud v) named v a a.answers
+  more_given earlier later a named v e get are each =
+      let g = get_at earlier later a named v e get in
+      subst (λ (l : List Line). GivesFromSome run.setting.shape (λ cloud. Kept run.setting (reverse earlier) cloud v) named v a l) (sym g.answers_are)
+      (by_result g g.step.result g.step.line_is (g.step.told (λ cloud has. some_told earlier a cloud v (each cloud has))).comes)
+    where
+      by_result : (g : GetAt a named v) (result : Result (Unit {0}) RestoreErr) → IsGetLine result g.step.file g.line
+          → ComesBy (sought run.setting.shape v.user v.path v.number named) result g.step.file g.mid.peers a.after.peers → GivesLine earlier a named v g.line
+      by_result g (Ok u) is_line comes =
+          let is = is_chosen run.setting.shape named comes.subset are (has_middle (sought run.setting.shape v.user v.path v.number named) comes.front comes.subset comes.rest comes.split) in
+          let kept = all_kept earlier a named v g comes.subset g.step.file (λ cloud has. each cloud (of_all (Contains named) comes.subset cloud is.among has)) comes.gives in
+          subst (GivesLine earlier a named v) (sym is_line)
+          (came_right v (sought run.setting.shape v.user v.path v.number named) a.after.peers comes.subset g.step.file (chosen_give earlier later a named v e get are comes.subset is kept) comes.gives)
+      by_result g (Err r) is_line comes = subst (GivesLine earlier a named v) (sym is_line.2) (λ chosen is kept. failed chosen is kept (none_from chosen is))
+        where
+          none_from : (chosen : List ℕ) → IsSubset run.setting.shape.k named chosen → NoneFrom (sought run.setting.shape v.user v.path v.number named) g.mid.peers a.after.peers chosen
+          none_from chosen is =
+              of_all (NoneFrom (sought run.setting.shape v.user v.path v.number named) g.mid.peers a.after.peers) (subsets run.setting.shape.k named) chosen comes.none
+              (subset_is_one run.setting.shape.k named chosen are.rising is)
+
+          failed : (chosen : List ℕ) → IsSubset run.setting.shape.k named chosen → ((cloud : ℕ) → Contains chosen cloud → Kept run.setting (reverse earlier) cloud v)
+              → NoneFrom (sought run.setting.shape v.user v.path v.number named) g.mid.peers a.after.peers chosen
+              → (cloud : ℕ) × Contains chosen cloud × Rose (a.before.peers cloud).faults (a.after.peers cloud).faults
+          failed chosen is kept (inl none) = absurd (let q : Ok v.file ≡ Err none.0 = sym (chosen_give earlier later a named v e get are chosen is kept) ∙ none.1 in cc)
+          failed chosen is kept (inr rose) = (rose.0, rose.1, subst (λ (w : Vault). Rose (w.peers rose.0).faults (a.after.peers rose.0).faults) (sym g.before) rose.2)
 
 -- ---- the promises
 
+-- a get of a session names clouds of it
+sources_in : (run : Session) (clouds : ℕ → Cloud) → IsRun clouds run → (earlier later : List Answered) (a : Answered) (named : List ℕ) (v : FileVersion) → run.history ≡ earlier ++ a ∷ later
+    → a.event ≡ events.Get v.user v.path v.number named → AreSources run.setting.shape named
+sources_in run clouds is earlier later a named v e get =
+    get_sources run.setting.shape 0 (script_in run) is.lines v.user v.path v.number named (subst (Contains (script_in run)) get (among run earlier later a e))
+
 pub acknowledged : (clouds : ℕ → Cloud) (run : Session) → IsRun clouds run → GivesAcknowledged run
 acknowledged clouds run is earlier later a named v e get kept apart =
-    let ranged = are_ranged run.setting.shape 0 (script_in run) is.lines in
-    let among : Contains (script_of run.history) (events.Get v.user v.path v.number named) =
-    subst (λ (l : List Answered). Contains (script_of l) (events.Get v.user v.path v.number named)) (sym e)
-    (subst (Contains (script_of (earlier ++ a ∷ later))) get (events_has earlier a later)) in
-    let choice = get_chooses run.setting.shape 0 (script_in run) is.lines v.user v.path v.number named
-    (Contains-append_left (script_of run.history) (event_of run.begun) (events.Get v.user v.path v.number named) among) in
-    let some = named_some run.setting.shape named choice in
-    let back = ap (λ (l : List Answered). l ++ a ∷ later) (sym (reverse-reverse earlier)) in
-    acknowledged_given clouds run is apart ranged earlier later a named v e get choice
-    (kept_uploaded clouds run is apart ranged (reverse earlier) (a ∷ later) some.0 v (e ∙ back) (kept some.0 some.1)) kept
+    acknowledged_given clouds run is apart (are_ranged run.setting.shape 0 (script_in run) is.lines) earlier later a named v e get (sources_in run clouds is earlier later a named v e get) kept
+
+pub given_from_more : (clouds : ℕ → Cloud) (run : Session) → IsRun clouds run → GivesFromMore run
+given_from_more clouds run is earlier later a named v e get each apart =
+    more_given clouds run is apart (are_ranged run.setting.shape 0 (script_in run) is.lines) earlier later a named v e get (sources_in run clouds is earlier later a named v e get) each
 
 pub disks_keep : (clouds new : ℕ → Cloud) (run : Session) → IsRun clouds run → DisksKeep run new
 disks_keep clouds new run is cloud v image list below still apart left settles stands =

@@ -28,7 +28,7 @@ use Rattle.user_dedup.proofs.Owned.{contains_cases, contains_nothing, contains_h
 use Rattle.vault.specs.Steps.{Moment, Execution, moment_of, turn_moment, target_moments, LaneStep, DropStep, FinishLanes, ListRun, ReopensUntold, VStep}
 use Rattle.vault.specs.Kept.{Ends}
 use Rattle.vault.specs.Headline.{Begun, ComesTo, IsPartOf, event_of}
-use Rattle.vault.proofs.With.{with_here, with_other}
+use Rattle.vault.proofs.With.{with_here, same_other}
 
 -- each list that the cloud may settle as is one that it might have settled as before, and more
 abbrev pub Grows : Peer → Peer → Type 0
@@ -216,23 +216,12 @@ module _ (s : Setting) (c : ℕ) (told : IsTrue (s.told c)) where
     | inr later ↦ grows_on p x.1.0 (m.peers c) (grows_exec p t.request t.reply x.1.0 x.1.1) (grows_target old x.1.0 turns end x.1.2 m later)
   ]
 
-  -- and any other cloud
-  same_other : (old : ℕ → Peer) (target : ℕ) (turns : List (Turn Peer)) (end : Peer) → ¬ (c ≡ target) → (m : Moment) → Contains (target_moments old target turns end) m → m.peers c ≡ old c
-  same_other old target [] end ne m has = elim (contains_cases (record { peers = with_peer old target end; event = None }) [] m has) [
-    | inl same ↦ ap (λ (n : Moment). n.peers c) (sym same) ∙ with_other old target end c ne
-    | inr none ↦ absurd (contains_nothing m none)
-  ]
-  same_other old target (t ∷ turns) end ne m has = elim (contains_cases (turn_moment old target t) (target_moments old target turns end) m has) [
-    | inl same ↦ ap (λ (n : Moment). n.peers c) (sym same) ∙ with_other old target t.before c ne
-    | inr later ↦ same_other old target turns end ne m later
-  ]
-
   grows_rebuild : (old : ℕ → Peer) (target : ℕ) (turns : List (Turn Peer)) (new : ℕ → Peer) → ExecutesAll s target (old target) turns (new target)
       → (m : Moment) → Contains (target_moments old target turns (new target)) m → Grows (old c) (m.peers c)
   grows_rebuild old target turns new x m has = elim (cases_eq c target) [
     | inl same ↦ grows_target old (old c) turns (new c) (subst (λ (n : ℕ). ExecutesAll s n (old n) turns (new n)) (sym same) x) m
         (subst (λ (n : ℕ). Contains (target_moments old n turns (new n)) m) (sym same) has)
-    | inr ne ↦ grows_same (old c) (m.peers c) (same_other old target turns (new target) ne m has)
+    | inr ne ↦ grows_same (old c) (m.peers c) (same_other c old target turns (new target) ne m has)
   ]
 
   pub grows_at : (old : Vault) (event : Event) (answers : List Line) (moments : List Moment) (new : Vault) → VStep s old event answers moments new → (m : Moment) → Contains moments m → Grows (old.peers c) (m.peers c)

@@ -12,4 +12,5 @@ pub mod Parts
 pub mod Unmoved
 pub mod Stopped
 pub mod Counts
+pub mod Faults
 mod Examples

@@ -1,5 +1,5 @@
 -- A finish that was cut goes on by a fault of each lane that is left.
-use Rattle.std.proofs.Common.{◌≡◌, ℕ, ◌+◌, Bool, true, false, cond, List, [], ◌∷◌, ◌++◌, map, Option, Some, None, refl, sym, ap, ◌∙◌, subst, inl, inr, ◌⊎◌, arith, append-nil, append_assoc, eq-eqb, eqb}
+use Rattle.std.proofs.Common.{◌≡◌, ℕ, ◌+◌, Bool, true, false, cond, List, [], ◌∷◌, ◌++◌, map, length, All, Option, Some, None, refl, sym, ap, ◌∙◌, subst, inl, inr, ◌⊎◌, arith, append-nil, append_assoc, eq-eqb, eqb}
 use Rattle.std.specs.Prelude.{◌≢◌}
 use Rattle.std.specs.Bool.{MatchBool}
 use Rattle.std.specs.List.{Contains, range_with_len}
@@ -17,21 +17,27 @@ use Rattle.messages.specs.declared.request.Request.{Request}
 use Rattle.messages.specs.declared.reply.Reply.TheVariants as replies
 use Rattle.user_dedup.specs.declared.command.Command.{Command}
 use Rattle.user_dedup.specs.Exec.{Peer, MaySettleAs, Exec, ExecTold, ExecUntold}
-use Rattle.user_dedup.proofs.Owned.{contains_here, contains_nothing}
+use Rattle.user_dedup.proofs.Owned.{contains_here, contains_later, contains_nothing, contains_cases}
 use Rattle.upload_job.specs.declared.news.LaneNews.{LaneNews}
 use Rattle.upload_job.specs.declared.news.LaneNews.TheVariants as lane_news
 use Rattle.upload_job.specs.Lane.{LaneState, Asking, Sending, Committing, Done, Refused, news_of}
 use Rattle.upload_job.specs.Lanes.{with_state}
 use Rattle.lane_requests.specs.Runs.{Turn, Progress, starting, request_of, progress_after, LaneRun, LaneAlong, Tell, lane_at}
+use Rattle.subset_restore.specs.Subsets.{subsets, IsSubset}
+use Rattle.subset_restore.specs.Going.{sought}
+use Rattle.subset_restore.proofs.Choices.{first_choice, only_choice}
+use Rattle.subset_restore.proofs.Elements.{all_of, of_all}
+use Rattle.session.specs.Spelling.{AreSources}
 use Rattle.session.specs.declared.event.Event.{Event}
 use Rattle.session.specs.declared.event.Event.TheVariants as events
 use Rattle.transcript.specs.declared.line.Line.{Line}
 use Rattle.transcript.specs.declared.line.Line.TheVariants as lines
 use Rattle.vault.specs.Vault.{Setting, Vault, Executes, served_at, lanes_of, with_lanes}
-use Rattle.vault.specs.Steps.{Moment, quiet, cloud_no, moment_of, step_line, stored_line, all_done, FinishLanes, VStep}
+use Rattle.vault.specs.Steps.{Moment, quiet, cloud_no, moment_of, step_line, stored_line, all_done, FinishLanes, NoneFrom, Gets, VStep}
 use Rattle.vault.specs.Run.{IsListIn}
 use Rattle.vault.specs.Headline.{Begun, ComesTo, IsPartOf}
 use Rattle.vault.specs.Cut.{FinishCut}
+use Rattle.vault.proofs.Ranged.{is_chosen}
 use Rattle.vault.proofs.Seen.{FirstIs, first_step, first_finish}
 
 -- ---- moments
@@ -248,13 +254,59 @@ module _ (s : Setting) where
 
   -- ---- a get
 
-  pub part_of_get : (old : Vault) (user : UserId) (path : List ℕ) (version : Version) (cloud : ℕ) (clouds : List ℕ)
-      → IsPartOf s old (record { event = events.Get user path version (cloud ∷ clouds); moments = [] }) old.peers
+  fault_rose : (p : Peer) → Rose p.faults (fault_of p).faults
   unfolding fault_of
-  part_of_get old user path version cloud clouds = (
+  fault_rose p = let r : Rose p.faults (p.faults + 1) = omega arith in r
+
+  may_fault : (p : Peer) → MayRead p (fault_of p)
+  unfolding fault_of
+  may_fault p = (inl (record { list = refl; pending = refl }), record { faults = omega arith; armings = refl })
+
+  may_stay : (p : Peer) → MayRead p p
+  may_stay p = (inl (record { list = refl; pending = refl }), record { faults = omega arith; armings = refl })
+
+  -- these clouds fail
+  abbrev faults_at : List ℕ → (ℕ → Peer) → ℕ → Peer
+  faults_at [] peers = peers
+  faults_at (cloud ∷ clouds) peers = put (faults_at clouds peers) cloud (fault_of (peers cloud))
+
+  fails_at : (clouds : List ℕ) (peers : ℕ → Peer) (c : ℕ) → Contains clouds c → faults_at clouds peers c ≡ fault_of (peers c)
+  fails_at [] peers c has = absurd (contains_nothing c has)
+  fails_at (cloud ∷ clouds) peers c has = elim (cases_eq c cloud) [
+    | inl same ↦ subst (λ (n : ℕ). put (faults_at clouds peers) cloud (fault_of (peers cloud)) n ≡ fault_of (peers n)) (sym same) (put_here (faults_at clouds peers) cloud (fault_of (peers cloud)))
+    | inr ne ↦ put_other (faults_at clouds peers) cloud (fault_of (peers cloud)) c ne ∙ fails_at clouds peers c (behind ne (contains_cases cloud clouds c has))
+  ]
+    where
+      behind : c ≢ cloud → (cloud ≡ c) ⊎ Contains clouds c → Contains clouds c
+      behind ne (inl same) = absurd (ne (sym same))
+      behind ne (inr later) = later
+
+  stays_at : (clouds : List ℕ) (peers : ℕ → Peer) (c : ℕ) → (Contains clouds c → ⊥) → faults_at clouds peers c ≡ peers c
+  stays_at [] peers c out = refl
+  stays_at (cloud ∷ clouds) peers c out =
+      put_other (faults_at clouds peers) cloud (fault_of (peers cloud)) c (λ same. out (subst (Contains (cloud ∷ clouds)) (sym same) (contains_here cloud clouds)))
+      ∙ stays_at clouds peers c (λ later. out (contains_later cloud clouds c later))
+
+  may_at : (clouds : List ℕ) (peers : ℕ → Peer) (c : ℕ) → MayRead (peers c) (faults_at clouds peers c)
+  may_at [] peers c = may_stay (peers c)
+  may_at (cloud ∷ clouds) peers c = elim (cases_eq c cloud) [
+    | inl same ↦ subst (λ (n : ℕ). MayRead (peers n) (put (faults_at clouds peers) cloud (fault_of (peers cloud)) n)) (sym same)
+        (subst (MayRead (peers cloud)) (sym (put_here (faults_at clouds peers) cloud (fault_of (peers cloud)))) (may_fault (peers cloud)))
+    | inr ne ↦ subst (MayRead (peers c)) (sym (put_other (faults_at clouds peers) cloud (fault_of (peers cloud)) c ne)) (may_at clouds peers c)
+  ]
+
+  rose_at : (clouds : List ℕ) (peers : ℕ → Peer) (c : ℕ) → Contains clouds c → Rose (peers c).faults (faults_at clouds peers c).faults
+  rose_at clouds peers c has = subst (λ (p : Peer). Rose (peers c).faults p.faults) (sym (fails_at clouds peers c has)) (fault_rose (peers c))
+
+  -- A get that goes on by a fault of this cloud, where some clouds fail so that none gives the file.
+  part_by_faults : (old : Vault) (user : UserId) (path : List ℕ) (version : Version) (clouds failing : List ℕ) (cloud : ℕ) → Contains clouds cloud → Contains failing cloud
+      → ((c : ℕ) → Contains failing c → Contains clouds c)
+      → Gets (sought s.shape user path version clouds) (Err (restore_errors.CloudFault (cloud_no cloud))) [] old.peers (faults_at failing old.peers)
+      → IsPartOf s old (record { event = events.Get user path version clouds; moments = [] }) old.peers
+  part_by_faults old user path version clouds failing cloud has fails within gets = (
     line ∷ [],
     quiet old.peers,
-    record { peers = new; jobs = old.jobs },
+    record { peers = faults_at failing old.peers; jobs = old.jobs },
     (
       line,
       record {
@@ -262,20 +314,10 @@ module _ (s : Setting) where
         file = [];
         line_is = (refusals.Fault (cloud_no cloud), refl, refl);
         found = refl;
-        read = record { read = λ c. may c (cases_eq c cloud); others = λ c not. put_other old.peers cloud (fault_of (old.peers cloud)) c (λ same. not (subst (Contains (cloud ∷ clouds)) (sym same) (contains_here cloud clouds))) };
-        named = contains_here cloud clouds;
-        caused = rose;
-        told = λ told. record {
-          ends = (contains_here cloud clouds, rose);
-          read = inl (record {
-            front = [];
-            rest = clouds;
-            split = refl;
-            read = λ c has ne. absurd (contains_nothing c has);
-            stops = (rose, may cloud (inl refl));
-            others = λ c not. put_other old.peers cloud (fault_of (old.peers cloud)) c (λ same. not (subst (Contains (cloud ∷ [])) (sym same) (contains_here cloud [])));
-          });
-        };
+        read = record { read = may_at failing old.peers; others = λ c out. stays_at failing old.peers c (λ f. out (within c f)) };
+        named = has;
+        caused = rose_at failing old.peers cloud fails;
+        told = λ told. gets;
       },
       refl,
       refl,
@@ -287,18 +329,82 @@ module _ (s : Setting) where
       line : Line
       line = lines.Refused (refusals.Fault (cloud_no cloud))
 
-      new : ℕ → Peer
-      new = put old.peers cloud (fault_of (old.peers cloud))
+  -- the first choice has a cloud
+  first_cloud : (clouds subset : List ℕ) → IsSubset s.shape.k clouds subset → (cloud : ℕ) × Contains subset cloud
+  first_cloud clouds [] is = absurd (let n : 0 ≡ s.shape.k = is.count in let m = s.shape.several in omega arith)
+  first_cloud clouds (cloud ∷ subset) is = (cloud, contains_here cloud subset)
 
-      rose : Rose (old.peers cloud).faults (new cloud).faults
-      rose = subst (λ (p : Peer). Rose (old.peers cloud).faults p.faults) (sym (put_here old.peers cloud (fault_of (old.peers cloud)))) (let r : Rose (old.peers cloud).faults ((old.peers cloud).faults + 1) = omega arith in r)
+  -- from more than k clouds each fails
+  part_of_more : (old : Vault) (user : UserId) (path : List ℕ) (version : Version) (clouds : List ℕ) → AreSources s.shape clouds → length clouds ≢ s.shape.k
+      → IsPartOf s old (record { event = events.Get user path version clouds; moments = [] }) old.peers
+  part_of_more old user path version clouds are more =
+      let first = first_choice s.shape.k clouds are.count in
+      let is = is_chosen s.shape clouds first.0 are (subst (λ (l : List (List ℕ)). Contains l first.0) (sym first.2) (contains_here first.0 first.1)) in
+      let some = first_cloud clouds first.0 is in
+      let has = of_all (Contains clouds) first.0 some.0 is.among some.1 in
+      part_by_faults old user path version clouds clouds some.0 has has (λ c f. f) (record {
+        comes = record {
+          first = first.0;
+          rest = first.1;
+          first_is = first.2;
+          ends = (some.1, rose_at clouds old.peers some.0 has);
+          none = all_of (NoneFrom (sought s.shape user path version clouds) old.peers (faults_at clouds old.peers)) (subsets s.shape.k clouds) (λ subset among. inr (none_of subset (is_chosen s.shape clouds subset are among)));
+        };
+        exact = λ none. absurd (none some.0 has (rose_at clouds old.peers some.0 has));
+        just = λ few. absurd (more few);
+      })
+    where
+      none_of : (subset : List ℕ) → IsSubset s.shape.k clouds subset → (c : ℕ) × Contains subset c × Rose (old.peers c).faults (faults_at clouds old.peers c).faults
+      none_of subset is = let c = first_cloud clouds subset is in (c.0, c.1, rose_at clouds old.peers c.0 (of_all (Contains clouds) subset c.0 is.among c.1))
 
-      may_fault : (p : Peer) → MayRead p (fault_of p)
-      may_fault p = (inl (record { list = refl; pending = refl }), record { faults = omega arith; armings = refl })
+  -- from just k clouds the first fails
+  part_of_just : (old : Vault) (user : UserId) (path : List ℕ) (version : Version) (clouds : List ℕ) → AreSources s.shape clouds → length clouds ≡ s.shape.k
+      → IsPartOf s old (record { event = events.Get user path version clouds; moments = [] }) old.peers
+  part_of_just old user path version [] are few = absurd (let n : 0 ≡ s.shape.k = few in let m = s.shape.several in omega arith)
+  part_of_just old user path version (cloud ∷ clouds) are few =
+      let has = contains_here cloud clouds in
+      let fails = contains_here cloud [] in
+      let all = only_choice s.shape.k (cloud ∷ clouds) few in
+      let new = faults_at (cloud ∷ []) old.peers in
+      let rose = rose_at (cloud ∷ []) old.peers cloud fails in
+      part_by_faults old user path version (cloud ∷ clouds) (cloud ∷ []) cloud has fails (λ c f. here c f) (record {
+        comes = record {
+          first = cloud ∷ clouds;
+          rest = [];
+          first_is = all;
+          ends = (has, rose);
+          none = subst (All (NoneFrom (sought s.shape user path version (cloud ∷ clouds)) old.peers new)) (sym all)
+              (all_of (NoneFrom (sought s.shape user path version (cloud ∷ clouds)) old.peers new) ((cloud ∷ clouds) ∷ []) (λ subset among. inr (cloud, only subset among, rose)));
+        };
+        exact = λ none. absurd (none cloud has rose);
+        just = λ few. record {
+          ends = (has, rose);
+          read = inl (record {
+            front = [];
+            rest = clouds;
+            split = refl;
+            read = λ c has ne. absurd (contains_nothing c has);
+            stops = (rose, may_at (cloud ∷ []) old.peers cloud);
+            others = λ c out. stays_at (cloud ∷ []) old.peers c out;
+          });
+        };
+      })
+    where
+      here : (c : ℕ) → Contains (cloud ∷ []) c → Contains (cloud ∷ clouds) c
+      here c has = elim (contains_cases cloud [] c has) [
+        | inl same ↦ subst (Contains (cloud ∷ clouds)) same (contains_here cloud clouds)
+        | inr none ↦ absurd (contains_nothing c none)
+      ]
 
-      may_stay : (p : Peer) → MayRead p p
-      may_stay p = (inl (record { list = refl; pending = refl }), record { faults = omega arith; armings = refl })
+      only : (subset : List ℕ) → Contains ((cloud ∷ clouds) ∷ []) subset → Contains subset cloud
+      only subset has = elim (contains_cases (cloud ∷ clouds) [] subset has) [
+        | inl same ↦ subst (λ (l : List ℕ). Contains l cloud) same (contains_here cloud clouds)
+        | inr none ↦ absurd (contains_nothing subset none)
+      ]
 
-      may : (c : ℕ) → (c ≡ cloud) ⊎ (c ≢ cloud) → MayRead (old.peers c) (new c)
-      may c (inl same) = subst (λ (n : ℕ). MayRead (old.peers n) (new n)) (sym same) (subst (MayRead (old.peers cloud)) (sym (put_here old.peers cloud (fault_of (old.peers cloud)))) (may_fault (old.peers cloud)))
-      may c (inr ne) = subst (MayRead (old.peers c)) (sym (put_other old.peers cloud (fault_of (old.peers cloud)) c ne)) (may_stay (old.peers c))
+  pub part_of_get : (old : Vault) (user : UserId) (path : List ℕ) (version : Version) (clouds : List ℕ) → AreSources s.shape clouds
+      → IsPartOf s old (record { event = events.Get user path version clouds; moments = [] }) old.peers
+  part_of_get old user path version clouds are = elim (cases_eq (length clouds) s.shape.k) [
+    | inl few ↦ part_of_just old user path version clouds are few
+    | inr more ↦ part_of_more old user path version clouds are more
+  ]

@@ -13,8 +13,11 @@ use Rattle.cd_base.specs.declared.shape.Shape.{Shape}
 use Rattle.reed_solomon.specs.Dispersal.{AreChoice}
 use Rattle.user_dedup.proofs.Owned.{contains_cases, contains_nothing}
 use Rattle.upload_job.specs.Upload.{FileVersion}
+use Rattle.subset_restore.specs.Subsets.{subsets, IsSubset}
+use Rattle.subset_restore.proofs.Choices.{each_is_subset}
+use Rattle.subset_restore.proofs.Elements.{all_of, of_all}
 use Rattle.session.specs.Scripts.{jobs_after, AreLines}
-use Rattle.session.specs.Spelling.{AreClouds, Fits, IsTyped, AreBytes}
+use Rattle.session.specs.Spelling.{AreClouds, AreSources, Fits, IsTyped, AreBytes}
 use Rattle.session.specs.declared.event.Event.{Event}
 use Rattle.session.specs.declared.event.Event.TheVariants as events
 use Rattle.vault.specs.Steps.{version_of}
@@ -43,6 +46,17 @@ rises_by xs rises t (suc d) lt =
     let one = rises_by xs rises t d (omega arith) in
     let two = rises ((t + 1) + d) (omega arith) in
     subst (λ (n : ℕ). slice_index xs t < slice_index xs n) e (omega (arith, one, two))
+
+-- a choice of k of some clouds
+pub chosen_of : (shape : Shape) (named subset : List ℕ) → AreSources shape named → IsSubset shape.k named subset → AreClouds shape subset
+chosen_of shape named subset are is = record {
+  count = is.count;
+  rising = is.rises;
+  within = all_of (λ c. c < shape.n) subset (λ x has. of_all (λ c. c < shape.n) named x are.within (of_all (Contains named) subset x is.among has));
+}
+
+pub is_chosen : (shape : Shape) (named subset : List ℕ) → AreSources shape named → Contains (subsets shape.k named) subset → IsSubset shape.k named subset
+is_chosen shape named subset are has = of_all (IsSubset shape.k named) (subsets shape.k named) subset (each_is_subset shape.k named are.rising) has
 
 pub are_choice : (shape : Shape) (clouds : List ℕ) → AreClouds shape clouds → AreChoice shape clouds
 are_choice shape clouds are = record {
@@ -88,10 +102,10 @@ line_fits shape jobs (first ∷ script) lines event has = elim (contains_cases f
   | inr later ↦ line_fits shape (jobs_after jobs first) script lines.2 event later
 ]
 
--- a get names k different clouds
-pub get_chooses : (shape : Shape) (jobs : ℕ) (script : List Event) → AreLines shape jobs script → (user : UserId) (path : List ℕ) (version : Version) (named : List ℕ)
-    → Contains script (events.Get user path version named) → AreChoice shape named
-get_chooses shape jobs script lines user path version named has = are_choice shape named (line_fits shape jobs script lines (events.Get user path version named) has).1.1
+-- a get names k or more different clouds
+pub get_sources : (shape : Shape) (jobs : ℕ) (script : List Event) → AreLines shape jobs script → (user : UserId) (path : List ℕ) (version : Version) (named : List ℕ)
+    → Contains script (events.Get user path version named) → AreSources shape named
+get_sources shape jobs script lines user path version named has = (line_fits shape jobs script lines (events.Get user path version named) has).1.1
 
 -- each of which is one of the n
 pub chosen_below : (shape : Shape) (named : List ℕ) → AreChoice shape named → (cloud : ℕ) → Contains named cloud → cloud < shape.n

@@ -163,11 +163,6 @@ module _ (s : Setting) (old : Vault) where
         comes s r.moments old.peers r.new.peers (first_finish s job (range_with_len 0 s.shape.n) old r.answers r.moments r.new r.lanes_run),
       )
 
-  -- a get names a cloud at least
-  part_of_read : (jobs : ℕ) (user : UserId) (path : List ℕ) (version : Version) (clouds : List ℕ) → AreClouds s.shape clouds → IsUnmoved s old (events.Get user path version clouds)
-  part_of_read jobs user path version [] are = absurd (let n : 0 ≡ s.shape.k = are.count in let m = s.shape.several in omega arith)
-  part_of_read jobs user path version (cloud ∷ clouds) are = part_of_get s old user path version cloud clouds
-
   -- the first page fails
   part_of_list : (user : UserId) (cloud : CloudNo) → IsUnmoved s old (events.List user cloud)
   part_of_list user cloud = (
@@ -294,7 +289,7 @@ module _ (s : Setting) (old : Vault) where
   unmoved jobs (events.Lose job lane) fits = part_of_lose job lane
   unmoved jobs (events.Drop job lane) fits = part_of_drop job lane
   unmoved jobs (events.Finish job) fits = part_of_finish_begun job
-  unmoved jobs (events.Get user path version clouds) fits = part_of_read jobs user path version clouds fits.1
+  unmoved jobs (events.Get user path version clouds) fits = part_of_get s old user path version clouds fits.1
   unmoved jobs (events.Arm cloud calls keep) fits = part_of_arm cloud calls keep
   unmoved jobs (events.Restart cloud) fits = part_of_restart cloud
   unmoved jobs (events.List user cloud) fits = part_of_list user cloud

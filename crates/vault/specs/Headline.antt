@@ -1,5 +1,5 @@
 -- What a session promises: of acknowledged versions, of the disks after a crash, and of what a user is told.
-use Rattle.std.specs.Prelude.{◌≡◌, ℕ, ◌<◌, IsTrue, Bool, false, List, [], ◌∷◌, ◌++◌, reverse, Option, Some, None, IfSome, MatchOption, if◌then◌else◌}
+use Rattle.std.specs.Prelude.{◌≡◌, ℕ, ◌<◌, IsTrue, Bool, false, ◌⊎◌, List, [], ◌∷◌, ◌++◌, reverse, Option, Some, None, IfSome, MatchOption, if◌then◌else◌}
 use Rattle.std.specs.List.{Contains}
 use Rattle.cd_base.specs.declared.shape.Shape.{Shape}
 use Rattle.cd_edges.specs.Causes.{Rose}
@@ -14,7 +14,9 @@ use Rattle.user_dedup.specs.Requests.{asker}
 use Rattle.user_dedup.specs.Exec.{Peer, MaySettleAs}
 use Rattle.cloud_store.specs.Store.{StandsFor}
 use Rattle.upload_job.specs.Upload.{FileVersion}
-use Rattle.kept_files.specs.Kept.{Keeps}
+use Rattle.restore_job.specs.Restored.{recipe_in}
+use Rattle.subset_restore.specs.Subsets.{IsSubset}
+use Rattle.kept_files.specs.Kept.{Keeps, key_of}
 use Rattle.local_link.specs.Calls.{header_of}
 use Rattle.session.specs.Scripts.{AreLines}
 use Rattle.session.specs.declared.event.Event.{Event}
@@ -91,7 +93,7 @@ GivesVersion clouds v a (lines.Refused (refusals.Fault cloud) ∷ []) =
     Contains clouds cloud.0 × Rose (a.before.peers cloud.0).faults (a.after.peers cloud.0).faults
 GivesVersion clouds v a answers = ⊥
 
--- Each get from clouds that acknowledged a version gives its bytes.
+-- Each get from k or more clouds that acknowledged a version gives its bytes.
 abbrev pub GivesAcknowledged : Session → Type 0
 GivesAcknowledged run =
     (earlier later : List Answered) (a : Answered) (clouds : List ℕ) (v : FileVersion)
@@ -99,6 +101,32 @@ GivesAcknowledged run =
     → ((cloud : ℕ) → Contains clouds cloud → Kept run.setting (reverse earlier) cloud v)
     → ¬ Clashes run
     → GivesVersion clouds v a a.answers
+
+-- The cloud is told, and has no entry of the version, in its list or by its pending command.
+pub record Lacks (s : Setting) (cloud : ℕ) (p : Peer) (v : FileVersion) : Type 0 where
+  pub told : IsTrue (s.told cloud)
+  pub none : (list : List Command) → MaySettleAs p list
+      → recipe_in s.shape list v.user (key_of s.shape v.path v.number) ≡ None
+
+-- the file's bytes; or a refusal, where each k of the clouds that acknowledged the version have one whose count rose at
+-- this line
+abbrev pub GivesFromSome : Shape → (ℕ → Type 0) → List ℕ → FileVersion → Answered → List Line → Type 0
+GivesFromSome shape KeptAt clouds v a (lines.Got bytes ∷ []) = bytes ≡ v.file
+GivesFromSome shape KeptAt clouds v a (lines.Refused why ∷ []) =
+    (chosen : List ℕ) → IsSubset shape.k clouds chosen → ((cloud : ℕ) → Contains chosen cloud → KeptAt cloud)
+    → (cloud : ℕ) × Contains chosen cloud × Rose (a.before.peers cloud).faults (a.after.peers cloud).faults
+GivesFromSome shape KeptAt clouds v a answers = ⊥
+
+-- Each get from k or more clouds, of which some acknowledged a version and the others have no entry of it, gives its
+-- bytes.
+abbrev pub GivesFromMore : Session → Type 0
+GivesFromMore run =
+    (earlier later : List Answered) (a : Answered) (clouds : List ℕ) (v : FileVersion)
+    → run.history ≡ earlier ++ a ∷ later → a.event ≡ events.Get v.user v.path v.number clouds
+    → ((cloud : ℕ) → Contains clouds cloud
+    → Kept run.setting (reverse earlier) cloud v ⊎ Lacks run.setting cloud (a.before.peers cloud) v)
+    → ¬ Clashes run
+    → GivesFromSome run.setting.shape (λ cloud. Kept run.setting (reverse earlier) cloud v) clouds v a a.answers
 
 -- Behind the last line that was begun the cloud keeps what it acknowledged.
 pub record StillKept (run : Session) (cloud : ℕ) (v : FileVersion) : Type 0 where

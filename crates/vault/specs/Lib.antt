@@ -4,3 +4,4 @@ pub mod Run
 pub mod Kept
 pub mod Headline
 pub mod Cut
+pub mod Faults

@@ -1,5 +1,5 @@
 -- What each line of a script does to a vault, and what is answered.
-use Rattle.std.specs.Prelude.{◌≡◌, ◌⊎◌, ℕ, ◌+◌, ◌-◌, ◌<◌, Bool, true, false, not, ◌&&◌, IsTrue, List, [], ◌∷◌, ◌++◌, length, map, slice_get, Option, Some, None, IfErr, Result, Ok, Err, if◌then◌else◌}
+use Rattle.std.specs.Prelude.{◌≡◌, ◌⊎◌, ℕ, ◌+◌, ◌-◌, ◌<◌, Bool, true, false, not, ◌&&◌, IsTrue, List, [], ◌∷◌, ◌++◌, length, map, slice_get, Option, Some, None, IfErr, Result, Ok, Err, All, if◌then◌else◌}
 use Rattle.std.specs.Bool.{MatchBool}
 use Rattle.std.specs.List.{Contains, list_all, range_with_len}
 use Rattle.cd_base.specs.declared.ids.Tag.{Tag}
@@ -26,10 +26,13 @@ use Rattle.upload_job.specs.Lanes.{LaneView, with_state}
 use Rattle.upload_job.specs.Lanes as lanes
 use Rattle.lane_requests.specs.Runs.{Turn, Progress, starting, moved, LaneRun, Tell, lane_at}
 use Rattle.restore_job.specs.declared.error.RestoreErr.{RestoreErr}
-use Rattle.restore_job.specs.declared.error.RestoreErr.TheVariants as restore_errors
-use Rattle.restore_job.specs.Asking.{OnlyRead, is_lost}
-use Rattle.restore_job.specs.Reading.{Restores}
+use Rattle.restore_job.specs.Asking.{OnlyRead, AreRead, is_lost}
+use Rattle.restore_job.specs.Reading.{Ends}
 use Rattle.restore_job.specs.Refusals.{Names, Causes}
+use Rattle.subset_restore.specs.Subsets.{subsets}
+use Rattle.subset_restore.specs.Ends.{Sought, outcome_of, any_outcome, JustRestores, GivesNone}
+use Rattle.subset_restore.specs.Going.{sought}
+use Rattle.restore_lines.specs.Refusals.{refusal_of}
 use Rattle.kept_files.specs.Kept.{key_of}
 use Rattle.local_link.specs.Calls.{Armed}
 use Rattle.rebuild.specs.declared.error.SkipWhy.{SkipWhy}
@@ -161,21 +164,6 @@ FinishLanes s job (cloud ∷ clouds) old answers moments new =
 
 -- ---- lines that read
 
-abbrev pub refusal_of : RestoreErr → Option Refusal
-refusal_of (restore_errors.Missing c) = Some (refusals.Missing c)
-refusal_of (restore_errors.Lost c) = Some (refusals.Lost c)
-refusal_of (restore_errors.CloudFault c) = Some (refusals.Fault c)
-refusal_of (restore_errors.CloudDamaged c at byte) = Some (refusals.Damaged c at byte)
-refusal_of (restore_errors.CloudRotten c named found) = Some (refusals.Rotten c named found)
-refusal_of (restore_errors.CloudNoMemory c) = Some (refusals.NoMemory c)
-refusal_of (restore_errors.Strange c kind) = Some (refusals.Strange c kind)
-refusal_of (restore_errors.RecipesDiffer a b place) = Some (refusals.RecipesDiffer a b place)
-refusal_of (restore_errors.ShareLength c secret found wanted) = Some (refusals.ShareLength c secret found wanted)
-refusal_of (restore_errors.BadShare c secret named found) = Some (refusals.BadShare c secret named found)
-refusal_of (restore_errors.BadSecret secret named found) = Some (refusals.BadSecret secret named found)
-refusal_of (restore_errors.BadPad secret at byte) = Some (refusals.BadPad secret at byte)
-refusal_of restore_errors.NoMemory = None
-
 -- the line of a restore that gave this file or this error; its own want of memory has no line
 abbrev pub IsGetLine : Result (Unit {0}) RestoreErr → List ℕ → Line → Type 0
 IsGetLine (Ok u) file line = line ≡ lines.Got file
@@ -194,6 +182,47 @@ told_so shape = record {
   passes = λ told exchange after. ⊥;
 }
 
+-- The file doesn't come from this choice of clouds: their lists give none, or a device of one of them failed, whose
+-- count rose.
+abbrev pub NoneFrom : Sought → (ℕ → Peer) → (ℕ → Peer) → List ℕ → Type 0
+NoneFrom f old new subset =
+    GivesNone f new subset ⊎ ((cloud : ℕ) × Contains subset cloud × Rose (old cloud).faults (new cloud).faults)
+
+-- The file came from this choice of k clouds: it's what their lists give, each of them was read, and it comes from no
+-- choice in front of this one.
+pub record ComesFrom (f : Sought) (file : List ℕ) (old new : ℕ → Peer) : Type 0 where
+  pub front : List (List ℕ)
+  pub subset : List ℕ
+  pub rest : List (List ℕ)
+  pub split : subsets f.shape.k f.clouds ≡ front ++ subset ∷ rest
+  pub gives : outcome_of f new subset ≡ Ok file
+  pub read : AreRead subset old new
+  pub front_none : All (NoneFrom f old new) front
+
+-- It comes from no choice of k clouds, and the refusal is the first one's: by its lists, or by a device in it that
+-- failed.
+pub record ComesFromNone (f : Sought) (e : RestoreErr) (old new : ℕ → Peer) : Type 0 where
+  pub first : List ℕ
+  pub rest : List (List ℕ)
+  pub first_is : subsets f.shape.k f.clouds ≡ first ∷ rest
+  pub ends : Ends (outcome_of f new first) first (Err e) [] [] old new
+  pub none : All (NoneFrom f old new) (subsets f.shape.k f.clouds)
+
+abbrev pub ComesBy : Sought → Result (Unit {0}) RestoreErr → List ℕ → (ℕ → Peer) → (ℕ → Peer) → Type 0
+ComesBy f (Ok u) file old new = ComesFrom f file old new
+ComesBy f (Err e) file old new = ComesFromNone f e old new
+
+-- no count of these clouds rose
+abbrev pub NoneRose : List ℕ → (ℕ → Peer) → (ℕ → Peer) → Type 0
+NoneRose clouds old new = (cloud : ℕ) → Contains clouds cloud → ¬ Rose (old cloud).faults (new cloud).faults
+
+-- A get from k or more told clouds, by their lists as they stand after it: the choices of k of them are gone through in
+-- lexicographic order. Where no count rose the result is that of any k of them; and from just k it's a restore.
+pub record Gets (f : Sought) (result : Result (Unit {0}) RestoreErr) (file : List ℕ) (old new : ℕ → Peer) : Type 0 where
+  pub comes : ComesBy f result file old new
+  pub exact : NoneRose f.clouds old new → Ends (any_outcome f new) f.clouds result [] file old new
+  pub just : JustRestores f result [] file old new
+
 -- A get: only its clouds are read; a refusal has its cause; and where all of them are told the line is that of their lists
 -- as they stand after it.
 pub record GetStep (s : Setting) (user : UserId) (path : List ℕ) (version : Version) (clouds : List ℕ)
@@ -206,7 +235,7 @@ pub record GetStep (s : Setting) (user : UserId) (path : List ℕ) (version : Ve
   pub named : IfErr result (Names (Contains clouds))
   pub caused : Causes (told_so s.shape) s.told s.shape user (key_of s.shape path version) result old new
   pub told : ((cloud : ℕ) → Contains clouds cloud → IsTrue (s.told cloud))
-      → Restores s.shape user (key_of s.shape path version) clouds result [] file old new
+      → Gets (sought s.shape user path version clouds) result file old new
 
 -- ---- a listing
 

@@ -13,7 +13,7 @@ ghost use Rattle.user_dedup.specs.Requests.{asker};
 ghost use Rattle.user_dedup.specs.Exec.{Peer};
 ghost use Rattle.lane_requests.specs.Runs.{Turn};
 ghost use Rattle.rebuild.specs.Rebuilding.{IsCut};
-ghost use Rattle.session.specs.Spelling.{AreClouds, Fits};
+ghost use Rattle.session.specs.Spelling.{AreClouds, AreSources, Fits};
 ghost use Rattle.session.specs.declared.event.Event.{Event};
 ghost use Rattle.session.specs.declared.event.Event.TheVariants as events;
 ghost use Rattle.transcript.specs.declared.line.Line.{Line};
@@ -21,8 +21,10 @@ ghost use Rattle.vault.specs.Vault.{Setting, Vault, served_at, with_peer, Execut
 ghost use Rattle.vault.specs.Steps.{Moment, quiet, turn_moment, AllTold, VStep};
 ghost use Rattle.vault.specs.Run.{IsListIn};
 ghost use Rattle.vault.specs.Cut.{FinishCut};
+ghost use Rattle.vault.specs.Faults.{FaultsRose, SaysFault};
+ghost use Rattle.cd_edges.specs.Causes.{Rose};
 ghost use Rattle.cd_edges.specs.Disk.{Cloud};
-ghost use Rattle.vault.specs.Headline.{Session, Begun, IsRun, GivesAcknowledged, DisksKeep, AnswersPrivately, IsPartOf, own_reply};
+ghost use Rattle.vault.specs.Headline.{Session, Begun, IsRun, GivesAcknowledged, GivesFromMore, DisksKeep, AnswersPrivately, IsPartOf, own_reply};
 
 /// Each reply that speaks of a user's own commands follows from that user's view.
 pub fn law_of_own_replies()
@@ -37,10 +39,11 @@ pub fn law_of_own_commands()
         → own_reply shape cloud two request ≡ own_reply shape cloud one request }
 {}
 
-/// A get gives each version that its clouds acknowledged; and each list that a crash may leave behind the last state keeps what its cloud
-/// acknowledged.
+/// A get gives each version that its clouds acknowledged, or some of them where the others have none; and each list that
+/// a crash may leave behind the last state keeps what its cloud acknowledged.
 pub fn law_of_acknowledged()
     ensures given { (clouds : ℕ → Cloud) (run : Session) → IsRun clouds run → GivesAcknowledged run }
+    ensures more { (clouds : ℕ → Cloud) (run : Session) → IsRun clouds run → GivesFromMore run }
     ensures kept { (clouds new : ℕ → Cloud) (run : Session) → IsRun clouds run → DisksKeep run new }
 {}
 
@@ -62,9 +65,9 @@ pub fn law_of_parts()
     ensures finish { (s : Setting) (job : ℕ) (old : Vault) (moments : List Moment) (last : ℕ → Peer)
         → FinishCut s job (range_with_len 0 s.shape.n) old moments last
         → IsPartOf s old (record { event = events.Finish job; moments = moments }) last }
-    ensures get { (s : Setting) (old : Vault) (user : UserId) (path : List ℕ) (version : Version) (cloud : ℕ)
-        (clouds : List ℕ)
-        → IsPartOf s old (record { event = events.Get user path version (cloud ∷ clouds); moments = [] }) old.peers }
+    ensures get { (s : Setting) (old : Vault) (user : UserId) (path : List ℕ) (version : Version) (clouds : List ℕ)
+        → AreSources s.shape clouds
+        → IsPartOf s old (record { event = events.Get user path version clouds; moments = [] }) old.peers }
     ensures rebuild { (s : Setting) (old : Vault) (user : UserId) (target : CloudNo) (from : List ℕ) (turns : List (Turn Peer)) (at : Peer)
         → AreClouds s.shape from → ¬ Contains from target.0 → ExecutesAll s target.0 (old.peers target.0) turns at
         → (AllTold s (target.0 ∷ from) → (after : ℕ → Peer)
@@ -77,13 +80,21 @@ pub fn law_of_parts()
         → IsPartOf s old (record { event = event; moments = [] }) old.peers }
 {}
 
-/// No line lets a cloud's count of faults fall, but for one at its last value.
+/// No line lets a cloud's count of faults fall, but for one above its last value.
 pub fn law_of_counts()
-    ensures step { (least : ℕ) → least < 2 ^ 64 - 1 → (s : Setting) (cloud : ℕ) (old : Vault) (event : Event)
+    ensures step { (least : ℕ) → least < 2 ^ 64 → (s : Setting) (cloud : ℕ) (old : Vault) (event : Event)
         (answers : List Line) (moments : List Moment) (new : Vault) → VStep s old event answers moments new
         → least ≤ (old.peers cloud).faults → least ≤ (new.peers cloud).faults }
-    // Nor does a session whose last line was begun as a replacement.
-    ensures replaced { (least : ℕ) → least < 2 ^ 64 - 1 → (clouds : ℕ → Cloud) (run : Session) (begun : Begun)
-        (replaced : CloudNo) (cloud : ℕ) → IsRun clouds run → run.begun ≡ Some begun
-        → begun.event ≡ events.Replace replaced → least ≤ (clouds cloud).faults → least ≤ (run.last cloud).faults }
+    // Nor does a whole session, a line that was begun among its lines.
+    ensures session { (least : ℕ) → least < 2 ^ 64 → (clouds : ℕ → Cloud) (run : Session) (cloud : ℕ)
+        → IsRun clouds run → least ≤ (clouds cloud).faults → least ≤ (run.last cloud).faults }
+{}
+
+/// An answer that says `fault` of a cloud is given only where that cloud's count of faults rose in its line. So a session says it of no
+/// cloud whose count didn't rise.
+pub fn law_of_faults()
+    ensures step { (s : Setting) (cloud : ℕ) (old : Vault) (event : Event) (answers : List Line) (moments : List Moment) (new : Vault)
+        → VStep s old event answers moments new → (line : Line) → Contains answers line → SaysFault line event cloud
+        → Rose (old.peers cloud).faults (new.peers cloud).faults }
+    ensures session { (clouds : ℕ → Cloud) (run : Session) → IsRun clouds run → FaultsRose clouds run }
 {}

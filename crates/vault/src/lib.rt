@@ -5,6 +5,6 @@
 mod laws;
 
 pub use laws::{
-    law_of_acknowledged, law_of_counts, law_of_moments, law_of_own_commands, law_of_own_replies,
-    law_of_parts,
+    law_of_acknowledged, law_of_counts, law_of_faults, law_of_moments, law_of_own_commands,
+    law_of_own_replies, law_of_parts,
 };

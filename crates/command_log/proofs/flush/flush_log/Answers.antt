@@ -10,7 +10,7 @@ pub returns-clause-held : goal.returns-clause-held
 returns-clause-held g c told blobs staged h has =
     let number = c.args.cloud.0 in
     flushed c.flush.result c.args.log.now c.flush.new.self (g.V.Shelf.cloud_at c.args.shelf.now number) (g.V.Shelf.cloud_at c.flush.new.shelf number) blobs staged h
-    c.flush.ensures.log (c.flush.ensures.end staged has) (λ none. cloud_same g.V.Shelf.cloud_at c.flush.new.shelf c.args.shelf.now number (c.flush.ensures.nothing none).0) (c.flush.ensures.written told) (c.flush.ensures.placed told staged has)
+    c.flush.ensures.log (c.flush.ensures.end staged has) (λ none. cloud_same g.V.Shelf.cloud_at c.flush.new.shelf c.args.shelf.now number (c.flush.ensures.nothing none).0) (c.flush.ensures.written told) (c.flush.ensures.placed told staged has) (c.flush.ensures.agrees told)
 
 pub returns-clause-moments : goal.returns-clause-moments
 returns-clause-moments g c told =

@@ -24,3 +24,8 @@ pub returns-in-Err-add-clause-any_moment : goal.returns-in-Err-add-clause-any_mo
 returns-in-Err-add-clause-any_moment g c = λ header list front.
     c.add.ensures.any_moment header list _
     (prepared header list c.args.body c.args.recipe.now c.args.log.now c.stage_recipe.new.self c.as_slice.result.now _ front c.in-Ok.ensures.ok c.requires.shares (c.in-Ok.ensures.staged _ c.requires.recipes) (c.stage_recipe.ensures.on header list _ front.on) (c.as_slice.ensures.value ∙ c.write_commit.ensures))
+
+pub returns-in-Ok-add-clause-added : goal.returns-in-Ok-add-clause-added
+returns-in-Ok-add-clause-added g c = λ header list front.
+    c.in-Ok-add.ensures.added header list _
+    (prepared header list c.args.body c.args.recipe.now c.args.log.now c.stage_recipe.new.self c.as_slice.result.now _ front c.in-Ok.ensures.ok c.requires.shares (c.in-Ok.ensures.staged _ c.requires.recipes) (c.stage_recipe.ensures.on header list _ front.on) (c.as_slice.ensures.value ∙ c.write_commit.ensures))

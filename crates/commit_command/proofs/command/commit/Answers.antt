@@ -12,20 +12,20 @@ use Rattle.commit_command.proofs.Answered.{few_bytes, answered_new, lacking_does
 use Rattle.commit_command.proofs.Contents.{rotten_entry, full_entry, refused_entry, refused_new, steady_entry, steady_new}
 use Rattle.commit_command.proofs.command.commit.Given.{Over}
 use Rattle.commit_command.proofs.command.commit.Goals as goal
-use Rattle.commit_command.proofs.command.commit.Goals.{After-put_lacking, After-repeat, After-enter}
+use Rattle.commit_command.proofs.command.commit.Goals.{After-write_lacking, After-repeat, After-enter}
 
 pub enter-requires-clause-few : goal.enter-requires-clause-few
 enter-requires-clause-few g c = few_bytes c.args.state.now.header.shape c.args.recipe.now c.bytes-in-None-entry.result.now c.requires.recipe c.bytes-in-None-entry.ensures
 
 -- ---- an item lacks
 
-does_lacking : (g : Over) (c : After-put_lacking g) (list : List Command) → Agrees c.args.state.now (g.V.Shelf.cloud_at c.args.shelf.now c.args.state.now.header.cloud.0) list
+does_lacking : (g : Over) (c : After-write_lacking g) (list : List Command) → Agrees c.args.state.now (g.V.Shelf.cloud_at c.args.shelf.now c.args.state.now.header.cloud.0) list
     → Does c.args.state.now c.args.state.now (g.V.Shelf.cloud_at c.args.shelf.now c.args.state.now.header.cloud.0) (g.V.Shelf.cloud_at c.args.shelf.now c.args.state.now.header.cloud.0) list
-    (requests.Commit c.args.user c.args.tag.now c.args.version (spelling c.args.recipe.now)) c.put_lacking.new.reply ok_result
+    (requests.Commit c.args.user c.args.tag.now c.args.version (spelling c.args.recipe.now)) c.write_lacking.new.out ok_result
 does_lacking g c list agrees =
     let state = c.args.state.now in let cloud = g.V.Shelf.cloud_at c.args.shelf.now state.header.cloud.0 in
-    lacking_does state state cloud cloud list c.args.user c.args.tag.now c.args.version c.args.recipe.now c.requires.recipe agrees c.put_lacking.new.reply c.in-Some.place
-    (sym (c.first_foreign.ensures.value state.header.shape list agrees.remembers) ∙ c.in-Some.is) c.put_lacking.ensures (record { header = refl; rooms = refl }) (unmoved state state cloud ok_result refl refl) refl
+    lacking_does state state cloud cloud list c.args.user c.args.tag.now c.args.version c.args.recipe.now c.requires.recipe agrees c.write_lacking.new.out c.in-Some.place
+    (sym (c.first_foreign.ensures.value state.header.shape list agrees.remembers) ∙ c.in-Some.is) c.write_lacking.ensures (record { header = refl; rooms = refl }) (unmoved state state cloud ok_result refl refl) refl
 
 pub returns-in-Some-clause-any_moment : goal.returns-in-Some-clause-any_moment
 returns-in-Some-clause-any_moment g c = λ list agrees within. (does_lacking g c list agrees).any_moment
@@ -40,7 +40,7 @@ pub returns-in-Some-clause-lacking : goal.returns-in-Some-clause-lacking
 returns-in-Some-clause-lacking g c = λ place lacks.
     let same : Some c.in-Some.place ≡ Some place = sym c.in-Some.is ∙ c.first_foreign.ensures.kept ∙ lacks in
     let place_is : c.in-Some.place ≡ place = cc in
-    (refl, refl, subst (λ p. IsReply c.put_lacking.new.reply (replies.Lacking p)) place_is c.put_lacking.ensures)
+    (refl, refl, subst (λ p. IsReply c.write_lacking.new.out (replies.Lacking p)) place_is c.write_lacking.ensures)
 
 pub returns-in-Some-clause-stored : goal.returns-in-Some-clause-stored
 returns-in-Some-clause-stored g c = λ told entry owned at.
@@ -48,7 +48,7 @@ returns-in-Some-clause-stored g c = λ told entry owned at.
 
 pub returns-in-Some-clause-kind : goal.returns-in-Some-clause-kind
 returns-in-Some-clause-kind g c =
-    lacking_given c.args.state.now.header.shape c.args.user c.args.tag.now c.args.version c.args.recipe.now c.put_lacking.new.reply c.in-Some.place c.requires.recipe c.in-Some.ensures.within c.put_lacking.ensures
+    lacking_given c.args.state.now.header.shape c.args.user c.args.tag.now c.args.version c.args.recipe.now c.write_lacking.new.out c.in-Some.place c.requires.recipe c.in-Some.ensures.within c.write_lacking.ensures
 
 pub returns-in-Some-clause-full : goal.returns-in-Some-clause-full
 returns-in-Some-clause-full g c = λ room used need limit full. (refl, refl)

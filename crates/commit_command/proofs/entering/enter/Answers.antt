@@ -21,7 +21,7 @@ returns-in-Ok-add_recorded-clause-does g c = λ list agrees answered.
     let fits : FitsRequest (requests.Commit c.args.user c.args.tag c.args.version recipe) = search rules in
     let f = front old.header list c.args.user c.args.tag c.args.version recipe body old.log before same agrees.on fits answered (c.in-Ok.ensures.body shape list recipe named refl agrees.remembers) in
     enters_does old _ before after list c.args.user c.args.tag c.args.version recipe body same answered (c.in-Ok.ensures.full shape list recipe agrees.remembers gate refl)
-    c.put_committed.new.reply ok_result c.put_committed.ensures.spelled
+    c.write_committed.new.out ok_result c.write_committed.ensures.spelled
     (c.add_recorded.ensures.any_moment old.header list f) (c.in-Ok-add_recorded.ensures.added old.header list f) (c.in-Ok-add_recorded.ensures.moments old.header list f)
     (c.in-Ok.ensures.remembers shape list recipe named refl agrees.remembers) (record { header = refl; rooms = refl })
 
@@ -46,6 +46,6 @@ returns-in-Err-clause-does g c = λ list agrees answered.
     let before = g.V.Shelf.cloud_at c.args.shelf.now old.header.cloud.0 in
     let used = used_on old.header list old.log before agrees.on in
     let gate : c.used-gate.result - 1 + 1 ≡ journal_len list = omega (arith, used, c.used-gate.ensures) in
-    stays_does old _ before before list _ c.put_full.new.reply _ ok_result
+    stays_does old _ before before list _ c.write_full.new.out _ ok_result
     (answered_full old list c.args.user c.args.tag c.args.version recipe (seen c.in-Err.full) answered (c.in-Err.ensures.full shape list recipe agrees.remembers gate refl))
-    c.put_full.ensures.spelled agrees (record { header = refl; rooms = refl }) (unmoved old _ before ok_result c.in-Err.ensures.err refl) refl
+    c.write_full.ensures.spelled agrees (record { header = refl; rooms = refl }) (unmoved old _ before ok_result c.in-Err.ensures.err refl) refl

@@ -2,7 +2,7 @@ use Rattle.std.proofs.Common.{refl, sym, ◌∙◌, subst}
 use Rattle.std.specs.Prelude.{Result, Ok, Err}
 use Rattle.restore_job.specs.declared.error.RestoreErr.{RestoreErr}
 use Rattle.disk_reading.specs.declared.end.ReadEnd.{ReadEnd}
-use Rattle.disk_reading.specs.Refusals.{refusal_text}
+use Rattle.restore_lines.specs.Refusals.{refusal_text}
 use Rattle.disk_reading.specs.Ends.{IsWritten, Writes}
 use Rattle.disk_reading.proofs.Written.{not_whole}
 use Rattle.disk_reading.proofs.writing.write_came.Goals as goal

@@ -1,5 +1,5 @@
 use Rattle.file_recipe.proofs.Shares.{GivenBelow}
 use Rattle.file_recipe.proofs.disperse.add_shares.Given as goal
 
-abbrev pub invariant-loop-cloud : goal.invariant-loop-cloud
-invariant-loop-cloud l = GivenBelow l.secret_len l.width l.shares l.cloud l.fn.files l.files
+abbrev pub invariant-loop-place : goal.invariant-loop-place
+invariant-loop-place l = GivenBelow l.first l.secret_len l.width l.shares l.place l.fn.files l.files

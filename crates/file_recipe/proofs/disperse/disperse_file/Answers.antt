@@ -1,15 +1,7 @@
-use Rattle.std.proofs.Common.{length, List, ap, ◌∙◌}
-use Rattle.file_recipe.specs.declared.cloud_file.CloudFile.{CloudFile}
-use Rattle.file_recipe.proofs.Shares.{all_dispersed, length-unshared, written_back}
+use Rattle.std.proofs.Common.{◌∙◌}
+use Rattle.file_recipe.specs.Clouds.{dispersed}
 use Rattle.file_recipe.proofs.disperse.disperse_file.Goals as goal
 
-pub add_secrets-requires-clause-clouds : goal.add_secrets-requires-clause-clouds
-add_secrets-requires-clause-clouds c =
-    ap (λ (xs : List CloudFile). length xs) (c.as_mut_slice.ensures.value ∙ c.in_ok-files.ensures) ∙ length-unshared c.args.shape c.args.path.now c.args.file.now
-
 pub returns : goal.returns
-returns c =
-    let before = c.as_mut_slice.ensures.value ∙ c.in_ok-files.ensures in
-    let len = ap (λ (xs : List CloudFile). length xs) before ∙ length-unshared c.args.shape c.args.path.now c.args.file.now in
-    c.of.ensures ∙ written_back c.add_secrets.new.files _ c.in_ok-files.files.len (c.add_secrets.auto.files ∙ c.as_mut_slice.ensures.len)
-    ∙ all_dispersed c.args.shape c.args.path.now c.args.file.now c.as_mut_slice.result.now c.add_secrets.new.files before (c.add_secrets.auto.files ∙ len) c.in_ok-add_secrets.ensures
+unfolding dispersed
+returns c = c.of.ensures ∙ c.in_ok-files.ensures

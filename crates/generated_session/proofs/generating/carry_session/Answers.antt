@@ -25,7 +25,7 @@ returns-in_default-clause-generates g c = λ begun s ready rooms.
       old = begun;
       new = clouds c.args.link.now.shelf.now;
     } in
-    ends_unmade (record { given = c.law_of_acknowledged.ensures.given; kept = c.law_of_acknowledged.ensures.kept; private = c.law_of_own_replies.ensures }) order call s
+    ends_unmade (record { given = c.law_of_acknowledged.ensures.given; more = c.law_of_acknowledged.ensures.more; kept = c.law_of_acknowledged.ensures.kept; private = c.law_of_own_replies.ensures }) order call s
     (ap (λ (sh : Shape). sh.n) (sym ready.shape) ∙ c.requires.shape.0, ap (λ (sh : Shape). sh.k) (sym ready.shape) ∙ c.requires.shape.1, rooms) ready.told
     (all_same s.shape begun (clouds c.args.link.now.shelf.now) ready.same) refl refl
 
@@ -42,8 +42,8 @@ returns-in-Err-clause-generates g c = λ begun s ready rooms.
       old = begun;
       new = clouds new.shelf.now;
     } in
-    let same = same_all clouds (record { given = c.law_of_acknowledged.ensures.given; kept = c.law_of_acknowledged.ensures.kept; private = c.law_of_own_replies.ensures }) (start_of begun) s c.args.link.now before_first None 0 None 0 ready in
-    ends_unopened (record { given = c.law_of_acknowledged.ensures.given; kept = c.law_of_acknowledged.ensures.kept; private = c.law_of_own_replies.ensures }) order call s
+    let same = same_all clouds (record { given = c.law_of_acknowledged.ensures.given; more = c.law_of_acknowledged.ensures.more; kept = c.law_of_acknowledged.ensures.kept; private = c.law_of_own_replies.ensures }) (start_of begun) s c.args.link.now before_first None 0 None 0 ready in
+    ends_unopened (record { given = c.law_of_acknowledged.ensures.given; more = c.law_of_acknowledged.ensures.more; kept = c.law_of_acknowledged.ensures.kept; private = c.law_of_own_replies.ensures }) order call s
     (ap (λ (sh : Shape). sh.n) (sym ready.shape) ∙ c.requires.shape.0, ap (λ (sh : Shape). sh.k) (sym ready.shape) ∙ c.requires.shape.1, rooms) ready.told
     (subst (λ (sh : Shape). PreparesAll sh begun (clouds new.shelf.now)) ready.shape (subst (λ (f : ℕ → Cloud). PreparesAll c.args.link.now.servers.shape f (clouds new.shelf.now)) same c.in-Err.ensures.prepares)) refl refl
     c.in-Err.end
@@ -62,10 +62,10 @@ returns-in_default-carry_all-clause-generates g c = λ begun s ready rooms.
       old = begun;
       new = clouds link.shelf.now;
     } in
-    ends_stopped clouds (record { given = c.law_of_acknowledged.ensures.given; kept = c.law_of_acknowledged.ensures.kept; private = c.law_of_own_replies.ensures }) order call s
+    ends_stopped clouds (record { given = c.law_of_acknowledged.ensures.given; more = c.law_of_acknowledged.ensures.more; kept = c.law_of_acknowledged.ensures.kept; private = c.law_of_own_replies.ensures }) order call s
     (ap (λ (sh : Shape). sh.n) (sym ready.shape) ∙ c.requires.shape.0, ap (λ (sh : Shape). sh.k) (sym ready.shape) ∙ c.requires.shape.1, rooms) link refl
     (λ cloud told. g.met.V.Shelf.reads_image link.shelf.now cloud told) c.law_of_moments.ensures.part c.law_of_moments.ensures.here
-    (c.in_default-carry_all.ensures.stops begun s [] (made_first clouds (record { given = c.law_of_acknowledged.ensures.given; kept = c.law_of_acknowledged.ensures.kept; private = c.law_of_own_replies.ensures }) begun s c.args.link.now c.open_clouds.new.link ready c.in-Ok-open_clouds.ensures.opens order)) refl refl
+    (c.in_default-carry_all.ensures.stops begun s [] (made_first clouds (record { given = c.law_of_acknowledged.ensures.given; more = c.law_of_acknowledged.ensures.more; kept = c.law_of_acknowledged.ensures.kept; private = c.law_of_own_replies.ensures }) begun s c.args.link.now c.open_clouds.new.link ready c.in-Ok-open_clouds.ensures.opens order)) refl refl
 
 pub returns-in_default-put_summary-clause-generates : goal.returns-in_default-put_summary-clause-generates
 returns-in_default-put_summary-clause-generates g c = λ begun s ready rooms.
@@ -80,8 +80,8 @@ returns-in_default-put_summary-clause-generates g c = λ begun s ready rooms.
       old = begun;
       new = clouds link.shelf.now;
     } in
-    let made = c.in-Ok-carry_all.ensures.makes begun s [] (made_first clouds (record { given = c.law_of_acknowledged.ensures.given; kept = c.law_of_acknowledged.ensures.kept; private = c.law_of_own_replies.ensures }) begun s c.args.link.now c.open_clouds.new.link ready c.in-Ok-open_clouds.ensures.opens order) in
-    ends_stopped clouds (record { given = c.law_of_acknowledged.ensures.given; kept = c.law_of_acknowledged.ensures.kept; private = c.law_of_own_replies.ensures }) order call s
+    let made = c.in-Ok-carry_all.ensures.makes begun s [] (made_first clouds (record { given = c.law_of_acknowledged.ensures.given; more = c.law_of_acknowledged.ensures.more; kept = c.law_of_acknowledged.ensures.kept; private = c.law_of_own_replies.ensures }) begun s c.args.link.now c.open_clouds.new.link ready c.in-Ok-open_clouds.ensures.opens order) in
+    ends_stopped clouds (record { given = c.law_of_acknowledged.ensures.given; more = c.law_of_acknowledged.ensures.more; kept = c.law_of_acknowledged.ensures.kept; private = c.law_of_own_replies.ensures }) order call s
     (ap (λ (sh : Shape). sh.n) (sym ready.shape) ∙ c.requires.shape.0, ap (λ (sh : Shape). sh.k) (sym ready.shape) ∙ c.requires.shape.1, rooms) link refl
     (λ cloud told. g.met.V.Shelf.reads_image link.shelf.now cloud told) c.law_of_moments.ensures.part c.law_of_moments.ensures.here
     (subst (IsStopped clouds begun s link) (append-nil (generated_lines c.args.seed c.args.files c.args.pieces))
@@ -100,8 +100,8 @@ returns-in-Ok-write_summary-clause-generates g c = λ begun s ready rooms.
       old = begun;
       new = clouds link.shelf.now;
     } in
-    let made = c.in-Ok-carry_all.ensures.makes begun s [] (made_first clouds (record { given = c.law_of_acknowledged.ensures.given; kept = c.law_of_acknowledged.ensures.kept; private = c.law_of_own_replies.ensures }) begun s c.args.link.now c.open_clouds.new.link ready c.in-Ok-open_clouds.ensures.opens order) in
-    ends_done clouds (record { given = c.law_of_acknowledged.ensures.given; kept = c.law_of_acknowledged.ensures.kept; private = c.law_of_own_replies.ensures }) order call s
+    let made = c.in-Ok-carry_all.ensures.makes begun s [] (made_first clouds (record { given = c.law_of_acknowledged.ensures.given; more = c.law_of_acknowledged.ensures.more; kept = c.law_of_acknowledged.ensures.kept; private = c.law_of_own_replies.ensures }) begun s c.args.link.now c.open_clouds.new.link ready c.in-Ok-open_clouds.ensures.opens order) in
+    ends_done clouds (record { given = c.law_of_acknowledged.ensures.given; more = c.law_of_acknowledged.ensures.more; kept = c.law_of_acknowledged.ensures.kept; private = c.law_of_own_replies.ensures }) order call s
     (ap (λ (sh : Shape). sh.n) (sym ready.shape) ∙ c.requires.shape.0, ap (λ (sh : Shape). sh.k) (sym ready.shape) ∙ c.requires.shape.1, rooms) link refl
     (λ cloud told. g.met.V.Shelf.reads_image link.shelf.now cloud told) c.in-Ok-carry_all.numbers made (3 * c.args.files) c.as_slice.result.now refl
     (c.as_slice.ensures ∙ c.in-Ok-put_summary.ensures ∙ ap (λ (l : List ℕ). l ++ summary_text c.args.files c.in-Ok-carry_all.numbers) c.new-text.ensures) c.in-Ok-write_summary.ensures.ok c.in-Ok-write_summary.ensures.still
@@ -119,8 +119,8 @@ returns-clause-generates g c = λ begun s ready rooms.
       old = begun;
       new = clouds link.shelf.now;
     } in
-    let made = c.in-Ok-carry_all.ensures.makes begun s [] (made_first clouds (record { given = c.law_of_acknowledged.ensures.given; kept = c.law_of_acknowledged.ensures.kept; private = c.law_of_own_replies.ensures }) begun s c.args.link.now c.open_clouds.new.link ready c.in-Ok-open_clouds.ensures.opens order) in
-    ends_sink clouds (record { given = c.law_of_acknowledged.ensures.given; kept = c.law_of_acknowledged.ensures.kept; private = c.law_of_own_replies.ensures }) order call s
+    let made = c.in-Ok-carry_all.ensures.makes begun s [] (made_first clouds (record { given = c.law_of_acknowledged.ensures.given; more = c.law_of_acknowledged.ensures.more; kept = c.law_of_acknowledged.ensures.kept; private = c.law_of_own_replies.ensures }) begun s c.args.link.now c.open_clouds.new.link ready c.in-Ok-open_clouds.ensures.opens order) in
+    ends_sink clouds (record { given = c.law_of_acknowledged.ensures.given; more = c.law_of_acknowledged.ensures.more; kept = c.law_of_acknowledged.ensures.kept; private = c.law_of_own_replies.ensures }) order call s
     (ap (λ (sh : Shape). sh.n) (sym ready.shape) ∙ c.requires.shape.0, ap (λ (sh : Shape). sh.k) (sym ready.shape) ∙ c.requires.shape.1, rooms) link refl
     (λ cloud told. g.met.V.Shelf.reads_image link.shelf.now cloud told) c.in-Ok-carry_all.numbers made c.as_slice.result.now c.in-Err-write_summary.end
     (c.as_slice.ensures ∙ c.in-Ok-put_summary.ensures ∙ ap (λ (l : List ℕ). l ++ summary_text c.args.files c.in-Ok-carry_all.numbers) c.new-text.ensures) c.in-Err-write_summary.ensures.end

@@ -26,7 +26,7 @@ returns-in-Err g c =
       old = clouds c.args.shelf.now;
       new = clouds c.empty_clouds.new.shelf;
     } in
-    ends_unopened (record { given = c.law_of_acknowledged.ensures.given; kept = c.law_of_acknowledged.ensures.kept; private = c.law_of_own_replies.ensures }) order call s
+    ends_unopened (record { given = c.law_of_acknowledged.ensures.given; more = c.law_of_acknowledged.ensures.more; kept = c.law_of_acknowledged.ensures.kept; private = c.law_of_own_replies.ensures }) order call s
     (c.four_clouds-shape.ensures.0, c.four_clouds-shape.ensures.1, refl) (λ cloud. refl) c.in-Err.ensures.prepares refl refl c.in-Err.end c.in-Err.ensures.end
 
 pub returns-in_default : goal.returns-in_default
@@ -42,7 +42,7 @@ returns-in_default g c =
       old = clouds c.args.shelf.now;
       new = clouds c.empty_clouds.new.shelf;
     } in
-    ends_unmade (record { given = c.law_of_acknowledged.ensures.given; kept = c.law_of_acknowledged.ensures.kept; private = c.law_of_own_replies.ensures }) order call s
+    ends_unmade (record { given = c.law_of_acknowledged.ensures.given; more = c.law_of_acknowledged.ensures.more; kept = c.law_of_acknowledged.ensures.kept; private = c.law_of_own_replies.ensures }) order call s
     (c.four_clouds-shape.ensures.0, c.four_clouds-shape.ensures.1, refl) (λ cloud. refl)
     (all_same s.shape (clouds c.args.shelf.now) (clouds c.empty_clouds.new.shelf) c.in-Ok.ensures.same) refl refl
 

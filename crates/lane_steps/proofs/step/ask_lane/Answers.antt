@@ -3,18 +3,17 @@ use Rattle.messages.specs.Requests.{request_bytes}
 use Rattle.user_dedup.specs.Requests.{asked_at}
 use Rattle.cd_base.specs.Reading.{AreBytes}
 use Rattle.lane_requests.specs.Runs.{lane_at}
-use Rattle.lane_requests.proofs.Reaching.{is_sent}
-use Rattle.lane_requests.proofs.Works.{counts_items}
+use Rattle.lane_requests.proofs.Alone.{any_sent, any_counts}
 use Rattle.lane_steps.specs.Steps.{TakesReply}
 use Rattle.lane_steps.proofs.Views.{request_here}
 use Rattle.lane_steps.proofs.Suits.{does_suit, is_answer}
-use Rattle.lane_steps.proofs.Asking.{SuitsLane, some_is, passed_by, taken, lost_by, reached_on}
+use Rattle.lane_steps.proofs.Asking.{SuitsLane, some_is, passed_by, taken, lost_by, reached_on, way_on}
 use Rattle.lane_steps.proofs.step.ask_lane.Goals as goal
 
 pub ask-requires-clause-framed : goal.ask-requires-clause-framed
 ask-requires-clause-framed g c =
     let asks = c.requires.asks in
-    let sent = is_sent (g.L.Link.tells.shape c.args.link.now) c.args.job.now c.args.lane.0 asks.0 c.requires.reached asks.1 in
+    let sent = any_sent (g.L.Link.tells.shape c.args.link.now) c.args.job.now c.args.lane.0 asks.0 c.requires.way asks.1 in
     omega (arith, sent.framed, ap length asks.2)
 
 pub returns-in-Ok-clause-steps : goal.returns-in-Ok-clause-steps
@@ -26,11 +25,11 @@ returns-in-Ok-clause-steps g c r e =
     let small : cloud < 256 = search rules in
     let asks = c.requires.asks in
     let content : c.args.request.now ≡ request_bytes r = asks.2 ∙ ap request_bytes (some_is asks.0 r (sym asks.1 ∙ e)) in
-    let sent = is_sent (t.shape old) views cloud r c.requires.reached e in
+    let sent = any_sent (t.shape old) views cloud r c.requires.way e in
     let asked : asked_at (t.shape old) c.args.request.now ≡ Ok r = ap (asked_at (t.shape old)) content ∙ sent.read in
     let ask = c.in-Ok.ensures in
     let suits : SuitsLane t cloud (lane_at views cloud) old r = λ p q reply stands does.
-    is_answer (t.shape old) (lane_at views cloud).work (lane_at views cloud).state r reply (counts_items (t.shape old) views cloud r c.requires.reached e) (sym (request_here views cloud) ∙ e)
+    is_answer (t.shape old) (lane_at views cloud).work (lane_at views cloud).state r reply (any_counts (t.shape old) views cloud r c.requires.way e) (sym (request_here views cloud) ∙ e)
     (does_suit t cloud old p q r reply (g.met.L.Link.sound old) small sent.fits.0 sent.fits.1 stands does) in
     taken t g.L.Link.talk cloud old views r c.ask.new.reply c.take_reply.result c.ask.new.self c.take_reply.new.job
     (subst AreBytes c.content.ensures.value c.take_reply.ensures.bytes)
@@ -40,14 +39,21 @@ returns-in-Ok-clause-steps g c r e =
 
 pub returns-in-Ok-clause-reached : goal.returns-in-Ok-clause-reached
 returns-in-Ok-clause-reached g c =
-    reached_on (g.L.Link.tells.shape c.args.link.now) c.args.job.now c.args.lane.0 c.content.result.now c.take_reply.result c.take_reply.new.job c.requires.reached c.take_reply.ensures.takes
+    λ reached. reached_on (g.L.Link.tells.shape c.args.link.now) c.args.job.now c.args.lane.0 c.content.result.now c.take_reply.result c.take_reply.new.job reached c.take_reply.ensures.takes
+
+pub returns-in-Ok-clause-way : goal.returns-in-Ok-clause-way
+returns-in-Ok-clause-way g c =
+    way_on (g.L.Link.tells.shape c.args.link.now) c.args.job.now c.args.lane.0 c.content.result.now c.take_reply.result c.take_reply.new.job c.requires.way c.take_reply.ensures.takes
+
+pub returns-in-Err-clause-reached : goal.returns-in-Err-clause-reached
+returns-in-Err-clause-reached g c = λ reached. reached
 
 pub returns-in-Err-clause-steps : goal.returns-in-Err-clause-steps
 returns-in-Err-clause-steps g c r e =
     let t = g.L.Link.tells in
     let asks = c.requires.asks in
     let content : c.args.request.now ≡ request_bytes r = asks.2 ∙ ap request_bytes (some_is asks.0 r (sym asks.1 ∙ e)) in
-    let sent = is_sent (t.shape c.args.link.now) c.args.job.now c.args.lane.0 r c.requires.reached e in
+    let sent = any_sent (t.shape c.args.link.now) c.args.job.now c.args.lane.0 r c.requires.way e in
     let asked : asked_at (t.shape c.args.link.now) c.args.request.now ≡ Ok r = ap (asked_at (t.shape c.args.link.now)) content ∙ sent.read in
     let ask = c.in-Err.ensures in
     (lost_by t c.args.lane.0 c.args.link.now r c.args.request.now c.ask.new.self content sent.read ask.passes ask.others ask.lost (ask.exec r asked), refl)

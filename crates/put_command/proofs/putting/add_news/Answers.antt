@@ -36,8 +36,8 @@ returns-in-Err-clause-served g c list agrees within =
     let some : 1 ≤ length strings = omega (arith, c.requires.some, p.long) in
     let used : c.used-gate.result - 1 + 1 ≡ journal_len list = omega (arith, c.used-gate.ensures, used_on state.header list state.log cloud agrees.on) in
     let is = is_full state list user sent strings (p.by_list state.header.shape list agrees.remembers) c.in-Err.full some (c.in-Err.ensures.full state.header.shape list strings agrees.remembers within p.of used) in
-    served_only state (record state { index = c.add_put.new.self }) cloud list (requests.Put user sent) (replies.Full c.in-Err.full.room c.in-Err.full.used c.in-Err.full.need c.in-Err.full.limit) c.put_full.new.reply
-    is (ap (λ (i : CloudIndex). record state { index = i }) c.in-Err.ensures.err) c.put_full.ensures.spelled agrees
+    served_only state (record state { index = c.add_put.new.self }) cloud list (requests.Put user sent) (replies.Full c.in-Err.full.room c.in-Err.full.used c.in-Err.full.need c.in-Err.full.limit) c.write_full.new.out
+    is (ap (λ (i : CloudIndex). record state { index = i }) c.in-Err.ensures.err) c.write_full.ensures.spelled agrees
 
 pub returns-in-Err-clause-moments : goal.returns-in-Err-clause-moments
 returns-in-Err-clause-moments g c list agrees within =
@@ -86,7 +86,7 @@ returns-in-Ok-write-clause-served g c list agrees within =
     let parts = c.in-Ok.ensures.items state.header.shape list strings agrees.remembers p.of in
     let may : MayWrite state.header list user strings c.add_put.new.items state.log cloud = record { on = agrees.on; sound = sound_next state list user sent strings new some small c.requires.batch agrees.on.sound; parts = parts } in
     served_next state (record state { index = c.add_put.new.self; log = c.write.new.log; «record» = c.write.new.record }) (g.V.Shelf.cloud_at c.write.new.shelf state.header.cloud.0) list (requests.Put user sent)
-    (length c.args.news.now) strings user c.put_stored.new.reply is c.put_stored.ensures.spelled p.long
+    (length c.args.news.now) strings user c.write_stored.new.out is c.write_stored.ensures.spelled p.long
     (c.in-Ok.ensures.remembers state.header.shape list strings agrees.remembers p.of) (c.in-Ok-write.ensures.added state.header list may)
 
 pub returns-in-Ok-write-clause-moments : goal.returns-in-Ok-write-clause-moments
@@ -143,8 +143,8 @@ returns-in-Err-write-clause-nothing g c list agrees within nothing =
     absurd (let never : None ≡ Some (commands.Put user strings) = sym nothing ∙ ap (λ (o : Outcome). o.adds) is in cc)
 
 pub returns-in-Ok-write-clause-none : goal.returns-in-Ok-write-clause-none
-returns-in-Ok-write-clause-none g c = λ none. absurd (some_or_none c.put_stored.new.reply (length c.args.news.now) c.requires.some c.put_stored.ensures none)
+returns-in-Ok-write-clause-none g c = λ none. absurd (some_or_none c.write_stored.new.out (length c.args.news.now) c.requires.some c.write_stored.ensures none)
 
 pub returns-in-Ok-write-clause-full : goal.returns-in-Ok-write-clause-full
 returns-in-Ok-write-clause-full g c = λ room used need limit full.
-    absurd (stored_or_full c.put_stored.new.reply (length c.args.news.now) room used need limit c.put_stored.ensures full)
+    absurd (stored_or_full c.write_stored.new.out (length c.args.news.now) room used need limit c.write_stored.ensures full)

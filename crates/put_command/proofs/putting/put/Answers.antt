@@ -18,8 +18,8 @@ returns-then-count-eq0-clause-served g c list agrees within =
     let strings = marked c.collect-count.new.marks sent in
     let p = c.collect-count.ensures.picked in
     let none : length strings ≡ 0 = sym p.long ∙ ap (λ (n : ℕ). length (take n c.collect-count.new.news)) c.if-count-eq0.true in
-    served_only state state (g.V.Shelf.cloud_at c.args.shelf.now state.header.cloud.0) list (requests.Put c.args.user sent) (replies.Stored 0) c.put_stored.new.reply
-    (none_new state list c.args.user sent strings (p.by_list state.header.shape list agrees.remembers) none) refl c.put_stored.ensures.spelled agrees
+    served_only state state (g.V.Shelf.cloud_at c.args.shelf.now state.header.cloud.0) list (requests.Put c.args.user sent) (replies.Stored 0) c.write_stored.new.out
+    (none_new state list c.args.user sent strings (p.by_list state.header.shape list agrees.remembers) none) refl c.write_stored.ensures.spelled agrees
 
 pub returns-then-count-eq0-clause-moments : goal.returns-then-count-eq0-clause-moments
 returns-then-count-eq0-clause-moments g c list agrees within =

@@ -34,7 +34,7 @@ returns-in-Ok-clause-untouched g c = λ other.
 
 pub returns-in-Err-Rotten-clause-untouched : goal.returns-in-Err-Rotten-clause-untouched
 returns-in-Err-Rotten-clause-untouched g c = λ other.
-    absurd (rotten_or_missing c.put_rotten.new.reply c.in-Err-Rotten.named c.in-Err-Rotten.found c.put_rotten.ensures other)
+    absurd (rotten_or_missing c.write_rotten.new.out c.in-Err-Rotten.named c.in-Err-Rotten.found c.write_rotten.ensures other)
 
 pub returns-in-Err-Rotten-clause-value : goal.returns-in-Err-Rotten-clause-value
 returns-in-Err-Rotten-clause-value g c = λ told header list k.
@@ -53,7 +53,7 @@ returns-in-Err-Rotten-clause-kind g c =
     let entry = c.in-Some.entry in
     record {
       reply = replies.Rotten c.in-Err-Rotten.named c.in-Err-Rotten.found;
-      is = c.put_rotten.ensures;
+      is = c.write_rotten.ensures;
       said = record {
         entry = entry;
         kept = sym c.entry.ensures.kept ∙ c.in-Some.is;
@@ -68,8 +68,8 @@ returns-in-Err-Rotten-clause-kind g c =
 
 pub returns-in-None-clause-value : goal.returns-in-None-clause-value
 returns-in-None-clause-value g c = λ told header list k.
-    c.put_missing.ensures.spelled
+    c.write_missing.ensures.spelled
     ∙ ap reply_bytes (sym (recipe_missing header.shape list c.args.user c.args.tag.now c.args.version (sym (c.entry.ensures.meaning header.shape list k.remembers) ∙ c.in-None.is)))
 
 pub returns-in-None-clause-kind : goal.returns-in-None-clause-kind
-returns-in-None-clause-kind g c = record { reply = replies.Missing; is = c.put_missing.ensures; said = sym c.entry.ensures.kept ∙ c.in-None.is }
+returns-in-None-clause-kind g c = record { reply = replies.Missing; is = c.write_missing.ensures; said = sym c.entry.ensures.kept ∙ c.in-None.is }

@@ -11,7 +11,7 @@ use Rattle.read_replies.proofs.listing.put_keys.Goals as goal
 
 pub returns-clause-value : goal.returns-clause-value
 returns-clause-value c = λ shape cloud list is.
-    c.put_page.ensures ∙ ap (λ (l : List (Tag × Version)). reply_bytes (replies.Entries l))
+    c.write_entries.ensures ∙ ap (λ (l : List (Tag × Version)). reply_bytes (replies.Entries l))
     (c.split_at.ensures.front ∙ c.fill-count.ensures.value shape list is
     ∙ ap (λ (n : ℕ). take n (keys_above (user_view shape list c.args.user).files c.args.after)) c.requires)
 
@@ -24,6 +24,6 @@ returns-clause-kind c =
     let few : length page ≤ 256 = omega (arith, ap length front, c.split_at.ensures.front_len, c.requires) in
     record {
       reply = replies.Entries page;
-      is = record { fits = (few, keys_from_none c.args.after page keys); spelled = c.put_page.ensures };
+      is = record { fits = (few, keys_from_none c.args.after page keys); spelled = c.write_entries.ensures };
       said = keys_rise c.args.after page keys;
     }

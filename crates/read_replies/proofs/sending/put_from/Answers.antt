@@ -1,19 +1,15 @@
 use Rattle.std.proofs.Common.{◌≡◌, ℕ, List, length, ◌++◌, ap, ◌∙◌, arith}
 use Rattle.message_fields.specs.Shares.{share_bytes}
-use Rattle.read_replies.proofs.Along.{put_one, sent_one}
+use Rattle.read_replies.proofs.Along.{sent_one}
 use Rattle.read_replies.proofs.sending.put_from.Goals as goal
 
 pub returns-in-Ok-clause-ok : goal.returns-in-Ok-clause-ok
 returns-in-Ok-clause-ok g c =
     let share = c.read_blob.new.out in
     let long : length share ≡ c.args.place.len = omega (arith, c.read_blob.auto.out, c.split_at_mut-share.ensures.front_len) in
-    sent_one c.args.fp.now c.args.reply.now c.put.new.self c.put-in-Ok.new.self c.to_be_bytes.result share c.args.place.len c.put.ensures c.put-in-Ok.ensures c.to_be_bytes.ensures long
-    c.requires.some c.requires.few c.in-Ok.ensures.hashed
+    sent_one c.args.fp.now c.args.reply.now c.append_share.new.out share c.args.place.len c.append_share.ensures long c.requires.some c.requires.few c.in-Ok.ensures.hashed
 
 pub returns-in-Ok-clause-blob : goal.returns-in-Ok-clause-blob
 returns-in-Ok-clause-blob g c = λ told b place_is len_is same at.
-    let share = c.read_blob.new.out in
-    let long : length share ≡ c.args.place.len = omega (arith, c.read_blob.auto.out, c.split_at_mut-share.ensures.front_len) in
     let part : length b.blob ≡ length c.split_at_mut-share.result.0.now = omega (arith, len_is, c.split_at_mut-share.ensures.front_len) in
-    put_one c.args.fp.now c.args.reply.now c.put.new.self c.put-in-Ok.new.self c.to_be_bytes.result share c.args.place.len c.put.ensures c.put-in-Ok.ensures c.to_be_bytes.ensures long
-    ∙ ap (λ (s : List ℕ). c.args.reply.now ++ share_bytes s) (c.in-Ok.ensures.blob told b place_is part same at)
+    c.append_share.ensures ∙ ap (λ (s : List ℕ). c.args.reply.now ++ share_bytes s) (c.in-Ok.ensures.blob told b place_is part same at)

@@ -11,14 +11,14 @@ use Rattle.read_replies.proofs.sending.shares.Goals as goal
 
 pub returns-in-Some-clause-value : goal.returns-in-Some-clause-value
 returns-in-Some-clause-value g c = λ told header list k.
-    c.put_not_yours.ensures.spelled
+    c.write_not_yours.ensures.spelled
     ∙ ap (λ (o : Option ℕ). reply_bytes (shares_reply o (strings_for list c.args.fps.now))) (sym c.in-Some.is ∙ c.first_foreign.ensures.value header.shape list k.remembers)
 
 pub returns-in-Some-clause-foreign : goal.returns-in-Some-clause-foreign
 returns-in-Some-clause-foreign g c = λ place lack.
     let e : Some c.in-Some.place ≡ Some place = sym c.in-Some.is ∙ c.first_foreign.ensures.kept ∙ lack in
     let same : c.in-Some.place ≡ place = cc in
-    (refl, c.put_not_yours.ensures.spelled ∙ ap (λ (n : ℕ). reply_bytes (replies.NotYours n)) same)
+    (refl, c.write_not_yours.ensures.spelled ∙ ap (λ (n : ℕ). reply_bytes (replies.NotYours n)) same)
 
 pub returns-in-Ok-clause-value : goal.returns-in-Ok-clause-value
 returns-in-Ok-clause-value g c = λ told header list k.
@@ -43,7 +43,7 @@ returns-in-Ok-clause-untouched g c = λ place other.
 
 pub returns-in-Err-Rotten-clause-untouched : goal.returns-in-Err-Rotten-clause-untouched
 returns-in-Err-Rotten-clause-untouched g c = λ place other.
-    absurd (rotten_or_not_yours c.put_rotten.new.reply c.in-Err-Rotten.named c.in-Err-Rotten.found place c.put_rotten.ensures other)
+    absurd (rotten_or_not_yours c.write_rotten.new.out c.in-Err-Rotten.named c.in-Err-Rotten.found place c.write_rotten.ensures other)
 
 pub returns-in-Err-Rotten-clause-value : goal.returns-in-Err-Rotten-clause-value
 returns-in-Err-Rotten-clause-value g c = λ told header list k.

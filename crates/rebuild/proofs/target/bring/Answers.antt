@@ -3,7 +3,7 @@ use Rattle.cd_base.specs.declared.shape.Shape.{Shape}
 use Rattle.upload_job.specs.declared.news.LaneNews.{LaneNews}
 use Rattle.upload_job.specs.Upload.{FileVersion}
 use Rattle.upload_job.specs.Lanes.{LaneView, with_state}
-use Rattle.lane_requests.specs.Reached.{IsReached, Begun}
+use Rattle.lane_requests.specs.Reached.{IsOnItsWay, ForOne, BegunAlone}
 use Rattle.lane_requests.specs.Runs.{Progress, starting, lane_at}
 use Rattle.rebuild.specs.Rebuilding.{lane_of}
 use Rattle.rebuild.proofs.Landing.{target_leads, step_moves, lane_is, lanes_long, ended_moves, memory_moves, lane_still}
@@ -32,27 +32,27 @@ returns-in-Err-clause-brings g c =
     λ from apart. target_leads t g.L.Link.talk target from link link _ _ _ (no_others t target link)
     (λ p stands. memory_moves t g.L.Link.talk c.args.shape target from v link c.requires.shape link lane lane [] [] p refl (refl, refl) refl stands)
 
-pub finish_lane-requires-clause-below : goal.finish_lane-requires-clause-below
-finish_lane-requires-clause-below g c = let e = lanes_long c.args.shape (record { user = c.args.user; path = c.args.path.now; number = c.args.version; file = c.args.file.now }) in let lt = c.requires.within in omega (arith, ap length c.in-Ok.ensures)
+pub finish_any-requires-clause-below : goal.finish_any-requires-clause-below
+finish_any-requires-clause-below g c = let e = lanes_long c.args.shape (record { user = c.args.user; path = c.args.path.now; number = c.args.version; file = c.args.file.now }) c.args.target.0 in let lt = c.requires.within in omega (arith, ap length c.in-Ok.ensures)
 
-pub finish_lane-requires-clause-reached : goal.finish_lane-requires-clause-reached
-finish_lane-requires-clause-reached g c =
+pub finish_any-requires-clause-way : goal.finish_any-requires-clause-way
+finish_any-requires-clause-way g c =
     let v : FileVersion = record { user = c.args.user; path = c.args.path.now; number = c.args.version; file = c.args.file.now } in
-    subst (λ (s : Shape). IsReached s c.in-Ok.job) (sym c.requires.shape)
-    (subst (IsReached c.args.shape) (sym c.in-Ok.ensures) (Begun v c.requires.path c.requires.few (omega arith) (omega arith)))
+    subst (λ (s : Shape). IsOnItsWay s c.in-Ok.job) (sym c.requires.shape)
+    (subst (IsOnItsWay c.args.shape) (sym c.in-Ok.ensures) (ForOne (BegunAlone v c.args.target.0 c.requires.path c.requires.few (omega arith) (omega arith))))
 
-pub returns-in-Ok-finish_lane-clause-brings : goal.returns-in-Ok-finish_lane-clause-brings
-returns-in-Ok-finish_lane-clause-brings g c =
+pub returns-in-Ok-finish_any-clause-brings : goal.returns-in-Ok-finish_any-clause-brings
+returns-in-Ok-finish_any-clause-brings g c =
     let t = g.L.Link.tells in
     let talk = g.L.Link.talk in
     let target = c.args.target.0 in
     let shape = c.args.shape in
     let old = c.args.link.now in
-    let new = c.finish_lane.new.link in
+    let new = c.finish_any.new.link in
     let v : FileVersion = record { user = c.args.user; path = c.args.path.now; number = c.args.version; file = c.args.file.now } in
     let is = ap (λ (l : List LaneView). starting (lane_at l target)) c.in-Ok.ensures ∙ lane_is shape v target c.requires.within in
-    let f = c.in-Ok-finish_lane.ensures.finishes in
-    λ from apart. target_leads t talk target from old new _ _ _ c.in-Ok-finish_lane.ensures.others
+    let f = c.in-Ok-finish_any.ensures.finishes in
+    λ from apart. target_leads t talk target from old new _ _ _ c.in-Ok-finish_any.ensures.others
     (λ p stands. ended_moves t talk shape target from v old c.requires.shape new (starting (lane_at c.in-Ok.job target)) f.1 f.0 f.2 c.ended.result p is f.3 f.4
     (subst (λ (o : Option LaneNews). EndsBy o c.ended.result) (c.last_news.ensures ∙ ap last_of (c.deref.ensures.value ∙ f.5 ∙ ap (λ (l : List LaneNews). l ++ f.2) c.clear.ensures.items)) c.ended.ensures) stands)
 
@@ -63,20 +63,20 @@ returns-clause-brings g c =
     let target = c.args.target.0 in
     let shape = c.args.shape in
     let old = c.args.link.now in
-    let new = c.finish_lane.new.link in
+    let new = c.finish_any.new.link in
     let v : FileVersion = record { user = c.args.user; path = c.args.path.now; number = c.args.version; file = c.args.file.now } in
     let is = ap (λ (l : List LaneView). starting (lane_at l target)) c.in-Ok.ensures ∙ lane_is shape v target c.requires.within in
-    let e : StepErr = c.in-Err-finish_lane.e in
-    let f = c.in-Err-finish_lane.ensures.finishes in
-    let below : target < length c.in-Ok.job = (let all = lanes_long shape v in let lt = c.requires.within in omega (arith, ap length c.in-Ok.ensures)) in
+    let e : StepErr = c.in-Err-finish_any.e in
+    let f = c.in-Err-finish_any.ensures.finishes in
+    let below : target < length c.in-Ok.job = (let all = lanes_long shape v target in let lt = c.requires.within in omega (arith, ap length c.in-Ok.ensures)) in
     let here = lane_still (Heard t talk target) c.in-Ok.job target f.1 old f.3 f.0 below f.4 in
     λ from apart.
     let result : Result Bool RebuildErr = Err c.failed.result in
     let due : result ≡ Err (failed_as e) = ap (λ (x : RebuildErr). bad x) c.failed.ensures in
     let clause : Result Bool RebuildErr → Type 0 = λ r. Leads t talk target from old new r (λ before after. BringCaused r (before target) (after target)) (λ turns before at after. BringsTold shape target (serves t old target) v r turns (before target) at (after target)) in
     subst clause (sym due)
-    (target_leads t talk target from old new (Err (failed_as e)) _ _ c.in-Err-finish_lane.ensures.others
-    (λ p stands. step_moves t talk shape target from v old c.requires.shape f.3 new (with_state c.in-Ok.job target f.1.lane.state) c.finish_lane.new.job (starting (lane_at c.in-Ok.job target)) f.1 f.0 f.2 p e here f.7 is f.4 f.5 stands f.8))
+    (target_leads t talk target from old new (Err (failed_as e)) _ _ c.in-Err-finish_any.ensures.others
+    (λ p stands. step_moves t talk shape target from v old c.requires.shape f.3 new (with_state c.in-Ok.job target f.1.lane.state) c.finish_any.new.job (starting (lane_at c.in-Ok.job target)) f.1 f.0 f.2 p e here f.7 is f.4 f.5 stands f.8))
 
 pub returns-in-Err-clause-own : goal.returns-in-Err-clause-own
 returns-in-Err-clause-own g c = tt
@@ -84,37 +84,37 @@ returns-in-Err-clause-own g c = tt
 pub returns-in-Err-clause-asked : goal.returns-in-Err-clause-asked
 returns-in-Err-clause-asked g c = asked_none g.L.Link.tells c.args.target.0 [] c.args.link.now
 
-pub returns-in-Ok-finish_lane-clause-own : goal.returns-in-Ok-finish_lane-clause-own
-returns-in-Ok-finish_lane-clause-own g c = (ends_own _ c.ended.result c.ended.ensures).0
+pub returns-in-Ok-finish_any-clause-own : goal.returns-in-Ok-finish_any-clause-own
+returns-in-Ok-finish_any-clause-own g c = (ends_own _ c.ended.result c.ended.ensures).0
 
-pub returns-in-Ok-finish_lane-clause-asked : goal.returns-in-Ok-finish_lane-clause-asked
-returns-in-Ok-finish_lane-clause-asked g c =
-    let e = c.in-Ok-finish_lane.ensures in
+pub returns-in-Ok-finish_any-clause-asked : goal.returns-in-Ok-finish_any-clause-asked
+returns-in-Ok-finish_any-clause-asked g c =
+    let e = c.in-Ok-finish_any.ensures in
     let own = (ends_own _ c.ended.result c.ended.ensures).1 in
-    asked_lane g.L.Link.tells g.L.Link.talk c.args.target.0 c.args.link.now c.in-Ok.job _ (Ok tt) c.finish_lane.new.link c.finish_lane.new.job _ (is_lost c.ended.result) e.finishes e.others e.later
+    asked_lane g.L.Link.tells g.L.Link.talk c.args.target.0 c.args.link.now c.in-Ok.job _ (Ok tt) c.finish_any.new.link c.finish_any.new.job _ (is_lost c.ended.result) e.finishes e.others e.later
     (λ lost. absurd (let f : false ≡ true = sym own ∙ lost in cc)) (λ h. (own, (e.lossless h).1))
 
 pub returns-clause-own : goal.returns-clause-own
-returns-clause-own g c = subst (λ (x : RebuildErr). OfTarget (bad x)) (sym c.failed.ensures) (failed_own c.in-Err-finish_lane.e)
+returns-clause-own g c = subst (λ (x : RebuildErr). OfTarget (bad x)) (sym c.failed.ensures) (failed_own c.in-Err-finish_any.e)
 
 pub returns-clause-asked : goal.returns-clause-asked
 returns-clause-asked g c =
-    let e = c.in-Err-finish_lane.ensures in
+    let e = c.in-Err-finish_any.ensures in
     let is = ap (λ (x : RebuildErr). is_lost (bad x)) c.failed.ensures in
-    asked_lane g.L.Link.tells g.L.Link.talk c.args.target.0 c.args.link.now c.in-Ok.job _ (Err c.in-Err-finish_lane.e) c.finish_lane.new.link c.finish_lane.new.job _ (is_lost (bad c.failed.result)) e.finishes e.others e.later
-    (λ lost. failed_lost c.in-Err-finish_lane.e _ _ e.lost (sym is ∙ lost)) (λ h. (is ∙ failed_found c.in-Err-finish_lane.e (e.lossless h).0, (e.lossless h).1))
+    asked_lane g.L.Link.tells g.L.Link.talk c.args.target.0 c.args.link.now c.in-Ok.job _ (Err c.in-Err-finish_any.e) c.finish_any.new.link c.finish_any.new.job _ (is_lost (bad c.failed.result)) e.finishes e.others e.later
+    (λ lost. failed_lost c.in-Err-finish_any.e _ _ e.lost (sym is ∙ lost)) (λ h. (is ∙ failed_found c.in-Err-finish_any.e (e.lossless h).0, (e.lossless h).1))
 
 pub returns-in-Err-clause-lanes : goal.returns-in-Err-clause-lanes
 returns-in-Err-clause-lanes g c = own_none g.L.Link.tells c.args.shape c.args.user c.args.target.0 [] c.args.link.now
 
-pub returns-in-Ok-finish_lane-clause-lanes : goal.returns-in-Ok-finish_lane-clause-lanes
-returns-in-Ok-finish_lane-clause-lanes g c =
+pub returns-in-Ok-finish_any-clause-lanes : goal.returns-in-Ok-finish_any-clause-lanes
+returns-in-Ok-finish_any-clause-lanes g c =
     let v : FileVersion = record { user = c.args.user; path = c.args.path.now; number = c.args.version; file = c.args.file.now } in
     let is = ap (λ (l : List LaneView). starting (lane_at l c.args.target.0)) c.in-Ok.ensures ∙ lane_is c.args.shape v c.args.target.0 c.requires.within in
-    lane_own g.L.Link.tells g.L.Link.talk c.args.shape c.args.target.0 v c.args.link.now c.in-Ok.job _ (Ok tt) c.finish_lane.new.link c.finish_lane.new.job _ (ap (λ (p : Progress). p.lane.work) is) c.in-Ok-finish_lane.ensures.finishes
+    lane_own g.L.Link.tells g.L.Link.talk c.args.shape c.args.target.0 v c.args.link.now c.in-Ok.job _ (Ok tt) c.finish_any.new.link c.finish_any.new.job _ (ap (λ (p : Progress). p.lane.work) is) c.in-Ok-finish_any.ensures.finishes
 
 pub returns-clause-lanes : goal.returns-clause-lanes
 returns-clause-lanes g c =
     let v : FileVersion = record { user = c.args.user; path = c.args.path.now; number = c.args.version; file = c.args.file.now } in
     let is = ap (λ (l : List LaneView). starting (lane_at l c.args.target.0)) c.in-Ok.ensures ∙ lane_is c.args.shape v c.args.target.0 c.requires.within in
-    lane_own g.L.Link.tells g.L.Link.talk c.args.shape c.args.target.0 v c.args.link.now c.in-Ok.job _ (Err c.in-Err-finish_lane.e) c.finish_lane.new.link c.finish_lane.new.job _ (ap (λ (p : Progress). p.lane.work) is) c.in-Err-finish_lane.ensures.finishes
+    lane_own g.L.Link.tells g.L.Link.talk c.args.shape c.args.target.0 v c.args.link.now c.in-Ok.job _ (Err c.in-Err-finish_any.e) c.finish_any.new.link c.finish_any.new.job _ (ap (λ (p : Progress). p.lane.work) is) c.in-Err-finish_any.ensures.finishes

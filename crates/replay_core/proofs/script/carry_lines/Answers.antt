@@ -10,7 +10,7 @@ pub returns-in-Err-answered-clause-replays : goal.returns-in-Err-answered-clause
 returns-in-Err-answered-clause-replays g c = λ start s first.
     let come = c.lines.invariant.come start s first in
     let shape = c.shape-shape.ensures ∙ sym c.lines.invariant.shape ∙ come.is_at.link_at.shape in
-    ends_answered g.V.Shelf.cloud_at (record { given = c.law_of_acknowledged.ensures.given; kept = c.law_of_acknowledged.ensures.kept; private = c.law_of_own_replies.ensures })
+    ends_answered g.V.Shelf.cloud_at (record { given = c.law_of_acknowledged.ensures.given; more = c.law_of_acknowledged.ensures.more; kept = c.law_of_acknowledged.ensures.kept; private = c.law_of_own_replies.ensures })
     start s c.lines.link c.lines.jobs c.lines.reader (g.S.Source.left c.lines.source) (g.S.Source.faults c.lines.source) (g.K.Sink.written c.lines.sink) (g.K.Sink.faults c.lines.sink) c.lines.events come
     c.answer_line-answered.new.link c.in-Ok-Some.event c.next_event-next.new.reader (g.S.Source.left c.next_event-next.new.source) (g.S.Source.faults c.next_event-next.new.source)
     (can_at c.shape-shape.result s.shape c.len.result (length c.lines.jobs) c.in-Ok-Some.field-0 c.in-Ok-Some.event shape c.len.ensures c.in-Ok-Some.field-0-is c.in-Ok-Some.ensures.can)
@@ -120,7 +120,7 @@ pub returns-in-Err-clause-replays : goal.returns-in-Err-clause-replays
 returns-in-Err-clause-replays g c = λ start s first.
     let come = c.lines.invariant.come start s first in
     let shape = c.shape-shape.ensures ∙ sym c.lines.invariant.shape ∙ come.is_at.link_at.shape in
-    ends_reading g.V.Shelf.cloud_at (record { given = c.law_of_acknowledged.ensures.given; kept = c.law_of_acknowledged.ensures.kept; private = c.law_of_own_replies.ensures })
+    ends_reading g.V.Shelf.cloud_at (record { given = c.law_of_acknowledged.ensures.given; more = c.law_of_acknowledged.ensures.more; kept = c.law_of_acknowledged.ensures.kept; private = c.law_of_own_replies.ensures })
     start s c.lines.link c.lines.jobs c.lines.reader (g.S.Source.left c.lines.source) (g.S.Source.faults c.lines.source) (g.K.Sink.written c.lines.sink) (g.K.Sink.faults c.lines.sink) c.lines.events come
     (g.V.Shelf.faults c.lines.link.shelf.now) (λ cloud told. g.met.V.Shelf.reads_image c.lines.link.shelf.now cloud told)
     c.in-Err.end (g.S.Source.left c.next_event-next.new.source) (g.S.Source.faults c.next_event-next.new.source)
@@ -131,7 +131,7 @@ pub returns-in-Ok-write_one-clause-replays : goal.returns-in-Ok-write_one-clause
 returns-in-Ok-write_one-clause-replays g c = λ start s first.
     let come = c.lines.invariant.come start s first in
     let shape = c.shape-shape.ensures ∙ sym c.lines.invariant.shape ∙ come.is_at.link_at.shape in
-    ends_done g.V.Shelf.cloud_at (record { given = c.law_of_acknowledged.ensures.given; kept = c.law_of_acknowledged.ensures.kept; private = c.law_of_own_replies.ensures })
+    ends_done g.V.Shelf.cloud_at (record { given = c.law_of_acknowledged.ensures.given; more = c.law_of_acknowledged.ensures.more; kept = c.law_of_acknowledged.ensures.kept; private = c.law_of_own_replies.ensures })
     start s c.lines.link c.lines.jobs c.lines.reader (g.S.Source.left c.lines.source) (g.S.Source.faults c.lines.source) (g.K.Sink.written c.lines.sink) (g.K.Sink.faults c.lines.sink) c.lines.events come
     (g.V.Shelf.faults c.lines.link.shelf.now) (λ cloud told. g.met.V.Shelf.reads_image c.lines.link.shelf.now cloud told)
     (g.S.Source.left c.next_event-next.new.source) (g.S.Source.faults c.next_event-next.new.source) (g.K.Sink.written c.write_one.new.sink) (g.K.Sink.faults c.write_one.new.sink)
@@ -143,7 +143,7 @@ pub returns-clause-replays : goal.returns-clause-replays
 returns-clause-replays g c = λ start s first.
     let come = c.lines.invariant.come start s first in
     let shape = c.shape-shape.ensures ∙ sym c.lines.invariant.shape ∙ come.is_at.link_at.shape in
-    ends_writing g.V.Shelf.cloud_at (record { given = c.law_of_acknowledged.ensures.given; kept = c.law_of_acknowledged.ensures.kept; private = c.law_of_own_replies.ensures })
+    ends_writing g.V.Shelf.cloud_at (record { given = c.law_of_acknowledged.ensures.given; more = c.law_of_acknowledged.ensures.more; kept = c.law_of_acknowledged.ensures.kept; private = c.law_of_own_replies.ensures })
     start s c.lines.link c.lines.jobs c.lines.reader (g.S.Source.left c.lines.source) (g.S.Source.faults c.lines.source) (g.K.Sink.written c.lines.sink) (g.K.Sink.faults c.lines.sink) c.lines.events come
     (g.V.Shelf.faults c.lines.link.shelf.now) (λ cloud told. g.met.V.Shelf.reads_image c.lines.link.shelf.now cloud told)
     c.in-Err-write_one.end (g.S.Source.left c.next_event-next.new.source) (g.S.Source.faults c.next_event-next.new.source) (g.K.Sink.written c.write_one.new.sink) (g.K.Sink.faults c.write_one.new.sink)

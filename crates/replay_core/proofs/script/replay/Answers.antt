@@ -17,7 +17,7 @@ returns-in_default g c =
       total = g.V.Shelf.faults c.args.shelf.now;
       written = g.K.Sink.written c.args.sink.now;
     } in
-    ends_first ends.NoMemory (record { given = c.law_of_acknowledged.ensures.given; kept = c.law_of_acknowledged.ensures.kept; private = c.law_of_own_replies.ensures })
+    ends_first ends.NoMemory (record { given = c.law_of_acknowledged.ensures.given; more = c.law_of_acknowledged.ensures.more; kept = c.law_of_acknowledged.ensures.kept; private = c.law_of_own_replies.ensures })
     start (g.S.Source.left c.args.source.now) (g.S.Source.faults c.args.source.now) (g.K.Sink.faults c.args.sink.now) (g.V.Shelf.faults c.args.shelf.now)
     (g.V.Shelf.cloud_at c.args.shelf.now) (g.K.Sink.written c.args.sink.now) (λ cloud. refl) refl refl tt
 
@@ -31,7 +31,7 @@ returns-in-Err g c =
       total = g.V.Shelf.faults c.args.shelf.now;
       written = g.K.Sink.written c.args.sink.now;
     } in
-    ends_first c.in-Err.end (record { given = c.law_of_acknowledged.ensures.given; kept = c.law_of_acknowledged.ensures.kept; private = c.law_of_own_replies.ensures })
+    ends_first c.in-Err.end (record { given = c.law_of_acknowledged.ensures.given; more = c.law_of_acknowledged.ensures.more; kept = c.law_of_acknowledged.ensures.kept; private = c.law_of_own_replies.ensures })
     start (g.S.Source.left c.first_line.new.source) (g.S.Source.faults c.first_line.new.source) (g.K.Sink.faults c.args.sink.now) (g.V.Shelf.faults c.args.shelf.now)
     (g.V.Shelf.cloud_at c.args.shelf.now) (g.K.Sink.written c.args.sink.now) (λ cloud. refl) refl refl c.in-Err.ensures.end
 
@@ -50,7 +50,7 @@ returns-in-Err-empty_clouds g c =
       rooms = c.in-Ok-first_line.header.1;
       told = λ cloud. (g.V.Shelf.cloud_at c.args.shelf.now cloud).told;
     } in
-    ends_closed (record { given = c.law_of_acknowledged.ensures.given; kept = c.law_of_acknowledged.ensures.kept; private = c.law_of_own_replies.ensures })
+    ends_closed (record { given = c.law_of_acknowledged.ensures.given; more = c.law_of_acknowledged.ensures.more; kept = c.law_of_acknowledged.ensures.kept; private = c.law_of_own_replies.ensures })
     start s c.first_line.new.reader (g.S.Source.left c.first_line.new.source) (g.S.Source.faults c.first_line.new.source) (g.K.Sink.faults c.args.sink.now) (g.V.Shelf.faults c.empty_clouds.new.shelf)
     (g.V.Shelf.cloud_at c.empty_clouds.new.shelf) (g.K.Sink.written c.args.sink.now) (λ cloud. refl) c.in-Ok-first_line.ensures.header c.in-Err-empty_clouds.ensures.prepares refl refl
     c.in-Err-empty_clouds.end c.in-Err-empty_clouds.ensures.end
@@ -70,7 +70,7 @@ returns-in_default-make g c =
       rooms = c.in-Ok-first_line.header.1;
       told = λ cloud. (g.V.Shelf.cloud_at c.args.shelf.now cloud).told;
     } in
-    ends_unmade (record { given = c.law_of_acknowledged.ensures.given; kept = c.law_of_acknowledged.ensures.kept; private = c.law_of_own_replies.ensures })
+    ends_unmade (record { given = c.law_of_acknowledged.ensures.given; more = c.law_of_acknowledged.ensures.more; kept = c.law_of_acknowledged.ensures.kept; private = c.law_of_own_replies.ensures })
     start s c.first_line.new.reader (g.S.Source.left c.first_line.new.source) (g.S.Source.faults c.first_line.new.source) (g.K.Sink.faults c.args.sink.now) (g.V.Shelf.faults c.empty_clouds.new.shelf)
     (g.V.Shelf.cloud_at c.empty_clouds.new.shelf) (g.K.Sink.written c.args.sink.now) (λ cloud. refl) c.in-Ok-first_line.ensures.header
     (all_same s.shape start.old (g.V.Shelf.cloud_at c.empty_clouds.new.shelf) c.in-Ok-empty_clouds.ensures.same) refl refl

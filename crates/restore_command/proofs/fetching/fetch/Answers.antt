@@ -34,13 +34,12 @@ returns-in-Ok-restore_greeted-clause-fetches g c =
         greets = subst (λ (l : List ℕ). GreetsAll asked.Restore l opened behind (Ok greeted)) c.as_slice.ensures.value
             c.in-Ok-greet_all.ensures.greets;
       };
-      brought = c.in-Ok-restore_greeted.ensures.brought;
-      fetched = λ told.
-          let then_told : IsTrue opened.told = subst IsTrue (sym c.in-Ok-dial_all.ensures.told) told in
-          c.in-Ok-restore_greeted.ensures.said (subst IsTrue (sym c.in-Ok-greet_all.ensures.told) then_told)
-          (c.in-Ok-greet_all.ensures.talks then_told
-          (rw c.as_slice.ensures.value (c.in-Ok-dial_all.ensures.fresh told)))
-          call refl refl refl refl;
+      came = c.in-Ok-restore_greeted.ensures.came call refl refl refl refl (λ told.
+          let then_told : IsTrue opened.told = subst IsTrue (sym c.in-Ok-dial_all.ensures.told) told in (
+            subst IsTrue (sym c.in-Ok-greet_all.ensures.told) then_told,
+            c.in-Ok-greet_all.ensures.talks then_told
+                (rw c.as_slice.ensures.value (c.in-Ok-dial_all.ensures.fresh told)),
+          ));
     }
 
 pub returns-clause-fetches : goal.returns-clause-fetches
@@ -74,9 +73,9 @@ returns-clause-fetches g c =
     c.in-Err-restore_greeted.ensures.named
     (λ yes. subst (λ (n : ℕ). Rose n (faults c.restore_greeted.new.ports))
     (c.in-Ok-greet_all.ensures.cause ∙ c.in-Ok-dial_all.ensures.cause) (c.in-Err-restore_greeted.ensures.lost yes))
-    (λ told.
-    let then_told : IsTrue opened.told = subst IsTrue (sym c.in-Ok-dial_all.ensures.told) told in
-    c.in-Err-restore_greeted.ensures.said (subst IsTrue (sym c.in-Ok-greet_all.ensures.told) then_told)
-    (c.in-Ok-greet_all.ensures.talks then_told
-    (rw c.as_slice.ensures.value (c.in-Ok-dial_all.ensures.fresh told)))
-    call refl refl refl refl)
+    (c.in-Err-restore_greeted.ensures.came call refl refl refl refl (λ told.
+    let then_told : IsTrue opened.told = subst IsTrue (sym c.in-Ok-dial_all.ensures.told) told in (
+      subst IsTrue (sym c.in-Ok-greet_all.ensures.told) then_told,
+      c.in-Ok-greet_all.ensures.talks then_told
+          (rw c.as_slice.ensures.value (c.in-Ok-dial_all.ensures.fresh told)),
+    )))

@@ -1,4 +1,4 @@
-use Rattle.std.proofs.Common.{rules, ◌≡◌, ◌≤◌, ◌<◌, ℕ, List, IsTrue, IfErr, [], sym, ap, ◌∙◌, subst}
+use Rattle.std.proofs.Common.{rules, ◌≡◌, ◌≤◌, ◌<◌, ℕ, List, IsTrue, IfErr, sym, ap, ◌∙◌, subst}
 use Rattle.std.specs.Prelude.{All}
 use Rattle.std.specs.List.{Contains}
 use Rattle.cd_edges.specs.Causes.{Rose}
@@ -6,27 +6,29 @@ use Rattle.hellos.specs.Hellos.{HaveTalks, clouds_of}
 use Rattle.ports_link.specs.declared.lines.Line.{Line}
 use Rattle.ports_link.specs.declared.link.PortsLink.{PortsLink}
 use Rattle.ports_link.specs.Lines.{lines_for}
-use Rattle.ports_link.specs.Tells.{HasTalk}
-use Rattle.restore_job.specs.Exchanges.{RestoreSaid, Unlost}
+use Rattle.ports_link.specs.Tells.{HasTalk, telling}
+use Rattle.subset_restore.specs.Ends.{AnyEnds}
+use Rattle.subset_restore.specs.Going.{sought}
 use Rattle.restore_job.specs.Refusals.{Names}
-use Rattle.restore_command.specs.Calls.{ports_of, tag_in}
-use Rattle.restore_command.specs.Came.{Says}
+use Rattle.restore_command.specs.Calls.{ports_of}
+use Rattle.restore_command.specs.Tried.{CameBy}
+use Rattle.restore_command.proofs.Coming.{came_by}
 use Rattle.restore_command.proofs.Passing.{AreOn, kept, others}
 use Rattle.restore_command.proofs.Lines.{few_clouds, lines_reach, on_ports}
-use Rattle.restore_command.proofs.Saying.{at_call, says_by}
+use Rattle.restore_command.proofs.Saying.{at_call}
 use Rattle.restore_command.proofs.greeted.restore_greeted.Goals as goal
 
 pub returns-clause-named : goal.returns-clause-named
 returns-clause-named g c =
-    subst (λ (l : List ℕ). IfErr c.restore-came.result (Names (Contains l)))
-    (c.in-Ok.ensures ∙ ap clouds_of c.as_slice.ensures.value) c.restore-came.ensures.named
+    subst (λ (l : List ℕ). IfErr c.restore_any-came.result (Names (Contains l)))
+    (c.in-Ok.ensures ∙ ap clouds_of c.as_slice.ensures.value) c.restore_any-came.ensures.named
 
 pub returns-clause-lost : goal.returns-clause-lost
 returns-clause-lost g c = λ yes.
     let faults = g.P.Ports.faults in
     let old = c.of-link.result in
-    let new = c.restore-came.new.link in
-    let asked = c.restore-came.ensures.asked in
+    let new = c.restore_any-came.new.link in
+    let asked = c.restore_any-came.ensures.asked in
     let same : new.ports.ghost_name ≡ old.ports.ghost_name =
     (kept g.P.Ports.tells faults _ asked.asks old new asked.passed).same_reference in
     let back : new.ports.now ≡ c.ports-1.given.0 = search rules in
@@ -37,8 +39,8 @@ pub returns-clause-later : goal.returns-clause-later
 returns-clause-later g c =
     let faults = g.P.Ports.faults in
     let old = c.of-link.result in
-    let new = c.restore-came.new.link in
-    let asked = c.restore-came.ensures.asked in
+    let new = c.restore_any-came.new.link in
+    let asked = c.restore_any-came.ensures.asked in
     let same : new.ports.ghost_name ≡ old.ports.ghost_name =
     (kept g.P.Ports.tells faults _ asked.asks old new asked.passed).same_reference in
     let back : new.ports.now ≡ c.ports-1.given.0 = search rules in
@@ -49,8 +51,8 @@ pub returns-clause-told : goal.returns-clause-told
 returns-clause-told g c =
     let tells = g.P.Ports.tells in
     let old = c.of-link.result in
-    let new = c.restore-came.new.link in
-    let asked = c.restore-came.ensures.asked in
+    let new = c.restore_any-came.new.link in
+    let asked = c.restore_any-came.ensures.asked in
     let k = kept tells g.P.Ports.faults _ asked.asks old new asked.passed in
     let same : new.ports.ghost_name ≡ old.ports.ghost_name = k.same_reference in
     let back : new.ports.now ≡ c.ports-1.given.0 = search rules in
@@ -61,8 +63,8 @@ pub returns-clause-others : goal.returns-clause-others
 returns-clause-others g c = λ told port not.
     let tells = g.P.Ports.tells in
     let old = c.of-link.result in
-    let new = c.restore-came.new.link in
-    let asked = c.restore-came.ensures.asked in
+    let new = c.restore_any-came.new.link in
+    let asked = c.restore_any-came.ensures.asked in
     let items = c.args.greeted.now.lines.items in
     let same : new.ports.ghost_name ≡ old.ports.ghost_name =
     (kept tells g.P.Ports.faults _ asked.asks old new asked.passed).same_reference in
@@ -81,18 +83,19 @@ returns-clause-others g c = λ told port not.
     (subst (λ (l : List Line). AreOn l (clouds_of items) (ports_of items)) (sym lines) on)) port not
     ∙ ap (λ (p : g.row.P.Denot). (tells p).port port) c.of-link.ensures.ports
 
-pub returns-clause-said : goal.returns-clause-said
-returns-clause-said g c = λ told talks call user path version after.
+pub returns-clause-came : goal.returns-clause-came
+returns-clause-came g c = λ call user path version after speak.
     let tells = g.P.Ports.tells in
+    let faults = g.P.Ports.faults in
     let old = c.of-link.result in
-    let new = c.restore-came.new.link in
-    let asked = c.restore-came.ensures.asked in
-    let result = c.restore-came.result in
-    let file = c.restore-came.new.out in
+    let new = c.restore_any-came.new.link in
+    let asked = c.restore_any-came.ensures.asked in
+    let result = c.restore_any-came.result in
+    let file = c.restore_any-came.new.out in
     let greeted = c.args.greeted.now in
     let items = greeted.lines.items in
-    let k = kept tells g.P.Ports.faults _ asked.asks old new asked.passed in
-    let same : new.ports.ghost_name ≡ old.ports.ghost_name = k.same_reference in
+    let same : new.ports.ghost_name ≡ old.ports.ghost_name =
+    (kept tells faults _ asked.asks old new asked.passed).same_reference in
     let back : new.ports.now ≡ c.ports-1.given.0 = search rules in
     let named : c.in-Ok.clouds ≡ clouds_of items = c.in-Ok.ensures ∙ ap clouds_of c.as_slice.ensures.value in
     let lines : old.lines.items.items ≡ lines_for items =
@@ -101,24 +104,15 @@ returns-clause-said g c = λ told talks call user path version after.
     let few : All (λ cloud. cloud < 256) (clouds_of items) = few_clouds greeted.shape items
     c.requires.clouds.2 greeted.shape.few in
     let reach = lines_reach items few c.requires.clouds.1 in
-    let on = on_ports (lines_for items) items reach in
-    let told_old = subst (λ (p : g.row.P.Denot). IsTrue (tells p).told) (sym c.of-link.ensures.ports) told in
-    let on_old = subst (λ (l : List ℕ). AreOn old.lines.items.items l (ports_of items)) (sym named)
-    (subst (λ (l : List Line). AreOn l (clouds_of items) (ports_of items)) (sym lines) on) in
     let talk = λ (l : PortsLink g.row.P.Denot) (cloud : ℕ). HasTalk (tells l.ports.now) l.lines.items.items cloud in
-    let said : Unlost result (RestoreSaid talk old new greeted.shape c.args.user (tag_in greeted.shape c.args.path.now)
-    c.args.version c.in-Ok.clouds c.args.file.now file result) = c.restore-came.ensures.said in
-    subst (λ (p : g.row.P.Denot). Says call greeted (tells p) result file) c.of-link.ensures.ports
-    (says_by (λ (l : PortsLink g.row.P.Denot). tells l.ports.now) (λ l. l.lines.items.items) old new greeted lines
-    k.lines
-    (λ port not. others tells g.P.Ports.faults c.in-Ok.clouds (ports_of items) asked.asks old new asked.passed told_old
-    on_old port not)
-    (subst (λ (p : g.row.P.Denot). HaveTalks (tells p) items) (sym c.of-link.ensures.ports) talks) reach
-    c.requires.clouds.1 call (ap tells back ∙ sym after) result file
-    (at_call (λ u p v. Unlost result (RestoreSaid talk old new greeted.shape u (tag_in greeted.shape p) v
-    (clouds_of items)
-    [] file result)) call c.args.user c.args.path.now c.args.version user path version
-    (subst (λ (l : List ℕ). Unlost result (RestoreSaid talk old new greeted.shape c.args.user
-    (tag_in greeted.shape c.args.path.now) c.args.version l [] file result)) named
-    (subst (λ (l : List ℕ). Unlost result (RestoreSaid talk old new greeted.shape c.args.user
-    (tag_in greeted.shape c.args.path.now) c.args.version c.in-Ok.clouds l file result)) c.requires.empty said))))
+    subst (λ (p : g.row.P.Denot). CameBy call greeted (tells p) result file) c.of-link.ensures.ports
+    (came_by tells faults old greeted call c.args.file.now c.requires.empty lines reach c.requires.clouds.1
+    (λ told.
+    let s = speak told in (
+      subst (λ (p : g.row.P.Denot). IsTrue (tells p).told) (sym c.of-link.ensures.ports) s.0,
+      subst (λ (p : g.row.P.Denot). HaveTalks (tells p) items) (sym c.of-link.ensures.ports) s.1,
+    )) new (ap tells back ∙ sym after) result file
+    (at_call (λ u p v. AnyEnds (telling tells faults) talk (sought greeted.shape u p v (clouds_of items)) old new
+    c.args.file.now file result) call c.args.user c.args.path.now c.args.version user path version
+    (subst (λ (l : List ℕ). AnyEnds (telling tells faults) talk (sought greeted.shape c.args.user c.args.path.now
+    c.args.version l) old new c.args.file.now file result) named c.restore_any-came.ensures.restored)))

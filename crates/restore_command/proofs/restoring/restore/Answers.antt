@@ -1,7 +1,7 @@
 use Rattle.std.proofs.Common.{ℕ, List, inl, inr, refl, subst}
 use Rattle.hellos.specs.Refusals.{refused_text}
 use Rattle.restore_lines.specs.Refusals.{refusal_text}
-use Rattle.restore_command.specs.Ends.{Gives, Refuses, Writes}
+use Rattle.restore_command.specs.Ends.{Fails, Gives, Refuses, Writes}
 use Rattle.restore_command.proofs.restoring.restore.Goals as goal
 
 pub returns-in-Ok-clause-fetched : goal.returns-in-Ok-clause-fetched
@@ -22,3 +22,8 @@ returns-in-Err-Refused-clause-fetched g c =
     let why = c.in-Err-Refused.why in
     let refused = rw c.in-Err-Refused.field-0-is at c.in-Err-Refused.ensures.fetches in
     Refuses (refusal_text why) (inr (refused.0, why, refused.1, refused.2, refl)) c.write_refusal.ensures
+
+pub returns-in-Err-Lost-clause-fetched : goal.returns-in-Err-Lost-clause-fetched
+returns-in-Err-Lost-clause-fetched g c =
+    let lost = rw c.in-Err-Lost.field-0-is at c.in-Err-Lost.ensures.fetches in
+    Fails refl lost.0 lost.1 refl refl

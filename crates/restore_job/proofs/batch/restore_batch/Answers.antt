@@ -13,6 +13,7 @@ use Rattle.std.proofs.Common.{Result}
 use Rattle.restore_job.specs.declared.error.RestoreErr.{RestoreErr}
 use Rattle.restore_job.specs.Exchanges.{BatchOpened, BatchUnread}
 use Rattle.restore_job.proofs.Speaking.{unlost, unlost_as}
+use Rattle.restore_job.proofs.Beside.{lost_spoken}
 use Rattle.restore_job.proofs.batch.restore_batch.Goals as goal
 
 abbrev bad : RestoreErr → Result (Unit {0}) RestoreErr
@@ -66,3 +67,8 @@ returns-in-Err-clause-said g c =
     unlost_as Unit Unit c.in-Err.e _ _
     (λ said. (said.0, said.1, BatchUnread c.clear.new.self c.fetch_batch.new.rooms said.0 c.args.out.now c.in-Err.e (λ j lt. c.clear.ensures.empty j (let room = c.requires.room in omega arith)) said.2))
     c.in-Err.ensures.said
+
+pub returns-in-Err-open_batch-clause-beside : goal.returns-in-Err-open_batch-clause-beside
+returns-in-Err-open_batch-clause-beside g c =
+    let said = c.in-Ok.ensures.said in
+    lost_spoken g.L.Link.talk c.args.link.now c.fetch_batch.new.link said.0 (bad c.in-Err-open_batch.e) said.1

@@ -7,6 +7,7 @@ use Rattle.restore_job.proofs.Bringing.{extends_none, extends_on}
 use Rattle.restore_job.proofs.Taking.{grows_on, grows_none}
 use Rattle.restore_job.proofs.Ending.{restoring_none, restoring_more, restoring_stops, restoring_all}
 use Rattle.restore_job.proofs.Speaking.{unlost_as, items_none, items_more, items_end, items_stop}
+use Rattle.restore_job.proofs.Beside.{lost_on}
 use Rattle.restore_job.proofs.batch.restore_items.Goals as goal
 
 pub returns-in-Err-clause-told : goal.returns-in-Err-clause-told
@@ -66,3 +67,9 @@ returns-in-Err-restore_batch-clause-said g c =
     (items_stop g.L.Link.talk c.args.shape c.args.user c.args.clouds.now c.args.points.now c.args.firsts.now c.args.recipes.now c.args.link.now c.loop-place.link c.restore_batch.new.link c.loop-place.place c.size_of-count.result
     c.args.out.now c.loop-place.out c.restore_batch.new.out c.in-Err-restore_batch.e c.loop-place-test.true c.size_of-count.ensures c.loop-place.invariant.said)
     c.in-Err-restore_batch.ensures.said
+
+pub returns-in-Err-restore_batch-clause-beside : goal.returns-in-Err-restore_batch-clause-beside
+returns-in-Err-restore_batch-clause-beside g c =
+    let said = c.loop-place.invariant.said in
+    lost_on g.L.Link.talk (Unit {0}) (Unit {0}) c.args.link.now c.loop-place.link c.restore_batch.new.link said.log
+    c.in-Err-restore_batch.e said.spoken c.in-Err-restore_batch.ensures.beside

@@ -14,6 +14,7 @@ use Rattle.restore_job.proofs.Batches.{batch_none, batch_more, batch_stops, batc
 use Rattle.restore_job.specs.Asking.{Asked, is_loss}
 use Rattle.restore_job.proofs.Leading.{asked_on, asked_in, asked_at}
 use Rattle.restore_job.proofs.Speaking.{unlost_as, batch_said_none, batch_said_one, batch_said_stop}
+use Rattle.restore_job.proofs.Beside.{lost_on}
 use Rattle.restore_job.proofs.fetching.+fetch_batch.Goals as goal
 
 pub returns-in_default-clause-told : goal.returns-in_default-clause-told
@@ -125,3 +126,9 @@ returns-in-Err-fetch_batch-clause-said g t c =
     (batch_said_one g.L.Link.talk c.args.shape c.args.user c.args.firsts.now c.args.place c.args.count c.args.link.now c.fetch_shares.new.link c.fetch_batch.new.link c.args.clouds.now c.args.recipes.now
     c.in-Some.cloud c.in-Some.more.now c.in-Some.recipe.now c.in-Some.rest.now c.args.rooms.now c.fetch_shares.new.rooms c.fetch_batch.new.rooms (Err c.in-Err-fetch_batch.e) c.in-Some.ensures.clouds c.in-Some.ensures.recipes
     c.in-Ok.ensures.said) c.in-Err-fetch_batch.ensures.said
+
+pub returns-in-Err-fetch_batch-clause-beside : goal.returns-in-Err-fetch_batch-clause-beside
+returns-in-Err-fetch_batch-clause-beside g t c =
+    let one = c.in-Ok.ensures.said in
+    lost_on g.L.Link.talk (Unit {0}) (Unit {0}) c.args.link.now c.fetch_shares.new.link c.fetch_batch.new.link
+    (one.0 ∷ []) c.in-Err-fetch_batch.e one.1 c.in-Err-fetch_batch.ensures.beside

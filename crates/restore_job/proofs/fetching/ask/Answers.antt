@@ -1,6 +1,7 @@
 use Rattle.std.proofs.Common.{arith, refl, Some, None, true, false, ◌≡◌}
 use Rattle.user_dedup.proofs.Asked.{asked_law}
 use Rattle.restore_job.proofs.Leading.{asked_once}
+use Rattle.restore_job.proofs.Beside.{beside_ask}
 use Rattle.restore_job.proofs.fetching.ask.Goals as goal
 
 pub returns-in-Ok-clause-exec : goal.returns-in-Ok-clause-exec
@@ -22,3 +23,7 @@ returns-in-Err-clause-asked g c =
     let e = c.in-Err.ensures in
     asked_once g.L.Link.tells c.args.link.now c.ask.new.self (record { cloud = c.args.cloud.0; content = c.args.request.now; reply = None }) true c.requires.reading e.passes e.others e.later
     (λ q. e.lost) (λ h. absurd (let f : false ≡ true = (e.lossless h).0 in cc))
+
+pub returns-in-Err-clause-beside : goal.returns-in-Err-clause-beside
+returns-in-Err-clause-beside g c =
+    beside_ask g.L.Link.talk c.args.link.now c.ask.new.self c.args.cloud.0 c.in-Err.ensures.says_else

@@ -1,4 +1,4 @@
-use Rattle.std.proofs.Common.{◌≡◌, List, ℕ, Result, Ok, Err, refl, sym, subst}
+use Rattle.std.proofs.Common.{◌≡◌, List, [], ◌∷◌, ℕ, Result, Ok, Err, refl, sym, subst}
 use Rattle.std.specs.Prelude.{IfErr}
 use Rattle.cd_base.specs.declared.ids.CloudNo.{CloudNo}
 use Rattle.cd_base.specs.declared.shape.Shape.{Shape}
@@ -15,6 +15,8 @@ use Rattle.restore_job.specs.declared.error.RestoreErr.TheVariants as errors
 use Rattle.restore_job.proofs.Causing.{FaultRose, recipe_names, recipe_caused}
 use Rattle.restore_job.proofs.Leading.{one_step}
 use Rattle.restore_job.proofs.Held.{recipe_moves, lost_moves, lost_recipe, error_is}
+use Rattle.restore_job.specs.Exchanges.{Exchange}
+use Rattle.restore_job.proofs.Beside.{lost_as, lost_spoken}
 use Rattle.restore_job.proofs.fetching.fetch_recipe.Goals as goal
 
 names : (shape : Shape) (cloud : CloudNo) (content : List ℕ) (res : Result Recipe RestoreErr) → RecipeFrom shape cloud (reply_at content) res → IfErr res (Names (λ x. x ≡ cloud.0))
@@ -59,3 +61,12 @@ returns-in-Ok-clause-said g c = unlost c.recipe_from.result _ (
     kind = subst (λ (l : List ℕ). NamesKind l c.recipe_from.result) c.content.ensures.value c.recipe_from.ensures.kind;
   },
 )
+
+pub returns-in-Ok-clause-beside : goal.returns-in-Ok-clause-beside
+returns-in-Ok-clause-beside g c =
+    let x : Exchange = record { cloud = c.args.cloud.0; request = c.args.request.now; reply = c.ask.new.reply } in
+    lost_spoken g.L.Link.talk c.args.link.now c.ask.new.link (x ∷ []) c.recipe_from.result c.in-Ok.ensures.spoken
+
+pub returns-in-Err-clause-beside : goal.returns-in-Err-clause-beside
+returns-in-Err-clause-beside g c =
+    lost_as g.L.Link.talk (Unit {0}) Recipe c.args.link.now c.ask.new.link c.in-Err.e c.in-Err.ensures.beside

@@ -7,6 +7,7 @@ use Rattle.restore_job.proofs.Asks.{Fetched, fetched_none, fetched_more, fetched
 use Rattle.restore_job.proofs.Leading.{asked_on, asked_at}
 use Rattle.cd_base.specs.declared.ids.CloudNo.{CloudNo}
 use Rattle.restore_job.proofs.Speaking.{SaidAlong, along_none, along_more, along_end, stops_unlost}
+use Rattle.restore_job.proofs.Beside.{lost_on}
 use Rattle.restore_job.proofs.fetching.fetch_recipes.Goals as goal
 use Rattle.cd_base.specs.Numbers.{numbers_of}
 
@@ -87,3 +88,8 @@ returns-in-Err-clause-said g c =
     stops_unlost g.L.Link.talk c.args.shape c.args.request.now c.args.clouds.now c.args.link.now c.clouds.link c.fetch_recipe.new.link c.in-Some.cloud c.in-Some.more.now c.clouds.recipes c.in-Err.e
     (subst (λ (l : List CloudNo). SaidAlong g.L.Link.talk c.args.shape c.args.request.now c.args.clouds.now l c.args.link.now c.clouds.link c.clouds.recipes) c.in-Some.ensures c.clouds.invariant.said)
     c.in-Err.ensures.said
+
+pub returns-in-Err-clause-beside : goal.returns-in-Err-clause-beside
+returns-in-Err-clause-beside g c =
+    lost_on g.L.Link.talk Recipe (List Recipe) c.args.link.now c.clouds.link c.fetch_recipe.new.link
+    c.clouds.invariant.said.log c.in-Err.e c.clouds.invariant.said.spoken c.in-Err.ensures.beside

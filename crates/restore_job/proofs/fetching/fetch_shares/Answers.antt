@@ -1,4 +1,4 @@
-use Rattle.std.proofs.Common.{◌≡◌, ◌+◌, ◌≤◌, ℕ, List, length, Result, Ok, Err, refl, sym, subst, arith}
+use Rattle.std.proofs.Common.{◌≡◌, ◌+◌, ◌≤◌, ℕ, List, [], ◌∷◌, length, Result, Ok, Err, refl, sym, subst, arith}
 use Rattle.std.specs.Prelude.{IfErr}
 use Rattle.cd_base.specs.declared.ids.CloudNo.{CloudNo}
 use Rattle.cd_base.specs.declared.shape.Shape.{Shape}
@@ -17,6 +17,8 @@ use Rattle.restore_job.proofs.Bringing.{taken_came}
 use Rattle.restore_job.proofs.Causing.{shares_names, takes_names}
 use Rattle.restore_job.proofs.Held.{error_is}
 use Rattle.restore_job.proofs.Sharing.{part, shares_taken, shares_unread, shares_lost, shares_unasked}
+use Rattle.restore_job.specs.Exchanges.{Exchange}
+use Rattle.restore_job.proofs.Beside.{lost_spoken}
 use Rattle.restore_job.proofs.fetching.fetch_shares.Goals as goal
 
 abbrev bad : RestoreErr → Result (Unit {0}) RestoreErr
@@ -117,3 +119,14 @@ returns-in-Ok-ask-clause-said g c =
         taken = refl;
       },
     )
+
+pub returns-in-Ok-shares_from-clause-beside : goal.returns-in-Ok-shares_from-clause-beside
+returns-in-Ok-shares_from-clause-beside g c =
+    let x : Exchange = record { cloud = c.args.cloud.0; request = c.as_slice.result.now; reply = c.ask.new.reply } in
+    lost_spoken g.L.Link.talk c.args.link.now c.ask.new.link (x ∷ []) c.take_shares.result c.in-Ok-ask.ensures.spoken
+
+pub returns-in-Ok-ask-clause-beside : goal.returns-in-Ok-ask-clause-beside
+returns-in-Ok-ask-clause-beside g c =
+    let x : Exchange = record { cloud = c.args.cloud.0; request = c.as_slice.result.now; reply = c.ask.new.reply } in
+    lost_spoken g.L.Link.talk c.args.link.now c.ask.new.link (x ∷ []) (bad c.in-Err-shares_from.e)
+    c.in-Ok-ask.ensures.spoken

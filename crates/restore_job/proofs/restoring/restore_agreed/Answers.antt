@@ -23,6 +23,7 @@ use Rattle.restore_job.specs.declared.error.RestoreErr.{RestoreErr}
 use Rattle.restore_job.specs.Steps.{Compares}
 use Rattle.restore_job.specs.Exchanges.{Exchange, AgreedRun, NothingAsked, Differ, Compared, ItemsRun}
 use Rattle.restore_job.proofs.Speaking.{unlost, unlost_as, spoken_none}
+use Rattle.restore_job.proofs.Beside.{lost_spoken}
 use Rattle.restore_job.proofs.restoring.restore_agreed.Goals as goal
 
 abbrev bad : RestoreErr → Result (Unit {0}) RestoreErr
@@ -149,3 +150,8 @@ returns-clause-said g c =
       items_said c.args.shape c.args.user c.args.clouds.now c.in-Some.others.now c.in-Some.first c.in-Some.recipe.now c.in-Some.rest.now c.args.recipes.now _ _ said.0 c.args.out.now c.restore_items.new.out (Err c.in-Err-restore_items.e)
           c.in-Some.ensures.clouds c.in-Some.ensures.recipes (search rules) c.as_slice-firsts.ensures c.in-Ok.ensures.compares said.2,
     )) c.in-Err-restore_items.ensures.said
+
+pub returns-in-Err-clause-beside : goal.returns-in-Err-clause-beside
+returns-in-Err-clause-beside g c =
+    let link = c.args.link.now in
+    lost_spoken g.L.Link.talk link link [] (bad c.in-Err.e) (spoken_none g.L.Link.talk link)

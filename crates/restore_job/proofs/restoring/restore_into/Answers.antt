@@ -12,6 +12,7 @@ use Rattle.restore_job.proofs.Leading.{asked_on}
 use Rattle.std.proofs.Common.{◌++◌}
 use Rattle.restore_job.specs.Exchanges.{AgreedRun, HasRecipes, NoRecipes}
 use Rattle.restore_job.proofs.Speaking.{unlost_as, spoken_twice}
+use Rattle.restore_job.proofs.Beside.{lost_as, lost_on}
 use Rattle.restore_job.proofs.restoring.restore_into.Goals as goal
 
 pub returns-in-Err-clause-restored : goal.returns-in-Err-clause-restored
@@ -90,3 +91,14 @@ returns-clause-said g c =
     let asks = subst (λ (l : List ℕ). IsRequest l (requests.GetRecipe c.args.user (record { 0 = tag_at c.args.shape c.args.path.now }) c.args.version)) (sym c.as_slice.ensures) c.in-Ok.ensures.asks in
     unlost_as (List Recipe) Unit c.in-Err-fetch_recipes.e _ _
     (λ one. (one.0, one.1, NoRecipes c.as_slice.result.now one.0 c.args.out.now c.in-Err-fetch_recipes.e asks one.2)) c.in-Err-fetch_recipes.ensures.said
+
+pub returns-in-Ok-fetch_recipes-clause-beside : goal.returns-in-Ok-fetch_recipes-clause-beside
+returns-in-Ok-fetch_recipes-clause-beside g c =
+    let one = c.in-Ok-fetch_recipes.ensures.said in
+    lost_on g.L.Link.talk (Unit {0}) (Unit {0}) c.args.link.now c.fetch_recipes.new.link c.restore_agreed.new.link one.0
+    c.in-Err-restore_agreed.e one.1 c.in-Err-restore_agreed.ensures.beside
+
+pub returns-clause-beside : goal.returns-clause-beside
+returns-clause-beside g c =
+    lost_as g.L.Link.talk (List Recipe) (Unit {0}) c.args.link.now c.fetch_recipes.new.link c.in-Err-fetch_recipes.e
+    c.in-Err-fetch_recipes.ensures.beside

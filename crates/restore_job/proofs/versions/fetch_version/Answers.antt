@@ -1,4 +1,4 @@
-use Rattle.std.proofs.Common.{List, ℕ, sym, subst, Err}
+use Rattle.std.proofs.Common.{List, ℕ, sym, subst}
 use Rattle.messages.specs.declared.request.Request.TheVariants as requests
 use Rattle.messages.specs.Requests.{IsRequest}
 use Rattle.cd_base.specs.Numbers.{numbers_of}

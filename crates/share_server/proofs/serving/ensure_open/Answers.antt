@@ -1,5 +1,5 @@
-use Rattle.std.proofs.Common.{true, Ok, Err}
-use Rattle.share_server.proofs.Openings.{open_before, images_kept, reopens, error_opens}
+use Rattle.std.proofs.Common.{true, Err}
+use Rattle.share_server.proofs.Openings.{open_before, images_kept, settled_peer_of, reopens, error_opens}
 use Rattle.share_server.proofs.Peers.{lists_of, images_among}
 use Rattle.share_server.proofs.serving.ensure_open.Goals as goal
 
@@ -13,9 +13,8 @@ returns-in-Ok-clause-peer g c p told serving =
     let old = c.args.state.now in let number = old.header.cloud.0 in let shelf = c.args.shelf.now in let d = c.in-Ok.ensures in
     let c0 = g.V.Shelf.cloud_at shelf number in let c1 = g.V.Shelf.cloud_at c.reopen.new.shelf number in
     let now = images_among p c0 old.header serving.stands.images in
-    let q = reopens old c.reopen.new.state c0 c1 p true serving d.same (Ok c.in-Ok.field-0) (g.V.Shelf.faults shelf) (g.V.Shelf.faults c.reopen.new.shelf)
-    (g.met.V.Shelf.reads_image shelf number told) d.shut d.call.armings (d.kept told (lists_of p) now) (d.opened told (lists_of p) now) (d.whole told) (d.not_begun told) d.counts in
-    (q.0, q.1, (q.2.0, q.2.1, q.2.2))
+    settled_peer_of old c.reopen.new.state c0 c1 p true serving d.same c.in-Ok.field-0 (g.V.Shelf.faults shelf) (g.V.Shelf.faults c.reopen.new.shelf)
+    d.call.armings d.counts (d.opened told (lists_of p) now)
 
 pub returns-in-Ok-clause-images : goal.returns-in-Ok-clause-images
 returns-in-Ok-clause-images g c p told serving =
@@ -29,7 +28,7 @@ returns-in-Err-clause-peer g c p told serving =
     let c0 = g.V.Shelf.cloud_at shelf number in let c1 = g.V.Shelf.cloud_at c.reopen.new.shelf number in
     let now = images_among p c0 old.header serving.stands.images in
     let q = reopens old c.reopen.new.state c0 c1 p true serving d.same (Err c.in-Err.error) (g.V.Shelf.faults shelf) (g.V.Shelf.faults c.reopen.new.shelf)
-    (g.met.V.Shelf.reads_image shelf number told) d.shut d.call.armings (d.kept told (lists_of p) now) (d.opened told (lists_of p) now) (d.whole told) (d.not_begun told) d.counts in
+    tt (g.met.V.Shelf.reads_image shelf number told) d.shut d.call.armings (d.kept told (lists_of p) now) (d.opened told (lists_of p) now) (d.whole told) (d.not_begun told) d.counts in
     (q.0, q.1, error_opens p q.0 c.in-Err.error q.2)
 
 pub returns-in-Err-clause-images : goal.returns-in-Err-clause-images

@@ -27,8 +27,8 @@ returns-in-Err-clause-does g c p serving =
     let old = c.args.state.now in let number = old.header.cloud.0 in let d = c.dispatch.ensures in
     let c0 = g.V.Shelf.cloud_at c.args.shelf.now number in let c1 = g.V.Shelf.cloud_at c.dispatch.new.shelf number in
     let ready = serving.ready c.requires.«open» in
-    cut_does old c.dispatch.new.state c0 c1 p (request_of c.args.asked.now) c.put_fault.new.reply serving d.same d.call.later d.call.armings
-    c.in-Err.ensures.shut c.in-Err.ensures.failed.cloud (d.any_moment p.list ready.1 ready.0.within) c.put_fault.ensures.is
+    cut_does old c.dispatch.new.state c0 c1 p (request_of c.args.asked.now) c.write_fault.new.out serving d.same d.call.later d.call.armings
+    c.in-Err.ensures.shut c.in-Err.ensures.failed.cloud (d.any_moment p.list ready.1 ready.0.within) c.write_fault.ensures.is
 
 pub returns-in-Err-clause-images : goal.returns-in-Err-clause-images
 returns-in-Err-clause-images g c p serving =
@@ -43,10 +43,10 @@ returns-in-Ok-clause-undamaged g c at byte damaged =
     not_damaged c.dispatch.new.reply kind.reply at byte kind.given.damaged kind.is.spelled damaged.spelled
 
 pub returns-in-Err-clause-undamaged : goal.returns-in-Err-clause-undamaged
-returns-in-Err-clause-undamaged g c at byte damaged = fault_not_damaged c.put_fault.new.reply at byte c.put_fault.ensures.is damaged
+returns-in-Err-clause-undamaged g c at byte damaged = fault_not_damaged c.write_fault.new.out at byte c.write_fault.ensures.is damaged
 
 pub returns-in-Err-clause-found : goal.returns-in-Err-clause-found
-returns-in-Err-clause-found g c named found rotten = absurd (fault_not_rotten c.put_fault.new.reply named found c.put_fault.ensures.is rotten)
+returns-in-Err-clause-found g c named found rotten = absurd (fault_not_rotten c.write_fault.new.out named found c.write_fault.ensures.is rotten)
 
 pub returns-in-Err-clause-untouched : goal.returns-in-Err-clause-untouched
-returns-in-Err-clause-untouched g c answer leaves is = absurd (fault_leaves c.put_fault.new.reply (request_of c.args.asked.now) answer leaves c.put_fault.ensures.is is)
+returns-in-Err-clause-untouched g c answer leaves is = absurd (fault_leaves c.write_fault.new.out (request_of c.args.asked.now) answer leaves c.write_fault.ensures.is is)

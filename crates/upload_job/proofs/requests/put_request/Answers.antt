@@ -16,17 +16,25 @@ put_put-requires-clause-few c = let few = batch_few c.in-Sending.from c.as_slice
 
 pub put_put-requires-clause-inside : goal.put_put-requires-clause-inside
 put_put-requires-clause-inside c =
-    subst (AreIn c.args.shares.now) (sym (c.batch_at-batch.ensures ∙ ap (λ (xs : List Wanted). take 256 (drop c.in-Sending.from xs)) c.as_slice.ensures.value))
-    (All-take (IsIn c.args.shares.now) 256 (drop c.in-Sending.from c.args.lane.now.wanted.items) (All-drop (IsIn c.args.shares.now) c.in-Sending.from c.args.lane.now.wanted.items c.requires.inside))
+    let ws : List Wanted = c.args.lane.now.wanted.items in
+    let from = c.in-Sending.from in
+    subst (λ (xs : List ℕ). AreIn xs c.batch_at-batch.result.now) (sym c.as_slice-shares.ensures)
+    (subst (AreIn c.args.lane.now.shares) (sym (c.batch_at-batch.ensures ∙ ap (λ (xs : List Wanted). take 256 (drop from xs)) c.as_slice.ensures.value))
+    (All-take (IsIn c.args.lane.now.shares) 256 (drop from ws) (All-drop (IsIn c.args.lane.now.shares) from ws c.requires.inside)))
 
 pub returns-in_ok-put_put-in-Sending : goal.returns-in_ok-put_put-in-Sending
 returns-in_ok-put_put-in-Sending c =
-    let all : List (List ℕ) = shares_in c.args.shares.now c.args.lane.now.wanted.items in
-    let batch : shares_in c.args.shares.now c.batch_at-batch.result.now ≡ take 256 (drop c.in-Sending.from all) =
-    ap (shares_in c.args.shares.now) (c.batch_at-batch.ensures ∙ ap (λ (xs : List Wanted). take 256 (drop c.in-Sending.from xs)) c.as_slice.ensures.value) ∙ batch_shares c.args.shares.now c.in-Sending.from c.args.lane.now.wanted.items in
-    subst (λ (s : Stage). IsAsked (lane_request (work_in c.args.key.now c.args.shares.now c.args.lane.now) (state_in all s)) true c.args.out.now c.put_put.new.out) (sym c.in-Sending.is) (
+    let lane = c.args.lane.now in
+    let key = c.args.key.now in
+    let from = c.in-Sending.from in
+    let flags = c.as_slice-in-Sending.result.now in
+    let all : List (List ℕ) = shares_in lane.shares lane.wanted.items in
+    let batch : shares_in c.as_slice-shares.result.now c.batch_at-batch.result.now ≡ take 256 (drop from all) =
+    ap (λ (xs : List ℕ). shares_in xs c.batch_at-batch.result.now) c.as_slice-shares.ensures
+    ∙ ap (shares_in lane.shares) (c.batch_at-batch.ensures ∙ ap (λ (xs : List Wanted). take 256 (drop from xs)) c.as_slice.ensures.value) ∙ batch_shares lane.shares from lane.wanted.items in
+    subst (λ (s : Stage). IsAsked (lane_request (work_in key lane) (state_in all s)) true c.args.out.now c.put_put.new.out) (sym c.in-Sending.is) (
       refl,
-      into_none c.args.out.now c.put_put.new.out (request_bytes (Put c.args.key.now.user (unflagged (shares_in c.args.shares.now c.batch_at-batch.result.now) c.as_slice-in-Sending.result.now))) c.requires.empty c.in_ok-put_put-in-Sending.ensures
-          ∙ ap (λ (b : List (List ℕ)). request_bytes (Put c.args.key.now.user (unflagged b c.as_slice-in-Sending.result.now))) batch
-          ∙ ap (λ (fs : List ℕ). request_bytes (Put c.args.key.now.user (unflagged (take 256 (drop c.in-Sending.from all)) fs))) c.as_slice-in-Sending.ensures,
+      into_none c.args.out.now c.put_put.new.out (request_bytes (Put key.user (unflagged (shares_in c.as_slice-shares.result.now c.batch_at-batch.result.now) flags))) c.requires.empty c.in_ok-put_put-in-Sending.ensures
+          ∙ ap (λ (b : List (List ℕ)). request_bytes (Put key.user (unflagged b flags))) batch
+          ∙ ap (λ (fs : List ℕ). request_bytes (Put key.user (unflagged (take 256 (drop from all)) fs))) c.as_slice-in-Sending.ensures,
     )

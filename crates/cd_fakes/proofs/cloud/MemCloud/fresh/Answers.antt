@@ -1,7 +1,7 @@
 use Rattle.std.proofs.Common.{◌++◌, ◌∷◌, [], refl, ◌∙◌, ap}
 use Rattle.cd_fakes.specs.declared.cloud.MemCloud.{MemCloud}
-use Rattle.cd_fakes.specs.Disks.{history_of}
-use Rattle.cd_fakes.specs.History.{Empty}
+use Rattle.mem_disk.specs.Disks.{history_of}
+use Rattle.mem_disk.specs.History.{Empty}
 use Rattle.cd_fakes.proofs.CloudSteps.{emptied}
 use Rattle.cd_fakes.proofs.cloud.MemCloud.fresh.Goals as goal
 

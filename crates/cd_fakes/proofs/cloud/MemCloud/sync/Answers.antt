@@ -2,8 +2,8 @@ use Rattle.std.proofs.Common.{◌≡◌, ◌≢◌, ◌-◌, ◌++◌, ◌∷◌
 use Rattle.std.proofs.lemmas.Bool.{false≢true}
 use Rattle.cd_edges.specs.Shelf.{arming_of}
 use Rattle.cd_fakes.specs.declared.cloud.MemCloud.{MemCloud}
-use Rattle.cd_fakes.specs.Disks.{history_of}
-use Rattle.cd_fakes.specs.History.{Sync}
+use Rattle.mem_disk.specs.Disks.{history_of}
+use Rattle.mem_disk.specs.History.{Sync}
 use Rattle.cd_fakes.proofs.CloudSteps.{synced_whole}
 use Rattle.cd_fakes.proofs.cloud.MemCloud.sync.Goals as goal
 

@@ -2,9 +2,9 @@ use Rattle.std.proofs.Common.{◌≡◌, ◌≢◌, ◌-◌, ◌++◌, ◌∷◌
 use Rattle.std.proofs.lemmas.Bool.{false≢true}
 use Rattle.cd_edges.specs.Shelf.{arming_of}
 use Rattle.cd_fakes.specs.declared.cloud.MemCloud.{MemCloud}
-use Rattle.cd_fakes.specs.declared.disk.MemDisk.{MemDisk}
-use Rattle.cd_fakes.specs.Disks.{history_of}
-use Rattle.cd_fakes.specs.History.{Write}
+use Rattle.mem_disk.specs.declared.disk.MemDisk.{MemDisk}
+use Rattle.mem_disk.specs.Disks.{history_of}
+use Rattle.mem_disk.specs.History.{Write}
 use Rattle.cd_fakes.proofs.CloudSteps.{wrote_whole, wrote_none, wrote_cut}
 use Rattle.cd_fakes.proofs.cloud.MemCloud.write.Goals as goal
 use Rattle.cd_fakes.proofs.cloud.MemCloud.write.Goals.{then-not-refused, else-not-refused}

@@ -1,7 +1,8 @@
-use Rattle.std.proofs.Common.{refl, rules, set}
+use Rattle.std.proofs.Common.{refl, rules, set, ap}
 use Rattle.cd_edges.specs.Disk.{Cloud}
 use Rattle.cd_edges.specs.Shelf.{Arms}
-use Rattle.cd_fakes.proofs.CloudsAt.{Step, between, clouds_stay}
+use Rattle.cd_fakes.specs.declared.cloud.MemCloud.{MemCloud}
+use Rattle.cd_fakes.proofs.CloudsAt.{Step, between, at_both, clouds_stay, others_stay}
 use Rattle.cd_fakes.proofs.shelf.MemShelfShelf.arm.Goals as goal
 
 pub returns-clause-arms : goal.returns-clause-arms
@@ -17,3 +18,17 @@ returns-clause-others c =
     let m = c.index_mut.result.now in let m' = c.arm.new.self in
     let step : Step ms (set ms number m') number m m' = record { within = search rules; is = c.index_mut.ensures.value; changed = refl } in
     clouds_stay ms (set ms number m') number m m' step
+
+pub returns-clause-reads : goal.returns-clause-reads
+returns-clause-reads c =
+    let ms = c.args.self.now.clouds.items in let number = c.args.cloud.0 in
+    let m = c.index_mut.result.now in let m' = c.arm.new.self in
+    let step : Step ms (set ms number m') number m m' = record { within = search rules; is = c.index_mut.ensures.value; changed = refl } in
+    at_both ms (set ms number m') number m m' step _ (ap (λ (x : MemCloud). x.reads) c.arm.ensures.rest)
+
+pub returns-clause-others_stay : goal.returns-clause-others_stay
+returns-clause-others_stay c =
+    let ms = c.args.self.now.clouds.items in let number = c.args.cloud.0 in
+    let m = c.index_mut.result.now in let m' = c.arm.new.self in
+    let step : Step ms (set ms number m') number m m' = record { within = search rules; is = c.index_mut.ensures.value; changed = refl } in
+    others_stay ms (set ms number m') number m m' step

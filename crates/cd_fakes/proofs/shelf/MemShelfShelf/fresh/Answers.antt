@@ -59,3 +59,10 @@ returns-clause-held c =
     let m = c.index_mut.result.now in let m' = c.fresh-outcome.new.self in
     let step : Step ms ms' number m m' = record { within = search rules; is = c.index_mut.ensures.value; changed = search rules } in
     on_ok c.fresh-outcome.result c.count.result _ _ c.count.ensures.same (λ done. at_both ms ms' number m m' step _ done.0) c.fresh-outcome.ensures.ok
+
+pub returns-clause-reads : goal.returns-clause-reads
+returns-clause-reads c =
+    let ms = c.args.self.now.clouds.items in let ms' = c.count.new.self.clouds.items in let number = c.args.cloud.0 in
+    let m = c.index_mut.result.now in let m' = c.fresh-outcome.new.self in
+    let step : Step ms ms' number m m' = record { within = search rules; is = c.index_mut.ensures.value; changed = search rules } in
+    at_both ms ms' number m m' step _ c.fresh-outcome.ensures.reads

@@ -2,7 +2,7 @@ use Rattle.std.proofs.Common.{◌≡◌, ◌∙◌, length, IsTrue, IfOk, rules,
 use Rattle.cd_edges.specs.Disk.{Cloud}
 use Rattle.cd_edges.specs.Shelf.{Stays}
 use Rattle.cd_fakes.specs.declared.cloud.MemCloud.{MemCloud}
-use Rattle.cd_fakes.specs.Areas.{held_of}
+use Rattle.mem_disk.specs.Areas.{held_of}
 use Rattle.cd_fakes.specs.Clouds.{cloud_of}
 use Rattle.cd_fakes.proofs.CloudsAt.{Step, between, at, at_both, others_stay, called, failed, uncounted, if_ok}
 use Rattle.cd_fakes.proofs.shelf.MemShelfShelf.len.Goals as goal
@@ -62,7 +62,7 @@ returns-clause-len c =
     let m = c.index_mut.result.now in let m' = c.len-outcome.new.self in
     let step : Step ms ms' number m m' = record { within = search rules; is = c.index_mut.ensures.value; changed = search rules } in
     between ms ms' number m m' step (λ (a b : Cloud). IsTrue a.told → IfOk c.count.result (λ len. len ≡ length (a.now c.args.area).read))
-    (λ told. if_ok c.len-outcome.result c.count.result (λ len. len ≡ length (held_of m.disk.areas c.args.area)) (λ len. len ≡ length ((cloud_of m).now c.args.area).read) c.count.ensures.same (λ len is. is ∙ ap length (m.disk.reads told c.args.area)) c.len-outcome.ensures.len)
+    (λ told. if_ok c.len-outcome.result c.count.result (λ len. len ≡ length (held_of m.disk.areas c.args.area)) (λ len. len ≡ length ((cloud_of m).now c.args.area).read) c.count.ensures.same (λ len is. is ∙ ap length (m.disk.tracks told c.args.area).read) c.len-outcome.ensures.len)
 
 pub returns-clause-held : goal.returns-clause-held
 returns-clause-held c =
@@ -70,3 +70,10 @@ returns-clause-held c =
     let m = c.index_mut.result.now in let m' = c.len-outcome.new.self in
     let step : Step ms ms' number m m' = record { within = search rules; is = c.index_mut.ensures.value; changed = search rules } in
     at ms ms' number m m' step _ (rw c.count.ensures.same c.len-outcome.ensures.len)
+
+pub returns-clause-reads : goal.returns-clause-reads
+returns-clause-reads c =
+    let ms = c.args.self.now.clouds.items in let ms' = c.count.new.self.clouds.items in let number = c.args.cloud.0 in
+    let m = c.index_mut.result.now in let m' = c.len-outcome.new.self in
+    let step : Step ms ms' number m m' = record { within = search rules; is = c.index_mut.ensures.value; changed = search rules } in
+    at_both ms ms' number m m' step _ (ap (λ (x : MemCloud). x.reads) c.len-outcome.ensures.rest)

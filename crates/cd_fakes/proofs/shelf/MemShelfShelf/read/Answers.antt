@@ -2,7 +2,7 @@ use Rattle.std.proofs.Common.{ℕ, List, IsTrue, IfOk, rules, ap, subst}
 use Rattle.cd_edges.specs.Disk.{Cloud}
 use Rattle.cd_edges.specs.Shelf.{Stays, ReadsFrom}
 use Rattle.cd_fakes.specs.declared.cloud.MemCloud.{MemCloud}
-use Rattle.cd_fakes.specs.Areas.{held_of}
+use Rattle.mem_disk.specs.Areas.{held_of}
 use Rattle.cd_fakes.specs.Clouds.{cloud_of}
 use Rattle.cd_fakes.proofs.CloudsAt.{Step, between, at, at_both, others_stay, called, failed, uncounted, if_ok}
 use Rattle.cd_fakes.proofs.shelf.MemShelfShelf.read.Goals as goal
@@ -63,7 +63,7 @@ returns-clause-bytes c =
     let step : Step ms ms' number m m' = record { within = search rules; is = c.index_mut.ensures.value; changed = search rules } in
     between ms ms' number m m' step (λ (a b : Cloud). IsTrue a.told → IfOk c.count.result (λ count. ReadsFrom (a.now c.args.area).read c.args.at count c.read-outcome.new.out))
     (λ told. if_ok c.read-outcome.result c.count.result (λ count. ReadsFrom (held_of m.disk.areas c.args.area) c.args.at count c.read-outcome.new.out) (λ count. ReadsFrom ((cloud_of m).now c.args.area).read c.args.at count c.read-outcome.new.out) c.count.ensures.same
-    (λ count read. subst (λ (l : List ℕ). ReadsFrom l c.args.at count c.read-outcome.new.out) (m.disk.reads told c.args.area) read) c.read-outcome.ensures.bytes)
+    (λ count read. subst (λ (l : List ℕ). ReadsFrom l c.args.at count c.read-outcome.new.out) (m.disk.tracks told c.args.area).read read) c.read-outcome.ensures.bytes)
 
 pub returns-clause-held : goal.returns-clause-held
 returns-clause-held c =
@@ -71,3 +71,17 @@ returns-clause-held c =
     let m = c.index_mut.result.now in let m' = c.read-outcome.new.self in
     let step : Step ms ms' number m m' = record { within = search rules; is = c.index_mut.ensures.value; changed = search rules } in
     at ms ms' number m m' step _ (rw c.count.ensures.same c.read-outcome.ensures.bytes)
+
+pub returns-clause-reads : goal.returns-clause-reads
+returns-clause-reads c =
+    let ms = c.args.self.now.clouds.items in let ms' = c.count.new.self.clouds.items in let number = c.args.cloud.0 in
+    let m = c.index_mut.result.now in let m' = c.read-outcome.new.self in
+    let step : Step ms ms' number m m' = record { within = search rules; is = c.index_mut.ensures.value; changed = search rules } in
+    at_both ms ms' number m m' step _ c.read-outcome.ensures.reads
+
+pub returns-clause-other_reads : goal.returns-clause-other_reads
+returns-clause-other_reads c =
+    let ms = c.args.self.now.clouds.items in let ms' = c.count.new.self.clouds.items in let number = c.args.cloud.0 in
+    let m = c.index_mut.result.now in let m' = c.read-outcome.new.self in
+    let step : Step ms ms' number m m' = record { within = search rules; is = c.index_mut.ensures.value; changed = search rules } in
+    at_both ms ms' number m m' step _ c.read-outcome.ensures.other_reads

@@ -59,3 +59,10 @@ returns-clause-areas c =
     let m = c.index_mut.result.now in let m' = c.sync-outcome.new.self in
     let step : Step ms ms' number m m' = record { within = search rules; is = c.index_mut.ensures.value; changed = search rules } in
     at_both ms ms' number m m' step _ c.sync-outcome.ensures.areas
+
+pub returns-clause-reads : goal.returns-clause-reads
+returns-clause-reads c =
+    let ms = c.args.self.now.clouds.items in let ms' = c.count.new.self.clouds.items in let number = c.args.cloud.0 in
+    let m = c.index_mut.result.now in let m' = c.sync-outcome.new.self in
+    let step : Step ms ms' number m m' = record { within = search rules; is = c.index_mut.ensures.value; changed = search rules } in
+    at_both ms ms' number m m' step _ c.sync-outcome.ensures.reads

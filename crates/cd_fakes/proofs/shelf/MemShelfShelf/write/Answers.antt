@@ -66,3 +66,10 @@ returns-clause-err c =
     let m = c.index_mut.result.now in let m' = c.write-outcome.new.self in
     let step : Step ms ms' number m m' = record { within = search rules; is = c.index_mut.ensures.value; changed = search rules } in
     on_err c.write-outcome.result c.count.result _ _ c.count.ensures.same (λ done. at_both ms ms' number m m' step _ (rw (c.count.ensures.left, ← c.deref.ensures.value) done)) c.write-outcome.ensures.err
+
+pub returns-clause-reads : goal.returns-clause-reads
+returns-clause-reads c =
+    let ms = c.args.self.now.clouds.items in let ms' = c.count.new.self.clouds.items in let number = c.args.cloud.0 in
+    let m = c.index_mut.result.now in let m' = c.write-outcome.new.self in
+    let step : Step ms ms' number m m' = record { within = search rules; is = c.index_mut.ensures.value; changed = search rules } in
+    at_both ms ms' number m m' step _ c.write-outcome.ensures.reads

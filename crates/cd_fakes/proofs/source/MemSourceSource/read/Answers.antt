@@ -1,6 +1,6 @@
 use Rattle.std.proofs.Common.{◌≡◌, ◌≤◌, ◌-◌, ℕ, List, take, drop, length, arith, ◌∙◌, ap, length-take, length-drop, length-append}
 use Rattle.std.proofs.Math.ListN.{drop_of_length-le}
-use Rattle.cd_fakes.proofs.Copied.{consumed, copied_len}
+use Rattle.mem_disk.proofs.Copied.{consumed, copied_len}
 use Rattle.cd_fakes.proofs.source.MemSourceSource.read.Goals as goal
 
 pub returns-clause-bytes : goal.returns-clause-bytes

@@ -17,11 +17,11 @@ returns-clause-recipe g c header list b stood has at long =
     let on = subst (λ (l : Logs). IsOn header list l c0) (sym c.self.view_is) stood in
     let is = on.recipes_end_at.area_is in
     let lies = subst (λ (a : Area). IsAt (c0.now a).read b) (sym is) (All-contains (IsAt (c0.now Recipes).read) (placed 0 (recipes_in list)) b on.has.recipes has) in
-    read_whole c.read.result (c0.now inside.recipes.area).read b c.args.place c.read.new.out lies at (c.read.ensures.bytes on.told) (c.read.ensures.blob on.told b at long lies)
+    read_whole c.read_alone.result (c0.now inside.recipes.area).read b c.args.place c.read_alone.new.out lies at (c.read_alone.ensures.bytes on.told) (c.read_alone.ensures.blob on.told b at long lies)
 
 pub returns-clause-on : goal.returns-clause-on
 returns-clause-on g c header list stood =
-    let number = c.args.cloud.0 in let c0 = g.V.Shelf.cloud_at c.args.shelf.now number in let c1 = g.V.Shelf.cloud_at c.read.new.shelf number in let inside = c.self.inside in
+    let number = c.args.cloud.0 in let c0 = g.V.Shelf.cloud_at c.args.shelf.now number in let c1 = g.V.Shelf.cloud_at c.read_alone.new.shelf number in let inside = c.self.inside in
     let log : Logs = record { journal = journals.state_of inside.journal; shares = inside.shares; recipes = inside.recipes } in
     let on = subst (λ (l : Logs). IsOn header list l c0) (sym c.self.view_is) stood in
-    subst (λ (s : logs.State). IsOn header list (record log { recipes = s }) c1) (sym c.read.ensures.log) (on_still header list log c0 c1 c.read.ensures.stays c.read.ensures.call.told on)
+    subst (λ (s : logs.State). IsOn header list (record log { recipes = s }) c1) (sym c.read_alone.ensures.log) (on_still header list log c0 c1 c.read_alone.ensures.stays c.read_alone.ensures.call.told on)

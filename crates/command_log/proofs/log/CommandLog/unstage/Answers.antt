@@ -7,8 +7,8 @@ use Rattle.command_log.proofs.log.CommandLog.unstage.Goals as goal
 
 pub returns-clause-on : goal.returns-clause-on
 returns-clause-on c header list cloud stood =
-    let inside = c.self.inside in let area = λ (s : logs.State). s.area in let end = λ (s : logs.State). s.end in
+    let inside = c.self.inside in let area = λ (s : logs.State). s.area in let end = λ (s : logs.State). s.end in let kept = λ (s : logs.State). s.kept in
     let log : Logs = record { journal = journals.state_of inside.journal; shares = inside.shares; recipes = inside.recipes } in
     let on = subst (λ (l : Logs). IsOn header list l cloud) (sym c.self.view_is) stood in
     on_alike header list log (record log { shares = c.unstage.new.self; recipes = c.unstage-2.new.self }) cloud refl
-    (ap area c.unstage.ensures.forgets) (ap end c.unstage.ensures.forgets) (ap area c.unstage-2.ensures.forgets) (ap end c.unstage-2.ensures.forgets) on
+    (ap area c.unstage.ensures.forgets) (ap end c.unstage.ensures.forgets) (ap area c.unstage-2.ensures.forgets) (ap end c.unstage-2.ensures.forgets) (ap kept c.unstage.ensures.forgets) (ap kept c.unstage-2.ensures.forgets) on

@@ -19,5 +19,5 @@ returns-clause-staged c blobs has =
     let inside = c.self.inside in let blob = c.args.blob.now in
     let back = with_items_is inside.buffer c.put_behind.new.buffer (c.put_behind.auto.buffer ∙ c.deref_mut.ensures.len) in
     let put = ap (take (inside.used + c.gap_behind-gap.result + length blob)) back ∙ c.put_behind.ensures ∙ ap (λ (l : List ℕ). take inside.used l ++ replicate c.gap_behind-gap.result 0 ++ blob) c.deref_mut.ensures.value in
-    let is = put_more inside.area inside.limit inside.end inside.used c.gap_behind-gap.result inside.buffer.items (with_items inside.buffer c.put_behind.new.buffer).items blob (omega (arith, c.self.invariant.0, c.self.invariant.1)) c.gap_behind-gap.ensures.place put in
+    let is = put_more inside.area inside.limit inside.end inside.used c.gap_behind-gap.result inside.cache.keep inside.cache.kept inside.buffer.items (with_items inside.buffer c.put_behind.new.buffer).items blob (omega (arith, c.self.invariant.0, c.self.invariant.1)) c.gap_behind-gap.ensures.place put in
     subst (λ (s : State). HasStaged s (blobs ++ blob ∷ [])) (ap (λ (s : State). with_blob s blob) (sym c.self.view_is) ∙ is) (staged_more c.args.self.now blobs blob has c.requires.room)

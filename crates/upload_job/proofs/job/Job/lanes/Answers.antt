@@ -5,6 +5,6 @@ use Rattle.upload_job.proofs.job.Job.lanes.Goals as goal
 
 pub returns : goal.returns
 returns c =
-    let lanes = length-lanes_in c.self.inside.key c.self.inside.files c.self.inside.lanes.items c.self.invariant in
+    let lanes = length-lanes_in c.self.inside.key c.self.inside.lanes.items in
     let seen = ap (λ (xs : List LaneView). length xs) c.self.view_is in
     omega arith

@@ -1,0 +1,99 @@
+-- Restores over ports from one choice of the clouds after another.
+use Rattle.std.specs.Prelude.{◌≡◌, ◌⊎◌, ℕ, Bool, IsTrue, List, [], ◌∷◌, ◌++◌, length, Result, Ok, Err, All}
+use Rattle.std.specs.List.{Contains}
+use Rattle.cd_base.specs.declared.ids.CloudNo.{CloudNo}
+use Rattle.cd_base.specs.declared.shape.Shape.{Shape}
+use Rattle.cd_edges.specs.Ports.{Telling}
+use Rattle.restore_job.specs.Brought.{Brought}
+use Rattle.restore_job.specs.Exchanges.{Unlost}
+use Rattle.restore_job.specs.declared.error.RestoreErr.{RestoreErr}
+use Rattle.restore_job.specs.declared.error.RestoreErr.TheVariants as errors
+use Rattle.subset_restore.specs.Subsets.{subsets}
+use Rattle.subset_restore.specs.Tries.{Try, GoneThrough, HoldsRefuser, WasTried}
+use Rattle.fetched_files.specs.Fetched.{Fetched}
+use Rattle.fetched_files.specs.Stopped.{Stopped}
+use Rattle.hellos.specs.declared.greeting.Greeted.{Greeted}
+use Rattle.hellos.specs.Hellos.{clouds_of}
+use Rattle.restore_command.specs.Calls.{Call, named_in, ports_of, tag_in}
+use Rattle.restore_command.specs.Spoken.{HaveTalked, none_ended}
+
+-- ---- one restore
+
+-- What was said with these clouds is how a file is fetched, and these are its bytes.
+pub record IsFetch (call : Call) (shape : Shape) (lines : List (CloudNo × ℕ)) (before after : Telling)
+    (bytes : List ℕ) : Type 0 where
+  pub sent : ℕ → List (List ℕ)
+  pub received : ℕ → List (List ℕ)
+  pub talked : HaveTalked before after lines none_ended sent received
+  pub fetched : Fetched shape call.user (tag_in shape call.path) call.version (named_in lines) sent received bytes
+
+-- What was said with these clouds is how a file is fetched, up to one reply or comparison, which the error names.
+pub record IsStop (call : Call) (shape : Shape) (lines : List (CloudNo × ℕ)) (had_ended : ℕ → Bool)
+    (before after : Telling) (e : RestoreErr) : Type 0 where
+  pub sent : ℕ → List (List ℕ)
+  pub received : ℕ → List (List ℕ)
+  pub talked : HaveTalked before after lines had_ended sent received
+  pub stopped : Stopped shape call.user (tag_in shape call.path) call.version (named_in lines) sent received e
+
+-- unless an ask was lost
+abbrev pub Heard : RestoreErr → Type 0 → Type 0
+Heard e P = let came : Result (Unit {0}) RestoreErr = Err e in Unlost came P
+
+-- A restore from a choice of the clouds was refused: by what was said with these, or since an ask was lost. Every port
+-- but theirs is as it was.
+pub record IsRefused (call : Call) (greeted : Greeted) (before : Telling) (x : Try) (after : Telling) : Type 0 where
+  pub lines : List (CloudNo × ℕ)
+  pub clouds : clouds_of lines ≡ x.subset
+  pub among : All (Contains greeted.lines.items) lines
+  pub stopped : Heard x.refusal
+      ((had_ended : ℕ → Bool) × IsStop call greeted.shape lines had_ended before after x.refusal)
+  pub others : (port : ℕ) → ¬ Contains (ports_of lines) port → after.port port ≡ before.port port
+
+-- one such restore after another
+abbrev pub AreRefused : Call → Greeted → Telling → List Try → Telling → Type 0
+AreRefused call greeted before [] after = after ≡ before
+AreRefused call greeted before (x ∷ tries) after =
+    (mid : Telling) × IsRefused call greeted before x mid × AreRefused call greeted mid tries after
+
+-- ---- all of them
+
+-- The file came from k of the clouds, these ones: the first choice in order from which it wasn't refused and of which
+-- none had refused. Where the ports tell their bytes: what was said in the restores before, and then from some time on
+-- with these clouds alone, which is how the file is fetched. With no more than k clouds it is all that was said.
+pub record FileFrom (call : Call) (greeted : Greeted) (behind : Telling) (bytes : List ℕ) : Type 0 where
+  pub tries : List Try
+  pub front : List (List ℕ)
+  pub chosen : List (CloudNo × ℕ)
+  pub rest : List (List ℕ)
+  pub in_order : subsets greeted.shape.k (clouds_of greeted.lines.items) ≡ front ++ clouds_of chosen ∷ rest
+  pub among : All (Contains greeted.lines.items) chosen
+  pub gone : GoneThrough front tries
+  pub free : HoldsRefuser tries (clouds_of chosen) → ⊥
+  pub brought : Brought greeted.shape (clouds_of chosen) [] bytes
+  pub from : Telling
+  pub refused : IsTrue call.before.told → AreRefused call greeted behind tries from
+  pub fetched : IsTrue call.before.told → IsFetch call greeted.shape chosen from call.after bytes
+  pub exact : IsTrue call.before.told → length greeted.lines.items ≡ greeted.shape.k
+      → IsFetch call greeted.shape greeted.lines.items behind call.after bytes
+
+-- The file came from no k of the clouds: each choice was refused or holds a cloud that had refused, and the error is
+-- that of the first one. Where the ports tell their bytes: what was said in each of these restores.
+pub record NotFrom (call : Call) (greeted : Greeted) (behind : Telling) (e : RestoreErr) : Type 0 where
+  pub tries : List Try
+  pub first : List ℕ
+  pub more : List Try
+  pub rest : List (List ℕ)
+  pub tries_are : tries ≡ record { subset = first; refusal = e } ∷ more
+  pub first_is : subsets greeted.shape.k (clouds_of greeted.lines.items) ≡ first ∷ rest
+  pub gone : GoneThrough (subsets greeted.shape.k (clouds_of greeted.lines.items)) tries
+  pub each : All (λ subset. WasTried tries subset ⊎ HoldsRefuser tries subset)
+      (subsets greeted.shape.k (clouds_of greeted.lines.items))
+  pub refused : IsTrue call.before.told → AreRefused call greeted behind tries call.after
+  pub exact : IsTrue call.before.told → length greeted.lines.items ≡ greeted.shape.k
+      → Heard e (IsStop call greeted.shape greeted.lines.items none_ended behind call.after e)
+
+-- What a restore from any k of the clouds came to. Nothing is said where memory ran out.
+abbrev pub CameBy : Call → Greeted → Telling → Result (Unit {0}) RestoreErr → List ℕ → Type 0
+CameBy call greeted behind (Ok u) file = FileFrom call greeted behind file
+CameBy call greeted behind (Err errors.NoMemory) file = Unit {0}
+CameBy call greeted behind (Err e) file = NotFrom call greeted behind e
