@@ -33,7 +33,7 @@ def tail(path):
         return file.read().decode(errors="replace")
 
 
-def least(program, runs=3):
+def least(program, runs=5):
     """The numbers that a program writes, of some runs the least of each, since the machine may have other work."""
     rows = []
     for _ in range(runs):
@@ -44,10 +44,20 @@ def least(program, runs=3):
     return [min(column) for column in zip(*rows)]
 
 
-def hashes(program):
+def hashes(program, runs=1):
     """Seconds for 64 MiB, by hashes.rt.txt: one SHA-256, the digits read, the digits written."""
-    hash, decode, encode, _ = least(program)
+    hash, decode, encode, _ = least(program, runs)
     return hash / 1e6, decode / 1e6, encode / 1e6
+
+
+def rounds(program, measured, count=5):
+    """Runs the hashes and what is measured in turn, so many times, and gives the least of each number on either side: what the machine
+    takes away from a run makes its number greater and never less, and the next round has it again."""
+    beside, rows = [], []
+    for number in range(count):
+        beside.append(hashes(program))
+        rows.append(measured(number))
+    return [min(column) for column in zip(*beside)], [min(column) for column in zip(*rows)]
 
 
 def spent(process):

@@ -6,8 +6,8 @@
 . "$(dirname "$0")/build.sh"
 programs
 python3 - "$hashes" "$cdstore" "$work" <<'PY'
-import sys
-from measure import MIB_64, hashes, run, size
+import shutil, sys
+from measure import MIB_64, rounds, run, size
 
 WORD = 2 ** 64 - 1
 
@@ -31,8 +31,14 @@ def piece(seed, number, version):
 
 
 program, work = sys.argv[2], sys.argv[3]
-hash, _, _ = hashes(sys.argv[1])
-used, took, peak = run([program, "gen", 1, 20, 640, f"{work}/clouds"], sink=f"{work}/summary")
+
+
+def month(number):
+    shutil.rmtree(f"{work}/clouds", ignore_errors=True)
+    return run([program, "gen", 1, 20, 640, f"{work}/clouds"], sink=f"{work}/summary")
+
+
+(hash, _, _), (used, took, peak) = rounds(sys.argv[1], month, 3)
 with open(f"{work}/summary") as lines:
     summary = {name: int(value) for name, value in (line.split() for line in lines)}
 print(", ".join(f"{name} {value}" for name, value in summary.items()))

@@ -5,30 +5,40 @@
 programs
 head -c 67108864 /dev/urandom > "$work/sent"
 python3 - "$hashes" "$cdstore" "$work" <<'PY'
-import sys
-from measure import Cloud, MIB_64, hashes, run, same, spent
+import shutil, sys
+from measure import Cloud, MIB_64, rounds, run, same, spent
 program, work = sys.argv[2], sys.argv[3]
-hash, _, _ = hashes(sys.argv[1])
-clouds = []
-try:
+
+
+def serve(number):
+    clouds = []
+    try:
+        for cloud in range(4):
+            clouds.append(Cloud(program, f"{work}/provider{cloud}", cloud, 1 if cloud == 0 else 2))
+        begun = sum(cloud.begun for cloud in clouds)
+        addresses = [cloud.addr for cloud in clouds]
+        backup, backup_took, backup_peak = run([program, "backup", 7, "f", 1, *addresses], f"{work}/sent", f"{work}/lines")
+        first, _ = clouds[0].end()
+        served = first + sum(spent(cloud.process) - cloud.begun for cloud in clouds[1:])
+        restore, restore_took, restore_peak = run([program, "restore", 7, "f", 1, *addresses[1:]], sink=f"{work}/back")
+        rest = [cloud.end() for cloud in clouds[1:]]
+        given = first + sum(used for used, _ in rest) - served
+    finally:
+        for cloud in clouds:
+            cloud.kill()
+    if not same(f"{work}/sent", f"{work}/back"):
+        raise SystemExit("the restore gave something else")
     for cloud in range(4):
-        clouds.append(Cloud(program, f"{work}/provider{cloud}", cloud, 1 if cloud == 0 else 2))
-    begun = sum(cloud.begun for cloud in clouds)
-    addresses = [cloud.addr for cloud in clouds]
-    backup, backup_took, backup_peak = run([program, "backup", 7, "f", 1, *addresses], f"{work}/sent", f"{work}/lines")
-    first, _ = clouds[0].end()
-    served = first + sum(spent(cloud.process) - cloud.begun for cloud in clouds[1:])
-    restore, restore_took, restore_peak = run([program, "restore", 7, "f", 1, *addresses[1:]], sink=f"{work}/back")
-    rest = [cloud.end() for cloud in clouds[1:]]
-    given = first + sum(used for used, _ in rest) - served
-finally:
-    for cloud in clouds:
-        cloud.kill()
-if not same(f"{work}/sent", f"{work}/back"):
-    raise SystemExit("the restore gave something else")
+        shutil.rmtree(f"{work}/provider{cloud}")
+    return (begun, backup, served, backup + served, backup_took, backup_peak,
+            restore, given, restore + given, restore_took, restore_peak, max(peak for _, peak in rest))
+
+
+(hash, _, _), numbers = rounds(sys.argv[1], serve)
+begun, backup, served, all_backup, backup_took, backup_peak, restore, given, all_restore, restore_took, restore_peak, server_peak = numbers
 print(f"backup: {backup:.2f} s by the client and {served:.2f} s by the servers, in {backup_took:.2f} s; restore: {restore:.2f} s and {given:.2f} s, "
       f"in {restore_took:.2f} s; the servers' openings {begun:.2f} s; SHA-256 once {hash:.2f} s")
-print(f"backup {(backup + served) / (14 / 3 * hash):.2f} times its 4.67 hashes, restore {(restore + given) / (4 * hash):.2f} times its 4, "
-      f"both {(backup + served + restore + given) / (26 / 3 * hash):.2f} times")
-print(f"memory a byte: backup {backup_peak / MIB_64:.2f}, restore {restore_peak / MIB_64:.2f}; a server {max(peak for _, peak in rest) / 1e6:.0f} MB")
+print(f"backup {all_backup / (14 / 3 * hash):.2f} times its 4.67 hashes, restore {all_restore / (4 * hash):.2f} times its 4, "
+      f"both {(all_backup + all_restore) / (26 / 3 * hash):.2f} times")
+print(f"memory a byte: backup {backup_peak / MIB_64:.2f}, restore {restore_peak / MIB_64:.2f}; a server {server_peak / 1e6:.0f} MB")
 PY

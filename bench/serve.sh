@@ -42,7 +42,7 @@ def loaded(cloud, connection, frames, reply):
     return time.monotonic() - begun, spent(cloud.process) - used
 
 
-hash, _, _ = hashes(sys.argv[1])
+hash, _, _ = hashes(sys.argv[1], 5)
 cloud = Cloud(sys.argv[2], sys.argv[3], 0, 1)
 try:
     with socket.create_connection(("127.0.0.1", cloud.port)) as connection:

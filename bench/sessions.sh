@@ -34,16 +34,23 @@ store="$work"
 }
 python3 - "$hashes" "$cdstore" "$work" "$store" "$jobs" <<'PY'
 import shutil, subprocess, sys
-from measure import MIB_64, hashes, run
+from measure import MIB_64, rounds, run
 program, work, store, jobs = sys.argv[2], sys.argv[3], sys.argv[4], int(sys.argv[5])
-hash, decode, encode = hashes(sys.argv[1])
+
+
+def replay(name):
+    used, took, peak = run([program, "replay", f"{work}/clouds"], f"{work}/{name}", f"{work}/transcript")
+    shutil.rmtree(f"{work}/clouds")
+    return used, took, peak
+
+
+(hash, decode, encode), numbers = rounds(sys.argv[1], lambda number: [*replay("none"), *replay("upload"), *replay("both")])
 print(f"64 MiB: SHA-256 {hash:.2f} s ({MIB_64 / hash / 1e6:.0f} MB/s), digits read {decode:.2f} s, written {encode:.2f} s")
 with open(f"{work}/sent", "rb") as sent:
     print(subprocess.run("sha256sum", stdin=sent, capture_output=True, text=True).stdout.split()[0][:16], end=": ")
 print(f"the same by sha256sum {run(['sha256sum', f'{work}/sent'])[0]:.2f} s")
-for name, passes, digits in [("none", 0, 0), ("upload", 14 / 3, decode), ("both", 26 / 3, decode + encode)]:
-    used, took, peak = run([program, "replay", f"{work}/clouds"], f"{work}/{name}", f"{work}/transcript")
-    shutil.rmtree(f"{work}/clouds")
+for row, (name, passes, digits) in enumerate([("none", 0, 0), ("upload", 14 / 3, decode), ("both", 26 / 3, decode + encode)]):
+    used, took, peak = numbers[3 * row:3 * row + 3]
     line = f"{name}: {used:.2f} s of the processor in {took:.2f} s, {peak / MIB_64:.2f} bytes of memory a byte"
     if passes:
         line += f"; without digits {(used - digits) / (passes * hash):.2f} times its {passes:.2f} hashes"
