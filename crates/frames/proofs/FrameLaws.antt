@@ -6,7 +6,7 @@ use Rattle.std.proofs.lemmas.Bool.{cases_lt}
 use Rattle.std.proofs.lemmas.Nat.{be_bytes_4, from_be_bytes-to_be_bytes_4}
 use Rattle.std.specs.Int.{w32, from_be_bytes, to_be_bytes}
 use Rattle.frames.specs.Frames.{IsLength, IsContent, IsFrameOf, IsFrame, frame, length_in}
-use Rattle.frames.specs.Standing.{AreBytes}
+use Rattle.cd_base.specs.Reading.{AreBytes}
 
 -- the length in front of a frame is its content's
 pub length_in-frame : (content behind : List ℕ) → IsContent content → length_in (frame content ++ behind) ≡ length content

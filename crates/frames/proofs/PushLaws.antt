@@ -5,7 +5,8 @@ use Rattle.std.proofs.Math.Seq.{take-add}
 use Rattle.std.proofs.lemmas.Bool.{cases_lt}
 use Rattle.std.proofs.lemmas.List.{length-append, length-drop, length-take-le, take-append-drop}
 use Rattle.frames.specs.Frames.{IsLength, IsFrame, length_in}
-use Rattle.frames.specs.Standing.{IsStanding, AreBytes}
+use Rattle.cd_base.specs.Reading.{AreBytes}
+use Rattle.frames.specs.Standing.{IsStanding}
 use Rattle.frames.specs.Steps.{Takes, Refuses}
 use Rattle.frames.proofs.FrameLaws.{measured, framed, length_in-append}
 

@@ -1,10 +1,11 @@
 //! A framer: it cuts the bytes that come at their frames.
 
 ghost use Rattle.std.specs.Prelude.{◌≡◌, ◌-◌, ◌≤◌, ◌++◌, length, take, min, vec_capacity, IfSome, IfNone};
+ghost use Rattle.cd_base.specs.Reading.{AreBytes};
 ghost use Rattle.frames.specs.Frames.{IsFrame, IsFrameOf, length_in};
-ghost use Rattle.frames.specs.Standing.{IsStanding, AreBytes};
+ghost use Rattle.frames.specs.Standing.{IsStanding};
 
-use crate::is_length;
+use crate::{FRAME_LIMIT, is_length};
 use byteorder::{BigEndian, ByteOrder};
 use cd_base::NoMemory;
 use std::alloc::Global;
@@ -28,14 +29,15 @@ pub struct Framer {
 }
 
 impl Model for Framer {
-    ghost use Rattle.std.specs.Prelude.{ℕ, ◌≤◌, List, length, vec_capacity};
+    ghost use Rattle.std.specs.Prelude.{ℕ, ◌+◌, ◌≤◌, List, length, vec_capacity};
+    ghost use Rattle.frames.specs.Frames.{frame_limit};
     ghost use Rattle.frames.specs.Standing.{IsStanding};
 
     ghost Value = { List ℕ };
 
     ghost view = { λ f. f.standing.items };
 
-    ghost invariant = { λ f. IsStanding f.standing.items × (4194308 ≤ vec_capacity f.standing) };
+    ghost invariant = { λ f. IsStanding f.standing.items × (4 + frame_limit ≤ vec_capacity f.standing) };
 }
 
 impl Framer {
@@ -49,7 +51,7 @@ impl Framer {
         ensures empty { IfOk result (λ framer. framer ≡ []) }
         ensures ready { IfOk result (λ framer. ¬ IsFrame framer) }
     {
-        let standing = Vec::with_capacity(alloc, 4_194_308)?;
+        let standing = Vec::with_capacity(alloc, 4 + FRAME_LIMIT)?;
         Ok(Framer { standing })
     }
 

@@ -4,11 +4,14 @@ ghost use Rattle.std.specs.Prelude.{◌≡◌, ◌↔◌, ℕ, List, ◌++◌, l
 ghost use Rattle.std.specs.Int.{w32, to_be_bytes};
 ghost use Rattle.frames.specs.Frames.{IsLength, frame};
 
+/// The most bytes of a content: 4 MiB.
+pub const FRAME_LIMIT: usize = 4_194_304;
+
 /// Whether a content may have that many bytes: 1 to 4,194,304.
 pub fn is_length(len: u32) -> bool
     ensures { IsTrue result ↔ IsLength len }
 {
-    0 < len && len <= 4_194_304
+    0 < len && len as usize <= FRAME_LIMIT
 }
 
 /// The four bytes in front of a content of that many bytes: the length, big-endian. With the content behind them they

@@ -8,7 +8,7 @@ mod reply_buf;
 
 pub use framer::{FrameErr, Framer};
 pub use laws::{law_of_frames, law_of_runs, law_of_streams};
-pub use lengths::{header, is_length};
+pub use lengths::{FRAME_LIMIT, header, is_length};
 pub use reply_buf::ReplyBuf;
 
 #[cfg(test)]
