@@ -6,8 +6,8 @@ ghost use Rattle.message_fields.specs.Readings.{IsReading};
 ghost use Rattle.grammar.specs.Fields.{number_at, checked};
 ghost use Rattle.message_fields.specs.Fingerprints.{is_batch, fps_in, fps_at};
 
-use crate::Left;
 use crate::fields::{bytes_of, fp_of, u16_of};
+use crate::{BATCH_LIMIT, Left};
 use cd_base::Fp;
 use std::marker::Model;
 
@@ -60,7 +60,7 @@ pub fn batch_of(bytes: &[u8]) -> Result<(u16, &[u8]), Left>
     ensures { IsReading (λ x. (x.0, x.1.now)) result (checked is_batch (number_at w16) bytes.now) }
 {
     let (count, rest) = u16_of(bytes)?;
-    if 1 <= count && count <= 256 {
+    if 1 <= count && count as usize <= BATCH_LIMIT {
         Ok((count, rest))
     } else {
         Err(Left(bytes.len()))

@@ -8,7 +8,7 @@ ghost use Rattle.std.specs.Int.{w16};
 ghost use Rattle.grammar.specs.Fields.{number_at, checked};
 
 use crate::fields::{array_of, u16_of, u64_of};
-use crate::{Entries, Left};
+use crate::{Entries, KEY_LIMIT, Left};
 use cd_base::{Tag, Version};
 use grammar::Stop;
 use std::alloc::Global;
@@ -68,7 +68,7 @@ fn key_count_of(bytes: &[u8]) -> Result<(u16, &[u8]), Left>
     ensures { IsReading (λ x. (x.0, x.1.now)) result (checked is_key_count (number_at w16) bytes.now) }
 {
     let (count, rest) = u16_of(bytes)?;
-    if count <= 256 {
+    if count as usize <= KEY_LIMIT {
         Ok((count, rest))
     } else {
         Err(Left(bytes.len()))

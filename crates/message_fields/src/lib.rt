@@ -7,6 +7,7 @@ mod flags;
 mod fps;
 mod keys;
 mod left;
+mod limits;
 mod share_list;
 mod shares;
 
@@ -16,5 +17,6 @@ pub use flags::flags_of;
 pub use fps::{FpsView, batch_of, fps_of};
 pub use keys::{entries_of, is_key_above, key_above_of, key_of};
 pub use left::Left;
+pub use limits::{BATCH_LIMIT, KEY_LIMIT, SHARE_LIMIT};
 pub use share_list::ShareList;
-pub use shares::{SharesView, share_of, shares_of};
+pub use shares::{SharesView, share_len_of, share_of, shares_of};

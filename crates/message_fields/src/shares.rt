@@ -7,9 +7,9 @@ ghost use Rattle.grammar.specs.Fields.{number_at, checked};
 ghost use Rattle.message_fields.specs.Parts.{times, behind};
 ghost use Rattle.message_fields.specs.Shares.{is_share_len, IsShare, share_at, shares_at};
 
-use crate::Left;
 use crate::fields::{bytes_of, u32_of};
 use crate::fps::batch_of;
+use crate::{Left, SHARE_LIMIT};
 use std::marker::Model;
 
 /// Shares, in the bytes that they came in: each is its length in 4 bytes and so many bytes. Contracts see the list.
@@ -83,12 +83,12 @@ impl<'a> SharesView<'a> {
     }
 }
 
-// The length of a share.
-fn share_len_of(bytes: &[u8]) -> Result<(u32, &[u8]), Left>
+/// The length of a share, in 4 bytes, and what follows. One that is no number from 1 to 8,208 is wrong at its first place.
+pub fn share_len_of(bytes: &[u8]) -> Result<(u32, &[u8]), Left>
     ensures { IsReading (λ x. (x.0, x.1.now)) result (checked is_share_len (number_at w32) bytes.now) }
 {
     let (len, rest) = u32_of(bytes)?;
-    if 1 <= len && len <= 8208 {
+    if 1 <= len && len as usize <= SHARE_LIMIT {
         Ok((len, rest))
     } else {
         Err(Left(bytes.len()))
