@@ -23,6 +23,3 @@ pub use reply_writing::{
 };
 pub use request::Request;
 pub use view::RequestView;
-
-#[cfg(test)]
-mod tests;

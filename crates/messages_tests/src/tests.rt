@@ -1,6 +1,8 @@
-use super::*;
+//! Contents written out by hand, both ways.
+
 use cd_base::{Bytes, NoMemory, UserId};
 use frames::ReplyBuf;
+use messages::{MsgErr, Reply, Request, ShareList};
 use std::alloc::Global;
 use std::test::Fail;
 
