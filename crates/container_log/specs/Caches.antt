@@ -1,8 +1,10 @@
 -- Containers that are kept in memory.
-use Rattle.std.specs.Prelude.{◌≡◌, ◌⊎◌, ℕ, ◌+◌, ◌-◌, ◌*◌, ◌/◌, Bool, cond, ◌&&◌, ◌||◌, List, [], ◌∷◌, length, take, drop, slice_get, All, Option, None, Some, nat_eq, nat_le, nat_lt}
+use Rattle.std.specs.Prelude.{◌≡◌, ◌⊎◌, ℕ, ◌+◌, ◌-◌, ◌*◌, ◌/◌, Bool, IsTrue, cond, ◌&&◌, ◌||◌, List, [], ◌∷◌, length, take, drop, slice_get, All, Option, None, Some, nat_eq, nat_le, nat_lt}
 use Rattle.std.specs.List.{filter}
 use Rattle.std.specs.Map.{lookup, lookup_entry, remove_entry}
 use Rattle.std.specs.Option.{option_map_or}
+use Rattle.cd_edges.specs.declared.area.Area.{Area}
+use Rattle.cd_edges.specs.Disk.{Cloud}
 use Rattle.container_log.specs.Places.{container_len}
 
 -- a container that is kept: its number, and its bytes up to the area's end
@@ -21,6 +23,10 @@ container_of bytes number = take container_len (drop (number * container_len) by
 -- Each is what an area with these bytes has in that container.
 abbrev pub AreOf : List ℕ → List Kept → Type 0
 AreOf bytes kept = All (λ (k : Kept). k.1 ≡ container_of bytes k.0) kept
+
+-- Where the cloud is told, and each of these is what its area has in that container, P holds.
+abbrev pub OnKept : Cloud → Area → List Kept → Type 0 → Type 0
+OnKept cloud area kept P = IsTrue cloud.told → AreOf (cloud.now area).read kept → P
 
 -- the bytes that are kept of a container
 abbrev pub kept_of : List Kept → ℕ → Option (List ℕ)

@@ -1,6 +1,9 @@
 -- What a log is: an area, its limit, its end, what is staged behind the end, and the containers that are kept.
-use Rattle.std.specs.Prelude.{◌≡◌, ◌⊎◌, ℕ, ◌+◌, ◌-◌, ◌/◌, ◌%◌, ◌≤◌, List, [], ◌++◌, length, replicate, None, Some, Result, is_ok, if◌then◌else◌}
+use Rattle.std.specs.Prelude.{◌≡◌, ◌⊎◌, ℕ, ◌+◌, ◌-◌, ◌/◌, ◌%◌, ◌≤◌, List, [], ◌++◌, length, replicate, None, Some, Result, IsTrue, is_ok, if◌then◌else◌}
 use Rattle.cd_edges.specs.declared.area.Area.{Area}
+use Rattle.cd_edges.specs.Disk.{Cloud, Store, Image, IsAtArea, MayLeave, overwritten}
+use Rattle.cd_edges.specs.Shelf.{wrote, stable}
+use Rattle.container_log.specs.Kept.{KeepsBelow}
 use Rattle.container_log.specs.Places.{container_len, place_of, end_after}
 use Rattle.container_log.specs.Laying.{laid, Fit}
 use Rattle.container_log.specs.Caches.{Kept, AreOf, in_front, with_container, kept_of, kept_over}
@@ -43,6 +46,27 @@ after_flush log result = record log { end = (if is_ok result then staged_end log
 -- Each container that is kept is what these bytes of the log's area have there.
 abbrev pub Agrees : State → List ℕ → Type 0
 Agrees log bytes = AreOf bytes log.kept
+
+-- what a cloud has in the log's area
+abbrev pub in_area : State → Cloud → List ℕ
+in_area log cloud = (cloud.now log.area).read
+
+-- Where the cloud is told, and the log agrees with its area, P holds.
+abbrev pub OnAgreeing : State → Cloud → Type 0 → Type 0
+OnAgreeing log cloud P = IsTrue cloud.told → Agrees log (in_area log cloud) → P
+
+-- A crash in a flush leaves what was there before: below the log's end all that lay in the area at its last sync, and the other
+-- areas as they might have been left before.
+abbrev pub KeepsEarlier : State → Cloud → Image → Type 0
+KeepsEarlier log old = IsAtArea old.now log.area (KeepsBelow log.end (old.now log.area))
+
+-- A crash in a flush leaves the area as one write of what is staged may, and the other areas as they might have been left before.
+abbrev pub IsTorn : State → Cloud → Image → Type 0
+IsTorn log old = IsAtArea old.now log.area (MayLeave (wrote (old.now log.area) log.end log.staged))
+
+-- the log's area with what is staged written at the log's end, and synced
+abbrev pub area_flushed : State → Cloud → Store
+area_flushed log old = stable (overwritten (in_area log old) log.end log.staged)
 
 -- no container is kept
 abbrev pub without_kept : State → State

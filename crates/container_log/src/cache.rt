@@ -1,6 +1,7 @@
 //! The containers that were read lately.
 
-ghost use Rattle.std.specs.Prelude.{◌≡◌, ◌≤◌, ◌+◌, ◌<◌, ◌^◌, List, ℕ, [], length, ◌-◌, ◌⊎◌, slice_get, option_map, IfOk, IfSome, None, Some, IfNone};
+ghost use Rattle.std.specs.Prelude.{◌≡◌, ◌≤◌, ◌+◌, ◌<◌, ◌^◌, List, ℕ, [], length, ◌-◌, ◌⊎◌, slice_get};
+ghost use Rattle.std.specs.Prelude.{option_map, IfOk, IfSome, None, Some, IfNone};
 ghost use Rattle.std.specs.List.{filter};
 ghost use Rattle.cd_edges.specs.Shelf.{ReadsFrom};
 ghost use Rattle.lru.specs.LruCache.{lru_cache};
@@ -30,12 +31,16 @@ impl Model for Cache {
 
     ghost Value = { Keeps };
 
-    ghost view = { λ c. record { keep = option_map_or (λ l. l.cap) c.containers 0; kept = option_map_or (λ l. l.entries) c.containers [] } };
+    ghost view = { λ c. record {
+      keep = option_map_or (λ l. l.cap) c.containers 0;
+      kept = option_map_or (λ l. l.entries) c.containers [];
+    } };
 }
 
 // The number of the container that was read longest ago, and whether a write leaves its bytes.
 fn oldest(kept: &LruCache<u64, Container>, first: u64, last: u64) -> Option<(u64, bool)>
-    ensures { result ≡ option_map (λ k. (k.0, is_left first last k)) (slice_get kept.now.entries (length kept.now.entries - 1)) }
+    ensures { result ≡ option_map (λ k. (k.0, is_left first last k))
+        (slice_get kept.now.entries (length kept.now.entries - 1)) }
 {
     match kept.peek_lru() {
         Some((number, container)) => Some((*number, container.is_left(*number, first, last))),
@@ -72,7 +77,8 @@ fn forget_each(kept: &mut LruCache<u64, Container>, first: u64, last: u64)
 // Puts a container in front that isn't kept. Where memory is lacking nothing changes.
 fn put_front(kept: &mut LruCache<u64, Container>, number: u64, container: Container)
     requires { lookup (nat_eq number) kept.old.entries ≡ None }
-    ensures { (kept.new ≡ kept.old) ⊎ (kept.new ≡ lru_cache (with_container number container kept.old.cap kept.old.entries) kept.old.cap) }
+    ensures { (kept.new ≡ kept.old)
+        ⊎ (kept.new ≡ lru_cache (with_container number container kept.old.cap kept.old.entries) kept.old.cap) }
 {
     match kept.put(number, container) {
         Ok(old) => drop(old),
@@ -112,12 +118,13 @@ impl Cache {
         }
     }
 
-    /// Puts the bytes of a container that is kept from a place in it on in front of `out`, answers how many these are, and puts it in
-    /// front. None where it isn't kept.
+    /// Puts the bytes of a container that is kept from a place in it on in front of `out`, answers how many these are, and
+    /// puts it in front. None where it isn't kept.
     pub(crate) fn find(&mut self, number: u64, from: usize, out: &mut [u8]) -> Option<usize>
         ensures none { IfNone result (kept_of self.old.kept number ≡ None) }
         ensures same { IfNone result ((self.new ≡ self.old) × (out.new ≡ out.old)) }
-        ensures found { IfSome result (λ count. (bytes : List ℕ) × (kept_of self.old.kept number ≡ Some bytes) × ReadsFrom bytes from count out.new) }
+        ensures found { IfSome result (λ count. (bytes : List ℕ)
+            × (kept_of self.old.kept number ≡ Some bytes) × ReadsFrom bytes from count out.new) }
         ensures front { IfSome result (λ count. self.new ≡ record self.old { kept = in_front number self.old.kept }) }
     {
         let kept = self.containers.as_mut()?;
@@ -136,8 +143,8 @@ impl Cache {
         }
     }
 
-    /// Puts a container in front that isn't kept, and lets the last one go where that is one too many. Where memory is lacking nothing
-    /// changes.
+    /// Puts a container in front that isn't kept, and lets the last one go where that is one too many. Where memory is
+    /// lacking nothing changes.
     pub(crate) fn put(&mut self, number: u64, container: Container)
         requires { kept_of self.old.kept number ≡ None }
         ensures { IsKeptOr number container self.old self.new }

@@ -43,11 +43,15 @@ impl Container {
     ) -> Result<(), Failed>
         requires whole { length self.old ≡ 4194304 }
         requires within { number * 4194304 < 2 ^ 64 }
-        ensures read { IsTrue (V.cloud_at shelf.old cloud.0).told → OnOk result (self.new ≡ container_of ((V.cloud_at shelf.old cloud.0).now area).read number) }
+        ensures read { IsTrue (V.cloud_at shelf.old cloud.0).told
+            → OnOk result (self.new ≡ container_of ((V.cloud_at shelf.old cloud.0).now area).read number) }
         ensures stays { Stays (V.cloud_at shelf.old cloud.0) (V.cloud_at shelf.new cloud.0) }
-        ensures call { IsCall (V.cloud_at shelf.old) (V.cloud_at shelf.new) cloud.0 (V.faults shelf.old) (V.faults shelf.new) }
-        ensures failed { OnErr result (HasFailed (V.cloud_at shelf.old cloud.0) (V.cloud_at shelf.new cloud.0) (V.faults shelf.old) (V.faults shelf.new)) }
-        ensures uncounted { OnOk result (KeepsCounts (V.cloud_at shelf.old cloud.0) (V.cloud_at shelf.new cloud.0) (V.faults shelf.old) (V.faults shelf.new)) }
+        ensures call { IsCall (V.cloud_at shelf.old) (V.cloud_at shelf.new) cloud.0
+            (V.faults shelf.old) (V.faults shelf.new) }
+        ensures failed { OnErr result (HasFailed (V.cloud_at shelf.old cloud.0) (V.cloud_at shelf.new cloud.0)
+            (V.faults shelf.old) (V.faults shelf.new)) }
+        ensures uncounted { OnOk result (KeepsCounts (V.cloud_at shelf.old cloud.0) (V.cloud_at shelf.new cloud.0)
+            (V.faults shelf.old) (V.faults shelf.new)) }
     {
         let count = shelf.read(cloud, area, number * CONTAINER, &mut self.bytes)?;
         self.bytes.truncate(count);

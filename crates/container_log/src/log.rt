@@ -1,13 +1,16 @@
 //! The log of an area.
 
-ghost use Rattle.std.specs.Prelude.{◌≡◌, ◌≢◌, ◌↔◌, ℕ, ◌+◌, ◌-◌, ◌^◌, ◌<◌, ◌≤◌, List, [], ◌∷◌, ◌++◌, length, take, replicate, map, All, IsTrue, IsOk, IfOk, OnOk, OnErr, MatchResult};
+ghost use Rattle.std.specs.Prelude.{◌≡◌, ◌≢◌, ◌↔◌, ℕ, ◌+◌, ◌-◌, ◌^◌, ◌<◌, ◌≤◌, List, [], ◌∷◌, ◌++◌, length, take};
+ghost use Rattle.std.specs.Prelude.{replicate, map, All, IsTrue, IsOk, IfOk, OnOk, OnErr, MatchResult};
 ghost use Rattle.cd_edges.specs.declared.area.Area.{Area};
 ghost use Rattle.cd_edges.specs.Disk.{LeavesOnly, IsAtArea, MayLeave, moment, overwritten};
 ghost use Rattle.cd_edges.specs.Shelf.{IsCall, HasFailed, KeepsCounts, Stays, ReadsFrom, wrote, stable};
 ghost use Rattle.container_log.specs.Kept.{KeepsBelow};
 ghost use Rattle.container_log.specs.Laying.{Placed, lengths, placed, IsAt};
 ghost use Rattle.container_log.specs.Places.{place_of, end_after, end_of_laid};
-ghost use Rattle.container_log.specs.States.{State, HasStaged, staged_end, need_of, with_blob, without_staged, after_flush, Agrees, IsKept, IsAfterRead};
+ghost use Rattle.container_log.specs.States.{State, HasStaged, staged_end, need_of, with_blob, without_staged, after_flush};
+ghost use Rattle.container_log.specs.States.{Agrees, OnAgreeing, IsKept, IsAfterRead};
+ghost use Rattle.container_log.specs.States.{in_area, KeepsEarlier, IsTorn, area_flushed};
 
 use crate::LogFull;
 use crate::cache::Cache;
@@ -43,7 +46,14 @@ impl Model for Log {
 
     ghost Value = { State };
 
-    ghost view = { λ l. record { area = l.area; limit = l.limit; end = l.end; staged = take l.used l.buffer.items; keep = l.cache.keep; kept = l.cache.kept } };
+    ghost view = { λ l. record {
+      area = l.area;
+      limit = l.limit;
+      end = l.end;
+      staged = take l.used l.buffer.items;
+      keep = l.cache.keep;
+      kept = l.cache.kept;
+    } };
 
     ghost invariant = { λ l. (vec_len l.buffer ≡ 4194304) × (l.used ≤ 4194304) × (l.end + l.used < 2 ^ 64) };
 }
@@ -66,12 +76,13 @@ fn put_behind(buffer: &mut [u8], used: usize, gap: usize, blob: &[u8])
 }
 
 impl Log {
-    /// The log of this area, which has no blob yet and may end at `limit` at most. It keeps up to `keep` containers that were read
-    /// lately, 16 at most, and none of them yet. It takes a buffer of 4,194,304 bytes here; a read may take as many for a container
-    /// that it keeps, and no other call takes memory.
+    /// The log of this area, which has no blob yet and may end at `limit` at most. It keeps up to `keep` containers that
+    /// were read lately, 16 at most, and none of them yet. It takes a buffer of 4,194,304 bytes here; a read may take as many
+    /// for a container that it keeps, and no other call takes memory.
     pub fn make(alloc: Global, area: Area, limit: u64, keep: u32) -> Result<Log, NoMemory>
         requires keep { keep ≤ 16 }
-        ensures made { IfOk result (λ log. log ≡ record { area = area; limit = limit; end = 0; staged = []; keep = keep; kept = [] }) }
+        ensures made { IfOk result (λ log.
+            log ≡ record { area = area; limit = limit; end = 0; staged = []; keep = keep; kept = [] }) }
         ensures none { IfOk result (λ log. HasStaged log []) }
         ensures agrees { (bytes : List ℕ) → IfOk result (λ log. Agrees log bytes) }
     {
@@ -85,8 +96,8 @@ impl Log {
         })
     }
 
-    /// Says where the log ends, as a place of the area, and forgets what is staged and each container that is kept: so the log agrees
-    /// with whatever the area has. It takes no memory.
+    /// Says where the log ends, as a place of the area, and forgets what is staged and each container that is kept: so the
+    /// log agrees with whatever the area has. It takes no memory.
     pub fn reset(&mut self, end: u64)
         ensures reset { self.new ≡ record self.old { end = end; staged = []; kept = [] } }
         ensures none { HasStaged self.new [] }
@@ -121,12 +132,20 @@ impl Log {
         requires room { need_of self.old (length blob.now) ≤ 4194304 }
 
         ensures answer { MatchResult result
-            (λ place. (self.old.end + need_of self.old (length blob.now) ≤ self.old.limit) × (place ≡ place_of (staged_end self.old) (length blob.now)))
-            (λ full. (self.old.limit < self.old.end + need_of self.old (length blob.now)) × (full ≡ record { used = self.old.end; need = need_of self.old (length blob.now); limit = self.old.limit })) }
+            (λ place. (self.old.end + need_of self.old (length blob.now) ≤ self.old.limit)
+            × (place ≡ place_of (staged_end self.old) (length blob.now)))
+            (λ full. (self.old.limit < self.old.end + need_of self.old (length blob.now))
+            × (full ≡ record {
+              used = self.old.end;
+              need = need_of self.old (length blob.now);
+              limit = self.old.limit;
+            })) }
         ensures ok { OnOk result (self.new ≡ with_blob self.old blob.now) }
         ensures err { OnErr result (self.new ≡ self.old) }
-        ensures place { (blobs : List (List ℕ)) → HasStaged self.old blobs → IfOk result (λ place. place ≡ place_of (end_of_laid self.old.end (lengths blobs)) (length blob.now)) }
-        ensures staged { (blobs : List (List ℕ)) → HasStaged self.old blobs → OnOk result (HasStaged self.new (blobs ++ blob.now ∷ [])) }
+        ensures place { (blobs : List (List ℕ)) → HasStaged self.old blobs
+            → IfOk result (λ place. place ≡ place_of (end_of_laid self.old.end (lengths blobs)) (length blob.now)) }
+        ensures staged { (blobs : List (List ℕ)) → HasStaged self.old blobs
+            → OnOk result (HasStaged self.new (blobs ++ blob.now ∷ [])) }
     {
         let behind = self.end + self.used as u64;
         let gap = gap_behind(behind, blob.len() as u64);
@@ -161,33 +180,44 @@ impl Log {
     /// log, by what an earlier crash left of a flush: as many bytes of that tail are written over as are staged, and what
     /// lies behind them stays. Where the area is shorter, zeros fill the gap.
     ///
-    /// Before it writes it forgets each container that it writes, and each that is kept with fewer than 4,194,304 bytes; after Failed it
-    /// has forgotten all. So a log that agrees with the area does so afterwards.
+    /// Before it writes it forgets each container that it writes, and each that is kept with fewer than 4,194,304 bytes; after
+    /// Failed it has forgotten all. So a log that agrees with the area does so afterwards.
     pub fn flush<V: Shelf>(&mut self, shelf: &mut V, cloud: CloudNo) -> Result<(), Failed>
-        ensures any_moment { IsTrue (V.cloud_at shelf.old cloud.0).told → LeavesOnly (V.cloud_at shelf.old cloud.0) (V.cloud_at shelf.new cloud.0)
-            (IsAtArea (V.cloud_at shelf.old cloud.0).now self.old.area (KeepsBelow self.old.end ((V.cloud_at shelf.old cloud.0).now self.old.area))) }
-        ensures torn { IsTrue (V.cloud_at shelf.old cloud.0).told → LeavesOnly (V.cloud_at shelf.old cloud.0) (V.cloud_at shelf.new cloud.0)
-            (IsAtArea (V.cloud_at shelf.old cloud.0).now self.old.area (MayLeave (wrote ((V.cloud_at shelf.old cloud.0).now self.old.area) self.old.end self.old.staged))) }
+        ensures any_moment { IsTrue (V.cloud_at shelf.old cloud.0).told
+            → LeavesOnly (V.cloud_at shelf.old cloud.0) (V.cloud_at shelf.new cloud.0)
+            (KeepsEarlier self.old (V.cloud_at shelf.old cloud.0)) }
+        ensures torn { IsTrue (V.cloud_at shelf.old cloud.0).told
+            → LeavesOnly (V.cloud_at shelf.old cloud.0) (V.cloud_at shelf.new cloud.0)
+            (IsTorn self.old (V.cloud_at shelf.old cloud.0)) }
 
         ensures written { IsTrue (V.cloud_at shelf.old cloud.0).told → self.old.staged ≢ []
-            → OnOk result ((V.cloud_at shelf.new cloud.0).now self.old.area ≡ stable (overwritten ((V.cloud_at shelf.old cloud.0).now self.old.area).read self.old.end self.old.staged)) }
+            → OnOk result ((V.cloud_at shelf.new cloud.0).now self.old.area
+            ≡ area_flushed self.old (V.cloud_at shelf.old cloud.0)) }
         ensures placed { IsTrue (V.cloud_at shelf.old cloud.0).told → (blobs : List (List ℕ)) → HasStaged self.old blobs
-            → OnOk result (All (IsAt ((V.cloud_at shelf.new cloud.0).now self.old.area).read) (placed self.old.end blobs)) }
-        ensures kept { IsTrue (V.cloud_at shelf.old cloud.0).told → (b : Placed) → b.place + length b.blob ≤ self.old.end → IsAt ((V.cloud_at shelf.old cloud.0).now self.old.area).read b
-            → OnOk result (IsAt ((V.cloud_at shelf.new cloud.0).now self.old.area).read b) }
-        ensures others { IsTrue (V.cloud_at shelf.old cloud.0).told → OnOk result ((other : Area) → other ≢ self.old.area → (V.cloud_at shelf.new cloud.0).now other ≡ (V.cloud_at shelf.old cloud.0).now other) }
-        ensures moments { IsTrue (V.cloud_at shelf.old cloud.0).told → self.old.staged ≢ [] → OnOk result (moment (V.cloud_at shelf.new cloud.0) ≡ moment (V.cloud_at shelf.old cloud.0) + 2) }
+            → OnOk result (All (IsAt (in_area self.old (V.cloud_at shelf.new cloud.0))) (placed self.old.end blobs)) }
+        ensures kept { IsTrue (V.cloud_at shelf.old cloud.0).told → (b : Placed)
+            → b.place + length b.blob ≤ self.old.end → IsAt (in_area self.old (V.cloud_at shelf.old cloud.0)) b
+            → OnOk result (IsAt (in_area self.old (V.cloud_at shelf.new cloud.0)) b) }
+        ensures others { IsTrue (V.cloud_at shelf.old cloud.0).told
+            → OnOk result ((other : Area) → other ≢ self.old.area
+            → (V.cloud_at shelf.new cloud.0).now other ≡ (V.cloud_at shelf.old cloud.0).now other) }
+        ensures moments { IsTrue (V.cloud_at shelf.old cloud.0).told → self.old.staged ≢ []
+            → OnOk result (moment (V.cloud_at shelf.new cloud.0) ≡ moment (V.cloud_at shelf.old cloud.0) + 2) }
         ensures nothing { self.old.staged ≡ [] → (shelf.new ≡ shelf.old) × (self.new ≡ self.old) × IsOk result }
 
-        ensures agrees { IsTrue (V.cloud_at shelf.old cloud.0).told → Agrees self.old ((V.cloud_at shelf.old cloud.0).now self.old.area).read
-            → Agrees self.new ((V.cloud_at shelf.new cloud.0).now self.new.area).read }
+        ensures agrees { OnAgreeing self.old (V.cloud_at shelf.old cloud.0)
+            (Agrees self.new (in_area self.new (V.cloud_at shelf.new cloud.0))) }
 
         ensures log { self.new ≡ after_flush self.old result }
-        ensures end { (blobs : List (List ℕ)) → HasStaged self.old blobs → OnOk result (self.new.end ≡ end_of_laid self.old.end (lengths blobs)) }
+        ensures end { (blobs : List (List ℕ)) → HasStaged self.old blobs
+            → OnOk result (self.new.end ≡ end_of_laid self.old.end (lengths blobs)) }
         ensures none { HasStaged self.new [] }
-        ensures call { IsCall (V.cloud_at shelf.old) (V.cloud_at shelf.new) cloud.0 (V.faults shelf.old) (V.faults shelf.new) }
-        ensures failed { OnErr result (HasFailed (V.cloud_at shelf.old cloud.0) (V.cloud_at shelf.new cloud.0) (V.faults shelf.old) (V.faults shelf.new)) }
-        ensures uncounted { OnOk result (KeepsCounts (V.cloud_at shelf.old cloud.0) (V.cloud_at shelf.new cloud.0) (V.faults shelf.old) (V.faults shelf.new)) }
+        ensures call { IsCall (V.cloud_at shelf.old) (V.cloud_at shelf.new) cloud.0
+            (V.faults shelf.old) (V.faults shelf.new) }
+        ensures failed { OnErr result (HasFailed (V.cloud_at shelf.old cloud.0) (V.cloud_at shelf.new cloud.0)
+            (V.faults shelf.old) (V.faults shelf.new)) }
+        ensures uncounted { OnOk result (KeepsCounts (V.cloud_at shelf.old cloud.0) (V.cloud_at shelf.new cloud.0)
+            (V.faults shelf.old) (V.faults shelf.new)) }
     {
         if self.used == 0 {
             return Ok(());
@@ -209,13 +239,14 @@ impl Log {
         }
     }
 
-    /// Puts what the area has from place `place` on in front of `out`, and answers how many bytes that are: fewer than `out.len()`
-    /// exactly where the area ends there. What is staged isn't seen. Failed comes only where the cloud's count of faults rose.
+    /// Puts what the area has from place `place` on in front of `out`, and answers how many bytes that are: fewer than
+    /// `out.len()` exactly where the area ends there. What is staged isn't seen. Failed comes only where the cloud's count of
+    /// faults rose.
     ///
-    /// Where the bytes lie in a container that is kept, no device is called: so the answer is the area's where the log agrees with it. Else
-    /// it makes one device call. Where they lie in one container, it reads that container whole, up to the area's end, and keeps it,
-    /// where containers are to be kept and memory allows; the one that was read longest ago is forgotten for it. Else it reads these bytes
-    /// alone. After Failed it has forgotten all.
+    /// Where the bytes lie in a container that is kept, no device is called: so the answer is the area's where the log agrees
+    /// with it. Else it makes one device call. Where they lie in one container, it reads that container whole, up to the
+    /// area's end, and keeps it, where containers are to be kept and memory allows; the one that was read longest ago is
+    /// forgotten for it. Else it reads these bytes alone. After Failed it has forgotten all.
     pub fn read<V: Shelf>(
         &mut self,
         shelf: &mut V,
@@ -223,22 +254,26 @@ impl Log {
         place: u64,
         out: &mut [u8],
     ) -> Result<usize, Failed>
-        ensures bytes { IsTrue (V.cloud_at shelf.old cloud.0).told → Agrees self.old ((V.cloud_at shelf.old cloud.0).now self.old.area).read
-            → IfOk result (λ count. ReadsFrom ((V.cloud_at shelf.old cloud.0).now self.old.area).read place count out.new) }
-        ensures blob { IsTrue (V.cloud_at shelf.old cloud.0).told → Agrees self.old ((V.cloud_at shelf.old cloud.0).now self.old.area).read
-            → (b : Placed) → b.place ≡ place → length b.blob ≡ length out.old → IsAt ((V.cloud_at shelf.old cloud.0).now self.old.area).read b
-            → OnOk result (out.new ≡ b.blob) }
+        ensures bytes { OnAgreeing self.old (V.cloud_at shelf.old cloud.0)
+            (IfOk result (λ count. ReadsFrom (in_area self.old (V.cloud_at shelf.old cloud.0)) place count out.new)) }
+        ensures blob { OnAgreeing self.old (V.cloud_at shelf.old cloud.0)
+            ((b : Placed) → b.place ≡ place → length b.blob ≡ length out.old
+            → IsAt (in_area self.old (V.cloud_at shelf.old cloud.0)) b → OnOk result (out.new ≡ b.blob)) }
         ensures bound { IfOk result (λ count. count ≤ length out.new) }
-        ensures agrees { IsTrue (V.cloud_at shelf.old cloud.0).told → Agrees self.old ((V.cloud_at shelf.old cloud.0).now self.old.area).read
-            → Agrees self.new ((V.cloud_at shelf.new cloud.0).now self.new.area).read }
-        ensures no_call { (bytes : List ℕ) → IsKept self.old place (length out.old) bytes → (shelf.new ≡ shelf.old) × IsOk result }
+        ensures agrees { OnAgreeing self.old (V.cloud_at shelf.old cloud.0)
+            (Agrees self.new (in_area self.new (V.cloud_at shelf.new cloud.0))) }
+        ensures no_call { (bytes : List ℕ) → IsKept self.old place (length out.old) bytes
+            → (shelf.new ≡ shelf.old) × IsOk result }
         ensures log { self.new ≡ record self.old { kept = self.new.kept } }
         ensures kept { OnOk result (IsAfterRead self.old place self.new) }
         ensures forgets { OnErr result (self.new.kept ≡ []) }
         ensures stays { Stays (V.cloud_at shelf.old cloud.0) (V.cloud_at shelf.new cloud.0) }
-        ensures call { IsCall (V.cloud_at shelf.old) (V.cloud_at shelf.new) cloud.0 (V.faults shelf.old) (V.faults shelf.new) }
-        ensures failed { OnErr result (HasFailed (V.cloud_at shelf.old cloud.0) (V.cloud_at shelf.new cloud.0) (V.faults shelf.old) (V.faults shelf.new)) }
-        ensures uncounted { OnOk result (KeepsCounts (V.cloud_at shelf.old cloud.0) (V.cloud_at shelf.new cloud.0) (V.faults shelf.old) (V.faults shelf.new)) }
+        ensures call { IsCall (V.cloud_at shelf.old) (V.cloud_at shelf.new) cloud.0
+            (V.faults shelf.old) (V.faults shelf.new) }
+        ensures failed { OnErr result (HasFailed (V.cloud_at shelf.old cloud.0) (V.cloud_at shelf.new cloud.0)
+            (V.faults shelf.old) (V.faults shelf.new)) }
+        ensures uncounted { OnOk result (KeepsCounts (V.cloud_at shelf.old cloud.0) (V.cloud_at shelf.new cloud.0)
+            (V.faults shelf.old) (V.faults shelf.new)) }
     {
         match read_kept(&mut self.cache, shelf, cloud, self.area, place, out) {
             Ok(count) => Ok(count),
@@ -249,8 +284,8 @@ impl Log {
         }
     }
 
-    /// The same by one device call that reads these bytes alone, whatever is kept: so the answer is the area's in any case. Nothing is
-    /// kept for it or forgotten, and it takes no memory.
+    /// The same by one device call that reads these bytes alone, whatever is kept: so the answer is the area's in any case.
+    /// Nothing is kept for it or forgotten, and it takes no memory.
     pub fn read_alone<V: Shelf>(
         &mut self,
         shelf: &mut V,
@@ -258,15 +293,20 @@ impl Log {
         place: u64,
         out: &mut [u8],
     ) -> Result<usize, Failed>
-        ensures bytes { IsTrue (V.cloud_at shelf.old cloud.0).told → IfOk result (λ count. ReadsFrom ((V.cloud_at shelf.old cloud.0).now self.old.area).read place count out.new) }
-        ensures blob { IsTrue (V.cloud_at shelf.old cloud.0).told → (b : Placed) → b.place ≡ place → length b.blob ≡ length out.old → IsAt ((V.cloud_at shelf.old cloud.0).now self.old.area).read b
-            → OnOk result (out.new ≡ b.blob) }
+        ensures bytes { IsTrue (V.cloud_at shelf.old cloud.0).told
+            → IfOk result (λ count. ReadsFrom (in_area self.old (V.cloud_at shelf.old cloud.0)) place count out.new) }
+        ensures blob { IsTrue (V.cloud_at shelf.old cloud.0).told
+            → (b : Placed) → b.place ≡ place → length b.blob ≡ length out.old
+            → IsAt (in_area self.old (V.cloud_at shelf.old cloud.0)) b → OnOk result (out.new ≡ b.blob) }
         ensures bound { IfOk result (λ count. count ≤ length out.new) }
         ensures log { self.new ≡ self.old }
         ensures stays { Stays (V.cloud_at shelf.old cloud.0) (V.cloud_at shelf.new cloud.0) }
-        ensures call { IsCall (V.cloud_at shelf.old) (V.cloud_at shelf.new) cloud.0 (V.faults shelf.old) (V.faults shelf.new) }
-        ensures failed { OnErr result (HasFailed (V.cloud_at shelf.old cloud.0) (V.cloud_at shelf.new cloud.0) (V.faults shelf.old) (V.faults shelf.new)) }
-        ensures uncounted { OnOk result (KeepsCounts (V.cloud_at shelf.old cloud.0) (V.cloud_at shelf.new cloud.0) (V.faults shelf.old) (V.faults shelf.new)) }
+        ensures call { IsCall (V.cloud_at shelf.old) (V.cloud_at shelf.new) cloud.0
+            (V.faults shelf.old) (V.faults shelf.new) }
+        ensures failed { OnErr result (HasFailed (V.cloud_at shelf.old cloud.0) (V.cloud_at shelf.new cloud.0)
+            (V.faults shelf.old) (V.faults shelf.new)) }
+        ensures uncounted { OnOk result (KeepsCounts (V.cloud_at shelf.old cloud.0) (V.cloud_at shelf.new cloud.0)
+            (V.faults shelf.old) (V.faults shelf.new)) }
     {
         shelf.read(cloud, self.area, place, out)
     }

@@ -1,8 +1,9 @@
 //! A read by way of the containers that are kept.
 
-ghost use Rattle.std.specs.Prelude.{◌≡◌, ℕ, ◌+◌, ◌*◌, ◌/◌, ◌%◌, ◌^◌, ◌<◌, ◌≤◌, List, length, None, Some, IsTrue, IsOk, IfOk, OnOk, OnErr};
+ghost use Rattle.std.specs.Prelude.{◌≡◌, ℕ, ◌+◌, ◌*◌, ◌/◌, ◌%◌, ◌^◌, ◌<◌, ◌≤◌, List, length, None, Some, IsTrue};
+ghost use Rattle.std.specs.Prelude.{IsOk, IfOk, OnOk, OnErr};
 ghost use Rattle.cd_edges.specs.Shelf.{IsCall, HasFailed, KeepsCounts, Stays, ReadsFrom};
-ghost use Rattle.container_log.specs.Caches.{AreOf, kept_of, IsReadOf};
+ghost use Rattle.container_log.specs.Caches.{AreOf, OnKept, kept_of, IsReadOf};
 
 use crate::cache::Cache;
 use crate::log::STAGING;
@@ -21,14 +22,19 @@ fn read_new<V: Shelf>(
 ) -> Result<usize, Failed>
     requires within { place % 4194304 + length out.old ≤ 4194304 }
     requires none { kept_of cache.old.kept (place / 4194304) ≡ None }
-    ensures bytes { IsTrue (V.cloud_at shelf.old cloud.0).told → IfOk result (λ count. ReadsFrom ((V.cloud_at shelf.old cloud.0).now area).read place count out.new) }
+    ensures bytes { IsTrue (V.cloud_at shelf.old cloud.0).told
+        → IfOk result (λ count. ReadsFrom ((V.cloud_at shelf.old cloud.0).now area).read place count out.new) }
     ensures bound { IfOk result (λ count. count ≤ length out.new) }
-    ensures agrees { IsTrue (V.cloud_at shelf.old cloud.0).told → AreOf ((V.cloud_at shelf.old cloud.0).now area).read cache.old.kept → AreOf ((V.cloud_at shelf.old cloud.0).now area).read cache.new.kept }
+    ensures agrees { OnKept (V.cloud_at shelf.old cloud.0) area cache.old.kept
+        (AreOf ((V.cloud_at shelf.old cloud.0).now area).read cache.new.kept) }
     ensures kept { IsReadOf cache.old (place / 4194304) cache.new }
     ensures stays { Stays (V.cloud_at shelf.old cloud.0) (V.cloud_at shelf.new cloud.0) }
-    ensures call { IsCall (V.cloud_at shelf.old) (V.cloud_at shelf.new) cloud.0 (V.faults shelf.old) (V.faults shelf.new) }
-    ensures failed { OnErr result (HasFailed (V.cloud_at shelf.old cloud.0) (V.cloud_at shelf.new cloud.0) (V.faults shelf.old) (V.faults shelf.new)) }
-    ensures uncounted { OnOk result (KeepsCounts (V.cloud_at shelf.old cloud.0) (V.cloud_at shelf.new cloud.0) (V.faults shelf.old) (V.faults shelf.new)) }
+    ensures call { IsCall (V.cloud_at shelf.old) (V.cloud_at shelf.new) cloud.0
+        (V.faults shelf.old) (V.faults shelf.new) }
+    ensures failed { OnErr result (HasFailed (V.cloud_at shelf.old cloud.0) (V.cloud_at shelf.new cloud.0)
+        (V.faults shelf.old) (V.faults shelf.new)) }
+    ensures uncounted { OnOk result (KeepsCounts (V.cloud_at shelf.old cloud.0) (V.cloud_at shelf.new cloud.0)
+        (V.faults shelf.old) (V.faults shelf.new)) }
 {
     let number = place / CONTAINER;
     match cache.room(STAGING) {
@@ -44,8 +50,8 @@ fn read_new<V: Shelf>(
     }
 }
 
-/// Puts what the area has from a place on in front of `out`, and answers how many bytes that are. No device is called where they lie in a
-/// container that is kept. Else it makes one device call, and may keep the container.
+/// Puts what the area has from a place on in front of `out`, and answers how many bytes that are. No device is called where
+/// they lie in a container that is kept. Else it makes one device call, and may keep the container.
 pub(crate) fn read_kept<V: Shelf>(
     cache: &mut Cache,
     shelf: &mut V,
@@ -54,16 +60,21 @@ pub(crate) fn read_kept<V: Shelf>(
     place: u64,
     out: &mut [u8],
 ) -> Result<usize, Failed>
-    ensures bytes { IsTrue (V.cloud_at shelf.old cloud.0).told → AreOf ((V.cloud_at shelf.old cloud.0).now area).read cache.old.kept
-        → IfOk result (λ count. ReadsFrom ((V.cloud_at shelf.old cloud.0).now area).read place count out.new) }
+    ensures bytes { OnKept (V.cloud_at shelf.old cloud.0) area cache.old.kept
+        (IfOk result (λ count. ReadsFrom ((V.cloud_at shelf.old cloud.0).now area).read place count out.new)) }
     ensures bound { IfOk result (λ count. count ≤ length out.new) }
-    ensures agrees { IsTrue (V.cloud_at shelf.old cloud.0).told → AreOf ((V.cloud_at shelf.old cloud.0).now area).read cache.old.kept → AreOf ((V.cloud_at shelf.old cloud.0).now area).read cache.new.kept }
-    ensures no_call { (bytes : List ℕ) → place % 4194304 + length out.old ≤ 4194304 → kept_of cache.old.kept (place / 4194304) ≡ Some bytes → (shelf.new ≡ shelf.old) × IsOk result }
+    ensures agrees { OnKept (V.cloud_at shelf.old cloud.0) area cache.old.kept
+        (AreOf ((V.cloud_at shelf.old cloud.0).now area).read cache.new.kept) }
+    ensures no_call { (bytes : List ℕ) → place % 4194304 + length out.old ≤ 4194304
+        → kept_of cache.old.kept (place / 4194304) ≡ Some bytes → (shelf.new ≡ shelf.old) × IsOk result }
     ensures kept { IsReadOf cache.old (place / 4194304) cache.new }
     ensures stays { Stays (V.cloud_at shelf.old cloud.0) (V.cloud_at shelf.new cloud.0) }
-    ensures call { IsCall (V.cloud_at shelf.old) (V.cloud_at shelf.new) cloud.0 (V.faults shelf.old) (V.faults shelf.new) }
-    ensures failed { OnErr result (HasFailed (V.cloud_at shelf.old cloud.0) (V.cloud_at shelf.new cloud.0) (V.faults shelf.old) (V.faults shelf.new)) }
-    ensures uncounted { OnOk result (KeepsCounts (V.cloud_at shelf.old cloud.0) (V.cloud_at shelf.new cloud.0) (V.faults shelf.old) (V.faults shelf.new)) }
+    ensures call { IsCall (V.cloud_at shelf.old) (V.cloud_at shelf.new) cloud.0
+        (V.faults shelf.old) (V.faults shelf.new) }
+    ensures failed { OnErr result (HasFailed (V.cloud_at shelf.old cloud.0) (V.cloud_at shelf.new cloud.0)
+        (V.faults shelf.old) (V.faults shelf.new)) }
+    ensures uncounted { OnOk result (KeepsCounts (V.cloud_at shelf.old cloud.0) (V.cloud_at shelf.new cloud.0)
+        (V.faults shelf.old) (V.faults shelf.new)) }
 {
     let from = (place % CONTAINER) as usize;
     if STAGING - from < out.len() {
