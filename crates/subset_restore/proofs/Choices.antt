@@ -193,13 +193,6 @@ none_left (suc need) (cloud ∷ rest) few =
     λ i. map (λ s. cloud ∷ s) (one i) ++ other i
 
 -- each that is among these clouds
--- all of them are one choice
-pub one_choice : (clouds : List ℕ) → subsets (length clouds) clouds ≡ clouds ∷ []
-one_choice [] = refl
-one_choice (x ∷ clouds) =
-    ap (λ (l : List (List ℕ)). map (λ subset. x ∷ subset) l ++ subsets (suc (length clouds)) clouds) (one_choice clouds)
-    ∙ ap (λ (l : List (List ℕ)). (x ∷ clouds) ∷ l) (none_left (suc (length clouds)) clouds (omega arith))
-
 pub subset_among : (k : ℕ) (clouds subset : List ℕ) → Contains (subsets k clouds) subset → (x : ℕ) → Contains subset x → Contains clouds x
 subset_among zero clouds subset c x has = elim (contains_cases [] [] subset c) [
   | inl e ↦ absurd (contains_nothing x (subst (λ (l : List ℕ). Contains l x) (sym e) has))
