@@ -21,7 +21,7 @@ use Rattle.subset_restore.specs.Subsets.{subsets}
 use Rattle.subset_restore.specs.Tries.{Try, GoneThrough, NoneYet, Passed, Refused, HoldsRefuser}
 use Rattle.subset_restore.specs.Ends.{AllRefused, AnyEnds, Came, NoneCame, OneRestore}
 use Rattle.subset_restore.proofs.Calling.{none_by}
-use Rattle.subset_restore.proofs.Choices.{one_choice, subset_among}
+use Rattle.subset_restore.proofs.Choices.{only_choice, subset_among}
 use Rattle.subset_restore.proofs.Elements.{all_of, contains_back, contains_front, of_all}
 use Rattle.fetched_files.proofs.Lists.{Apart, apart}
 use Rattle.restore_command.specs.Calls.{Call, named_in}
@@ -115,8 +115,7 @@ module _ {P : Type 0} (tells : P → Telling) (faults : P → ℕ) (start : Port
 
   -- just k clouds
   one_only : length items ≡ greeted.shape.k → choices ≡ clouds_of items ∷ []
-  one_only few = subst (λ (n : ℕ). subsets n (clouds_of items) ≡ clouds_of items ∷ [])
-      (length-map items (λ (line : CloudNo × ℕ). line.0.0) ∙ few) (one_choice (clouds_of items))
+  one_only few = only_choice greeted.shape.k (clouds_of items) (length-map items (λ (line : CloudNo × ℕ). line.0.0) ∙ few)
 
   differ : Apart (named_in items)
   differ = apart (named_in items) (subst IsStrictlyIncreasing (sym (numbers_in items)) rises)

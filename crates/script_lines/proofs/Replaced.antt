@@ -6,7 +6,6 @@ use Rattle.std.proofs.lemmas.Bool.{cases_eq}
 use Rattle.cd_base.specs.declared.ids.CloudNo.{CloudNo}
 use Rattle.cd_base.specs.declared.shape.Shape.{Shape}
 use Rattle.cd_edges.specs.declared.area.Area.{Area}
-use Rattle.cd_edges.specs.declared.area.Area.TheVariants.{Journal}
 use Rattle.cd_edges.specs.declared.stream.Failed.{Failed}
 use Rattle.cd_edges.specs.Causes.{Rose}
 use Rattle.cd_edges.specs.Disk.{Cloud, Image, IsImage}
@@ -17,16 +16,14 @@ use Rattle.commit_journal.specs.declared.errors.OpenErr.{OpenErr}
 use Rattle.commit_journal.specs.declared.errors.OpenErr.TheVariants as errors
 use Rattle.commit_journal.specs.declared.header.Header.{Header}
 use Rattle.commit_journal.specs.Openings.{OnFault}
-use Rattle.commit_journal.specs.Records.{is_begun}
 use Rattle.user_dedup.specs.declared.command.Command.{Command}
-use Rattle.user_dedup.specs.Dedup.{Begun}
 use Rattle.user_dedup.specs.Exec.{Peer, MaySettleAs}
 use Rattle.user_dedup.specs.Link.{LeavesOthers}
 use Rattle.user_dedup.proofs.Owned.{contains_here, contains_cases, contains_nothing}
 use Rattle.cloud_store.specs.Standing.{StandsForSome, ImagesNow, ImagesSince}
-use Rattle.cloud_store.specs.Store.{StandsFor}
 use Rattle.share_server.specs.declared.server.Server.{Server}
 use Rattle.share_server.specs.Serving.{ReopensAs}
+use Rattle.share_server.proofs.NoCommands.{empty_stands}
 use Rattle.upload_job.specs.Lanes.{LaneView}
 use Rattle.local_link.specs.declared.link.LocalLink.{LocalLink}
 use Rattle.local_link.specs.Tells.{server_at, telling, StandsAt, LeavesRest}
@@ -47,11 +44,6 @@ use Rattle.script_lines.proofs.Going.{put, put_here, put_other, now_by, moves, l
 use Rattle.script_lines.proofs.Others.{Opened}
 
 -- ---- small
-
--- empty areas stand for no commands
-stands_none : (image : Image) (header : Header) → image Journal ≡ [] → StandsFor image header []
-unfolding StandsFor
-stands_none image header e = (Begun, inr (ap is_begun e, refl))
 
 settled_none : (p q : Peer) → p.list ≡ [] → p.pending ≡ None → MaySettleAs p q.list → q.list ≡ []
 settled_none p q list none (inl same) = same ∙ list
@@ -203,7 +195,7 @@ module _ {V : Type 0} (clouds : V → ℕ → Cloud) (s : Setting) (old mid new 
           (was_before (clouds old.shelf.now cloud) (clouds mid.shelf.now cloud) (replaced_so u) (r.refreshed (is.told cloud ∙ told)))
           (λ image left. elim left [
             | inl was ↦ let x = now_by clouds s old v.peers is cloud lt told image was in (x.0, listed clouds s cloud m [] peers_new x.0 x.1, x.2)
-            | inr empty ↦ ([], none_listed (m ∷ []), stands_none image (header_of s.shape cloud) (empty Journal))
+            | inr empty ↦ ([], none_listed (m ∷ []), empty_stands image (header_of s.shape cloud) empty)
           ])
 
       begun : IsTrue (s.told cloud) → ImagesSince (clouds mid.shelf.now cloud) (clouds new.shelf.now cloud) (header_of s.shape cloud) (IsListIn s cloud (m ∷ []) peers_new)
