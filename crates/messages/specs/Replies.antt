@@ -3,6 +3,7 @@ use Rattle.std.specs.Prelude.{◌≡◌, ℕ, ◌<◌, ◌≤◌, ◌^◌, List,
 use Rattle.std.specs.Int.{w16, w32, w64, to_be_bytes}
 use Rattle.cd_base.specs.declared.rooms.Room.{Room}
 use Rattle.cd_base.specs.declared.rooms.Room.TheVariants as rooms
+use Rattle.frames.specs.Frames.{frame_limit}
 use Rattle.message_fields.specs.Shares.{shares_bytes, AreShares}
 use Rattle.message_fields.specs.Flags.{flags_bytes, AreFlags}
 use Rattle.message_fields.specs.Keys.{entries_bytes, AreEntries, key_limit}
@@ -10,10 +11,6 @@ use Rattle.message_fields.specs.Fingerprints.{batch_limit}
 use Rattle.messages.specs.Requests.{AreFew}
 use Rattle.messages.specs.declared.reply.Reply.{Reply}
 use Rattle.messages.specs.declared.reply.Reply.TheVariants as replies
-
--- the most bytes of content in a frame
-abbrev pub frame_limit : ℕ
-frame_limit = 4194304
 
 abbrev pub room_number : Room → ℕ
 room_number rooms.Shares = 1
@@ -67,7 +64,7 @@ IsWritableReply replies.NoMemory = Unit {0}
 abbrev pub FitsReply : Reply → Type 0
 FitsReply (replies.Hello n k cloud format) = (n < 256) × ((k < 256) × ((cloud < 256) × (format ≡ 1)))
 FitsReply (replies.Known flags) = AreFlags flags
-FitsReply (replies.Stored new) = new ≤ 256
+FitsReply (replies.Stored new) = new ≤ batch_limit
 FitsReply replies.Committed = Unit {0}
 FitsReply replies.Exists = Unit {0}
 FitsReply (replies.Lacking place) = place < 2 ^ 32

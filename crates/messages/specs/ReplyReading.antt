@@ -6,6 +6,7 @@ use Rattle.cd_base.specs.declared.rooms.Room.TheVariants as rooms
 use Rattle.grammar.specs.Readers.{◌▷◌, whole, done_at}
 use Rattle.grammar.specs.Fields.{number_at, bytes_at, checked}
 use Rattle.message_fields.specs.Parts.{byte_as}
+use Rattle.message_fields.specs.Fingerprints.{batch_limit}
 use Rattle.message_fields.specs.Flags.{flags_at}
 use Rattle.message_fields.specs.Shares.{shares_at}
 use Rattle.message_fields.specs.Keys.{entries_at}
@@ -28,7 +29,7 @@ room_of b =
     else None
 
 abbrev pub is_new_count : ℕ → Bool
-is_new_count n = nat_le n 256
+is_new_count n = nat_le n batch_limit
 
 unfoldable pub hello_left : List ℕ → Result Reply ℕ
 hello_left = whole (λ x. replies.Hello x.0 x.1.0 x.1.1.0 x.1.1.1) (byte_as Some ▷ (byte_as Some ▷ (byte_as Some ▷ byte_as format_of)))

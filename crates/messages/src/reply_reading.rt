@@ -17,7 +17,8 @@ use crate::{MsgErr, Reply, ReplyView};
 use cd_base::{NoMemory, Room};
 use grammar::Stop;
 use message_fields::{
-    Left, byte_of, ended, entries_of, flags_of, fp_of, shares_of, u16_of, u32_of, u64_of,
+    BATCH_LIMIT, Left, byte_of, ended, entries_of, flags_of, fp_of, shares_of, u16_of, u32_of,
+    u64_of,
 };
 use std::alloc::Global;
 
@@ -53,7 +54,7 @@ fn new_count_of(bytes: &[u8]) -> Result<(u16, &[u8]), Left>
     ensures { IsReading (λ x. (x.0, x.1.now)) result (checked is_new_count (number_at w16) bytes.now) }
 {
     let (new, rest) = u16_of(bytes)?;
-    if new <= 256 {
+    if new as usize <= BATCH_LIMIT {
         Ok((new, rest))
     } else {
         Err(Left(bytes.len()))

@@ -3,20 +3,23 @@
 ghost use Rattle.std.specs.Prelude.{◌≡◌, ◌∷◌, ◌++◌, ◌+◌, ◌*◌, ◌<◌, ◌≤◌, length, All, IsTrue, ◌↔◌};
 ghost use Rattle.std.specs.Int.{w16, to_be_bytes};
 ghost use Rattle.std.specs.List.{flat_map};
+ghost use Rattle.frames.specs.Frames.{frame_limit};
+ghost use Rattle.message_fields.specs.Fingerprints.{batch_limit};
 ghost use Rattle.message_fields.specs.Shares.{share_bytes, share_limit};
 ghost use Rattle.message_fields.specs.Keys.{key_bytes, key_limit};
 ghost use Rattle.messages.specs.Requests.{AreFew};
 ghost use Rattle.messages.specs.declared.reply.Reply.TheVariants as replies;
-ghost use Rattle.messages.specs.Replies.{IsReply, IsWritableReply, frame_limit, reply_bytes, room_number};
+ghost use Rattle.messages.specs.Replies.{IsReply, IsWritableReply, reply_bytes, room_number};
 
 use crate::Reply;
 use crate::request_writing::are_few;
 use cd_base::{Bytes, Fp, Room, Tag, Version};
-use frames::ReplyBuf;
+use frames::{FRAME_LIMIT, ReplyBuf};
+use message_fields::{BATCH_LIMIT, KEY_LIMIT};
 
 // The kind of a reply that is a list, and the number of its items.
 fn write_head(out: &mut ReplyBuf, kind: u8, count: usize)
-    requires { count ≤ 256 }
+    requires { count ≤ batch_limit }
     ensures { out.new ≡ kind ∷ to_be_bytes w16 count }
 {
     out.clear();
@@ -26,7 +29,7 @@ fn write_head(out: &mut ReplyBuf, kind: u8, count: usize)
 
 /// Begins Known: its kind and how many flags, at most 256, are to follow.
 pub fn begin_known(out: &mut ReplyBuf, count: usize)
-    requires { count ≤ 256 }
+    requires { count ≤ batch_limit }
     ensures value { out.new ≡ 0x82 ∷ to_be_bytes w16 count }
     ensures len { length out.new ≡ 3 }
 {
@@ -35,7 +38,7 @@ pub fn begin_known(out: &mut ReplyBuf, count: usize)
 
 /// Begins Shares: its kind and how many shares, at most 256, are to follow.
 pub fn begin_shares(out: &mut ReplyBuf, count: usize)
-    requires { count ≤ 256 }
+    requires { count ≤ batch_limit }
     ensures value { out.new ≡ 0x89 ∷ to_be_bytes w16 count }
     ensures len { length out.new ≡ 3 }
 {
@@ -45,7 +48,7 @@ pub fn begin_shares(out: &mut ReplyBuf, count: usize)
 /// Appends a share of at most 8,208 bytes, behind its length.
 pub fn append_share(out: &mut ReplyBuf, share: &[u8])
     requires few { length share.now ≤ share_limit }
-    requires room { length out.old + 4 + length share.now ≤ 4194304 }
+    requires room { length out.old + 4 + length share.now ≤ frame_limit }
     ensures { out.new ≡ out.old ++ share_bytes share.now }
 {
     out.put(&(share.len() as u32).to_be_bytes());
@@ -54,7 +57,7 @@ pub fn append_share(out: &mut ReplyBuf, share: &[u8])
 
 fn append_each_share(out: &mut ReplyBuf, shares: &[Bytes])
     requires few { All (λ share. length share ≤ share_limit) shares.now }
-    requires room { length out.old + length shares.now * 8212 ≤ 4194304 }
+    requires room { length out.old + length shares.now * 8212 ≤ frame_limit }
     ensures { out.new ≡ out.old ++ flat_map share_bytes shares.now }
 {
     for share in shares {
@@ -63,7 +66,7 @@ fn append_each_share(out: &mut ReplyBuf, shares: &[Bytes])
 }
 
 fn append_key(out: &mut ReplyBuf, key: &(Tag, Version))
-    requires { length out.old + 40 ≤ 4194304 }
+    requires { length out.old + 40 ≤ frame_limit }
     ensures value { out.new ≡ out.old ++ key_bytes key.now }
     ensures grows { length out.new ≡ length out.old + 40 }
 {
@@ -72,7 +75,7 @@ fn append_key(out: &mut ReplyBuf, key: &(Tag, Version))
 }
 
 fn append_each_key(out: &mut ReplyBuf, keys: &[(Tag, Version)])
-    requires { length out.old + length keys.now * 40 ≤ 4194304 }
+    requires { length out.old + length keys.now * 40 ≤ frame_limit }
     ensures { out.new ≡ out.old ++ flat_map key_bytes keys.now }
 {
     for key in keys {
@@ -99,7 +102,7 @@ pub fn write_hello(out: &mut ReplyBuf, n: u8, k: u8, cloud: u8, format: u8)
 
 /// Stored: so many shares, at most 256, were new to the user.
 pub fn write_stored(out: &mut ReplyBuf, new: u16)
-    requires { new ≤ 256 }
+    requires { new ≤ batch_limit }
     ensures { IsReply out.new (replies.Stored new) }
 {
     out.clear();
@@ -239,10 +242,10 @@ impl Reply {
         ensures { IsTrue result ↔ IsWritableReply self.now }
     {
         match self {
-            Reply::Known { flags } => flags.len() <= 256,
-            Reply::Recipe { bytes } => bytes.len() < 4_194_304,
+            Reply::Known { flags } => flags.len() <= BATCH_LIMIT,
+            Reply::Recipe { bytes } => bytes.len() < FRAME_LIMIT,
             Reply::Shares { shares } => are_few(shares.as_slice()),
-            Reply::Entries { entries } => entries.len() <= 256,
+            Reply::Entries { entries } => entries.len() <= KEY_LIMIT,
             Reply::Hello { .. } => true,
             Reply::Stored { .. } => true,
             Reply::Committed => true,

@@ -11,19 +11,20 @@ ghost use Rattle.messages.specs.Requests.{AreFew, IsWritable, request_bytes};
 
 use crate::Request;
 use cd_base::{Bytes, Fp, NoMemory, Tag, UserId, Version};
+use message_fields::{BATCH_LIMIT, SHARE_LIMIT};
 
 // Whether each share is short enough.
 fn are_short(shares: &[Bytes]) -> bool
     ensures { IsTrue result ↔ All (λ share. length share ≤ share_limit) shares.now }
 {
-    shares.iter().all(|share| share.len() <= 8208)
+    shares.iter().all(|share| share.len() <= SHARE_LIMIT)
 }
 
 /// Whether there are no more shares than one message has, and none is too long.
 pub fn are_few(shares: &[Bytes]) -> bool
     ensures { IsTrue result ↔ AreFew shares.now }
 {
-    shares.len() <= 256 && are_short(shares)
+    shares.len() <= BATCH_LIMIT && are_short(shares)
 }
 
 // Each of these appends; for want of memory a part may stand there.
@@ -151,9 +152,9 @@ impl Request {
         ensures { IsTrue result ↔ IsWritable self.now }
     {
         match self {
-            Request::Query { fps, .. } => fps.len() <= 256,
+            Request::Query { fps, .. } => fps.len() <= BATCH_LIMIT,
             Request::Put { shares, .. } => are_few(shares.as_slice()),
-            Request::GetShares { fps, .. } => fps.len() <= 256,
+            Request::GetShares { fps, .. } => fps.len() <= BATCH_LIMIT,
             Request::Hello => true,
             Request::Commit { .. } => true,
             Request::GetRecipe { .. } => true,
