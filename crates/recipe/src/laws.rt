@@ -1,6 +1,7 @@
 //! The laws of a recipe's bytes, for the proofs of callers. The calls do nothing.
 
 ghost use Rattle.std.specs.Prelude.{◌≡◌, ℕ, List, ◌+◌, ◌*◌, ◌≤◌, Ok, length};
+ghost use Rattle.cd_base.specs.Limits.{recipe_limit};
 ghost use Rattle.cd_base.specs.declared.shape.Shape.{Shape};
 ghost use Rattle.recipe.specs.Spelling.{Fits, spelling};
 ghost use Rattle.recipe.specs.Reading.{recipe_at};
@@ -14,5 +15,5 @@ pub fn spelling_laws()
     ensures one { (shape : Shape) (q r : Recipe) → Fits shape q → Fits shape r → spelling q ≡ spelling r → q ≡ r }
     // how long it is, and the most
     ensures len { (shape : Shape) (r : Recipe) → Fits shape r → length (spelling r) ≡ 14 + length r.name_share + 36 * length r.items }
-    ensures longest { (shape : Shape) (r : Recipe) → Fits shape r → length (spelling r) ≤ 1180190 }
+    ensures longest { (shape : Shape) (r : Recipe) → Fits shape r → length (spelling r) ≤ recipe_limit }
 {}

@@ -11,6 +11,7 @@ mod writing;
 
 pub use items::{Item, Items};
 pub use recipe::{Malformed, Recipe, RecipeErr};
+pub use rules::ITEM_LIMIT;
 pub use view::RecipeView;
 
 #[cfg(test)]

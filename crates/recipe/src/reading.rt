@@ -3,6 +3,7 @@
 ghost use Rattle.std.specs.Prelude.{◌≡◌, ◌==◌, ◌*◌, ◌≤◌, ◌↔◌, length, Ok, IfOk};
 ghost use Rattle.std.specs.Int.{w16, w32, w64};
 ghost use Rattle.cd_base.specs.Lengths.{share_len_of};
+ghost use Rattle.cd_base.specs.Limits.{secret_limit};
 ghost use Rattle.grammar.specs.Fields.{number_at, bytes_at, checked};
 ghost use Rattle.recipe.specs.Spelling.{is_name_len, is_file_len, is_count, is_len, item_limit};
 ghost use Rattle.recipe.specs.Reading.{tail_at};
@@ -109,7 +110,7 @@ fn len_of(bytes: &[u8], last: bool) -> Result<(u32, &[u8]), Left>
 #[tactic(auto, unfolding(crate::specs::Reading::item_at))]
 fn item_len_of(bytes: &[u8], last: bool) -> Result<(u32, &[u8]), Left>
     ensures gives { Finds (λ x. (x.0, x.1.now)) result (len_at last bytes.now) }
-    ensures few { IfOk result (λ x. x.0 ≤ 16384) }
+    ensures few { IfOk result (λ x. x.0 ≤ secret_limit) }
 {
     let (_, rest) = bytes_of(bytes, 32)?;
     len_of(rest, last)

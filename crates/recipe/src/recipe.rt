@@ -4,7 +4,9 @@ ghost use Rattle.std.specs.Prelude.{IsTrue, ◌↔◌};
 ghost use Rattle.recipe.specs.Spelling.{Fits};
 
 use crate::Items;
-use crate::rules::{are_items_of, is_count_of, is_file_len_of, is_name_len_of, total_is};
+use crate::rules::{
+    ITEM_LIMIT, are_items_of, is_count_of, is_file_len_of, is_name_len_of, total_is,
+};
 use cd_base::{Bytes, Shape};
 
 /// What one cloud knows of a file: its share of the name, and the secrets in order.
@@ -47,7 +49,7 @@ impl Recipe {
         is_name_len_of(self.name_len)
             && self.name_share.len() == (self.name_len as usize + 31 + k) / k
             && is_file_len_of(self.file_len)
-            && self.items.len() <= 32_768
+            && self.items.len() <= ITEM_LIMIT
             && is_count_of(self.file_len, self.items.len() as u32)
             && are_items_of(self.items.as_slice())
             && total_is(self.items.as_slice(), self.file_len)

@@ -4,6 +4,10 @@ ghost use Rattle.std.specs.Prelude.{◌≡◌, ◌==◌, length, IsTrue, ◌↔�
 ghost use Rattle.recipe.specs.Spelling.{is_name_len, is_file_len, is_count, is_len, AreItems, total};
 
 use crate::Item;
+use cd_base::{FILE_LIMIT, SECRET_LIMIT};
+
+/// The most secrets of a file.
+pub const ITEM_LIMIT: usize = 32_768;
 
 /// A path has 1 to 1,024 bytes.
 pub fn is_name_len_of(n: u16) -> bool
@@ -16,14 +20,14 @@ pub fn is_name_len_of(n: u16) -> bool
 pub fn is_file_len_of(n: u64) -> bool
     ensures { result ≡ is_file_len n }
 {
-    n <= 67_108_864
+    n <= FILE_LIMIT as u64
 }
 
 /// A file has at most 32,768 secrets, and none exactly where it is empty.
 pub fn is_count_of(file: u64, n: u32) -> bool
     ensures { result ≡ is_count file n }
 {
-    n <= 32_768 && (if file == 0 { n == 0 } else { 1 <= n })
+    n as usize <= ITEM_LIMIT && (if file == 0 { n == 0 } else { 1 <= n })
 }
 
 /// A secret has 2,048 to 16,384 bytes, the last one 1 to 16,384.
@@ -31,7 +35,7 @@ pub fn is_len_of(last: bool, n: u32) -> bool
     ensures { result ≡ is_len last n }
 {
     let least = if last { 1 } else { 2048 };
-    least <= n && n <= 16_384
+    least <= n && n <= SECRET_LIMIT
 }
 
 // An item's length, in a place that may be the last. A fingerprint always has 32 bytes.
