@@ -29,8 +29,8 @@ use container_log::{Log, LogFull};
 use std::alloc::Global;
 use std::marker::Model;
 
-// How many containers each of the two logs keeps: none, since each blob is read alone.
-const KEPT: u32 = 0;
+// How many containers each of the two logs keeps.
+const KEPT: u32 = 4;
 
 /// A cloud's journal and the logs of its shares and recipes, seen together. On a cloud they stand for a list of commands.
 ///
@@ -53,11 +53,12 @@ impl Model for CommandLog {
 }
 
 impl CommandLog {
-    /// A log that isn't open yet, with nothing staged, in rooms of these sizes. It takes all its memory here.
+    /// A log that isn't open yet, with nothing staged, in rooms of these sizes. Each of the two logs keeps up to 4 containers that were
+    /// read lately, and takes 4,194,304 bytes for each when it is read, where there is memory. All else is taken here.
     pub fn make(alloc: Global, rooms: &Rooms) -> Result<CommandLog, NoMemory>
         ensures journal { IfOk result (λ log. (log.journal.limit ≡ rooms.now.journal) × (log.journal.stage ≡ Shut)) }
-        ensures shares { IfOk result (λ log. log.shares ≡ record { area = Shares; limit = rooms.now.shares; end = 0; staged = []; keep = 0; kept = [] }) }
-        ensures recipes { IfOk result (λ log. log.recipes ≡ record { area = Recipes; limit = rooms.now.recipes; end = 0; staged = []; keep = 0; kept = [] }) }
+        ensures shares { IfOk result (λ log. log.shares ≡ record { area = Shares; limit = rooms.now.shares; end = 0; staged = []; keep = 4; kept = [] }) }
+        ensures recipes { IfOk result (λ log. log.recipes ≡ record { area = Recipes; limit = rooms.now.recipes; end = 0; staged = []; keep = 4; kept = [] }) }
     {
         Ok(CommandLog {
             journal: Journal::make(alloc, rooms.journal)?,
@@ -231,8 +232,8 @@ impl CommandLog {
 
     /// Reads the share at a place: puts what Shares has from there on in front of `out`, and answers how
     /// many bytes that are. A share of the list that lies at the place, and has as many bytes as `out`, is what `out` then
-    /// has. What is staged isn't seen. Nothing changes. Failed comes only where the cloud's count of faults rose. It takes
-    /// no memory.
+    /// has. What is staged isn't seen, nor what the log keeps. Nothing changes. Failed comes only where the cloud's count of
+    /// faults rose. It takes no memory.
     pub fn read_share<V: Shelf>(
         &mut self,
         shelf: &mut V,
@@ -256,8 +257,8 @@ impl CommandLog {
 
     /// Reads the recipe at a place: puts what Recipes has from there on in front of `out`, and answers how
     /// many bytes that are. A recipe of the list that lies at the place, and has as many bytes as `out`, is what `out` then
-    /// has. What is staged isn't seen. Nothing changes. Failed comes only where the cloud's count of faults rose. It takes
-    /// no memory.
+    /// has. What is staged isn't seen, nor what the log keeps. Nothing changes. Failed comes only where the cloud's count of
+    /// faults rose. It takes no memory.
     pub fn read_recipe<V: Shelf>(
         &mut self,
         shelf: &mut V,
