@@ -15,7 +15,7 @@ use Rattle.cd_edges.specs.declared.area.Area.TheVariants.{Shares}
 use Rattle.cd_edges.specs.Disk.{Cloud, Areas, reads}
 use Rattle.commit_journal.specs.declared.header.Header.{Header}
 use Rattle.container_log.specs.Laying.{Placed, IsAt}
-use Rattle.container_log.specs.States.{State}
+use Rattle.container_log.specs.States.{State, Agrees}
 use Rattle.message_fields.specs.Shares.{IsShare, share_bytes}
 use Rattle.message_fields.specs.Fingerprints.{IsBatch}
 use Rattle.messages.specs.declared.reply.Reply.TheVariants as replies
@@ -30,10 +30,11 @@ use Rattle.cloud_store.specs.Contents.{strings_in, place_in}
 use Rattle.cloud_index.specs.declared.index.CloudIndex.{CloudIndex}
 use Rattle.cloud_index.specs.Memory.{Remembers}
 use Rattle.read_replies.specs.declared.blobs.Stop.TheVariants as stops
-use Rattle.read_replies.specs.Keeping.{Keeps, IsOther, IsFoundShare}
+use Rattle.read_replies.specs.Keeping.{Keeps, IsOther, IsFoundShare, ReadsLog}
 use Rattle.read_replies.specs.Steps.{IfRotten, OnlyRead, HasRead, SentOne, Sent, SentAll}
 use Rattle.read_replies.proofs.Marks.{one_more}
 use Rattle.read_replies.proofs.Held.{held_at}
+use Rattle.read_replies.proofs.Logs.{log_still, log_twice}
 use Rattle.read_replies.proofs.Calling.{Answer, ok_answer, nothing_read, only_then, ok_read}
 
 -- the strings held for some fingerprints
@@ -45,20 +46,24 @@ abbrev pub WhenHeld : (a : Cloud) (index : CloudIndex) (all : List Fp) (P : List
 WhenHeld a index all P = IsTrue a.told → (header : Header) (list : List Command) (user : UserId) → Keeps (reads a.now) header list index
     → All (Contains (user_view header.shape list user).own) all → P list
 
+-- what a log keeps is what the told cloud's area has
+abbrev pub WhenAgreed : (a : Cloud) (log : State) (P : Type 0) → Type 0
+WhenAgreed a log P = IsTrue a.told → Agrees log (a.now log.area).read → P
+
 -- the first n shares stand there
 pub record Along (a b : ℕ → Cloud) (number before mid : ℕ) (log0 log : State) (index : CloudIndex) (all : List Fp) (n : ℕ) (old out : List ℕ) : Type 0 where
   pub only : OnlyRead a b number before mid
-  pub log_is : log ≡ log0
+  pub log_is : ReadsLog log0 log (a number) (b number)
   pub sent : Sent (take n all) old out
-  pub held : WhenHeld (a number) index all (λ list. out ≡ old ++ flat_map share_bytes (strings_for list (take n all)))
+  pub held : WhenAgreed (a number) log0 (WhenHeld (a number) index all (λ list. out ≡ old ++ flat_map share_bytes (strings_for list (take n all))))
   pub few : length out ≤ length old + n * 8212
 
 pub begun : (a : ℕ → Cloud) (number now : ℕ) (log : State) (index : CloudIndex) (all : List Fp) (out : List ℕ) → Along a a number now now log log index all 0 out out
 begun a number now log index all out = record {
   only = nothing_read a number now;
-  log_is = refl;
+  log_is = log_still log log (a number) (a number) (record { armed = refl; past = refl; now = refl }) refl;
   sent = record { shares = []; bytes = sym (append-nil out); ranges = All-nil IsShare; named = refl };
-  held = λ told header list user k own. sym (append-nil out);
+  held = λ t agreed told header list user k own. sym (append-nil out);
   few = omega arith;
 }
 
@@ -78,22 +83,25 @@ sent_more fps fp old out out' sent one = record {
 }
 
 -- the area that is read is that of the beginning
-pub same_area : (a b : ℕ → Cloud) (number before mid : ℕ) (log0 log : State) → OnlyRead a b number before mid → log ≡ log0 → log0.area ≡ Shares
+pub same_area : (a b : ℕ → Cloud) (number before mid : ℕ) (log0 log : State) → OnlyRead a b number before mid → ReadsLog log0 log (a number) (b number) → log0.area ≡ Shares
     → ((b number).now log.area).read ≡ reads (a number).now Shares
 same_area a b number before mid log0 log only log_is area =
-    ap (λ (x : Area). ((b number).now x).read) (ap (λ (s : State). s.area) log_is ∙ area) ∙ ap (λ (f : Areas). (f Shares).read) only.stays.now
+    ap (λ (x : Area). ((b number).now x).read) (ap (λ (s : State). s.area) log_is.rest ∙ area) ∙ ap (λ (f : Areas). (f Shares).read) only.stays.now
 
--- what one step says of a blob that lies at its place
+-- what one step says of a blob that lies at its place in these bytes
+abbrev pub AtStep : Option Place → Fp → List ℕ → (Placed → Type 0) → Type 0
+AtStep at fp bytes P = (p : Place) → at ≡ Some p → (blob : Placed) → blob.place ≡ p.at → length blob.blob ≡ p.len → IsShare blob.blob → fingerprint blob.blob ≡ fp → IsAt bytes blob → P blob
+
+-- the same of those of a told cloud
 abbrev pub AtPlace : Cloud → State → Option Place → Fp → (Placed → Type 0) → Type 0
-AtPlace b log at fp P = IsTrue b.told → (p : Place) → at ≡ Some p → (blob : Placed) → blob.place ≡ p.at → length blob.blob ≡ p.len → IsShare blob.blob
-    → fingerprint blob.blob ≡ fp → IsAt (b.now log.area).read blob → P blob
+AtPlace b log at fp P = IsTrue b.told → AtStep at fp (b.now log.area).read P
 
 -- what the index says of the place
 abbrev pub IsPlaceOf : CloudIndex → Fp → Option Place → Type 0
 IsPlaceOf index fp at = (shape : Shape) (list : List Command) → Remembers shape list index → at ≡ place_in (strings_in list) fp
 
 held_by_step : (a b : ℕ → Cloud) (number before mid : ℕ) (log0 log : State) (index : CloudIndex) (all : List Fp) (n : ℕ) (fp : Fp) (at : Option Place) (P : List ℕ → Type 0)
-    → OnlyRead a b number before mid → log ≡ log0 → log0.area ≡ Shares → Contains all fp → IsPlaceOf index fp at
+    → OnlyRead a b number before mid → ReadsLog log0 log (a number) (b number) → log0.area ≡ Shares → Contains all fp → IsPlaceOf index fp at
     → AtPlace (b number) log at fp (λ blob. P blob.blob)
     → WhenHeld (a number) index all (λ list. (s : List ℕ) × (held_string list fp ≡ Some s) × P s)
 held_by_step a b number before mid log0 log index all n fp at P only log_is area among place step told header list user k own =
@@ -118,17 +126,18 @@ sent_one fp old out share len bytes long some few named = record { share = share
 pub more : (a b c : ℕ → Cloud) (number before mid now : ℕ) (log0 log log' : State) (index : CloudIndex) (all : List Fp) (n : ℕ) (old out out' : List ℕ) (fp : Fp) (at : Option Place)
     → log0.area ≡ Shares → slice_get all n ≡ Some fp → Contains all fp → IsPlaceOf index fp at
     → Along a b number before mid log0 log index all n old out
-    → HasRead b c number mid now ok_answer → log' ≡ log → SentOne fp out out'
-    → AtPlace (b number) log at fp (λ blob. out' ≡ out ++ share_bytes blob.blob)
+    → HasRead b c number mid now ok_answer → ReadsLog log log' (b number) (c number) → SentOne fp out out'
+    → (IsTrue (b number).told → Agrees log ((b number).now log.area).read → AtStep at fp ((b number).now log.area).read (λ blob. out' ≡ out ++ share_bytes blob.blob))
     → Along a c number before now log0 log' index all (n + 1) old out'
 more a b c number before mid now log0 log log' index all n old out out' fp at area get among place along read log_same one step = record {
   only = only_then a b c number before mid now along.only (ok_read b c number mid now read);
-  log_is = log_same ∙ along.log_is;
+  log_is = log_twice log0 log log' (a number) (b number) (c number) along.only.call.told along.log_is log_same;
   sent = subst (λ l. Sent l old out') (sym (one_more all n fp get)) (sent_more (take n all) fp old out out' along.sent one);
-  held = λ told header list user k own.
-      let h = held_by_step a b number before mid log0 log index all n fp at (λ s. out' ≡ out ++ share_bytes s) along.only along.log_is area among place step told header list user k own in
+  held = λ t agreed told header list user k own.
+      let kept = along.log_is.agrees t agreed in
+      let h = held_by_step a b number before mid log0 log index all n fp at (λ s. out' ≡ out ++ share_bytes s) along.only along.log_is area among place (λ is_told. step is_told kept) told header list user k own in
       let strings = strings_for list (take n all) in
-      one_behind old out out' strings h.0 (along.held told header list user k own) h.2
+      one_behind old out out' strings h.0 (along.held t agreed told header list user k own) h.2
       ∙ ap (λ s. old ++ flat_map share_bytes (strings ++ s ∷ [])) (sym (ap (λ (o : Option (List ℕ)). unwrap_or o []) h.1))
       ∙ ap (λ l. old ++ flat_map share_bytes l) (sym (map_push (λ (f : Fp). unwrap_or (held_string list f) []) (take n all) fp) ∙ ap (strings_for list) (sym (one_more all n fp get)));
   few = few_more old out out' fp n along.few one;
@@ -137,7 +146,7 @@ more a b c number before mid now log0 log log' index all n old out out' fp at ar
 -- ---- the exits
 
 pub rotten_exit : (a b : ℕ → Cloud) (number before mid : ℕ) (log0 log : State) (index : CloudIndex) (all : List Fp) (fp : Fp) (at : Option Place) (r : Answer)
-    → log0.area ≡ Shares → OnlyRead a b number before mid → log ≡ log0 → Contains all fp → at ≡ get index.shares.places fp.0
+    → log0.area ≡ Shares → OnlyRead a b number before mid → ReadsLog log0 log (a number) (b number) → Contains all fp → at ≡ get index.shares.places fp.0
     → IfRotten r (λ named found. named ≡ fp)
     → (IsTrue (b number).told → (p : Place) → at ≡ Some p → 1 ≤ p.len → p.len ≤ 8208 → IfRotten r (λ named found. IsOther ((b number).now log.area).read p.at p.len named found))
     → (at ≡ None → IfRotten r (λ named found. found ≡ fingerprint []))
@@ -158,7 +167,7 @@ rotten_exit a b number before mid log0 log index all fp at (Err (stops.Rotten n 
     )
 
 pub whole_exit : (a b : ℕ → Cloud) (number before mid : ℕ) (log0 log : State) (index : CloudIndex) (all : List Fp) (n : ℕ) (fp : Fp) (at : Option Place) (r : Answer)
-    → log0.area ≡ Shares → OnlyRead a b number before mid → log ≡ log0 → Contains all fp → IsPlaceOf index fp at
+    → log0.area ≡ Shares → OnlyRead a b number before mid → ReadsLog log0 log (a number) (b number) → Contains all fp → IsPlaceOf index fp at
     → AtPlace (b number) log at fp (λ blob. IfRotten r (λ named found. ⊥))
     → WhenHeld (a number) index all (λ list. IfRotten r (λ named found. ⊥))
 whole_exit a b number before mid log0 log index all n fp at r area only log_is among place step told header list user k own =

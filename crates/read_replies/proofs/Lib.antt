@@ -4,6 +4,7 @@ pub mod Sound
 pub mod Held
 pub mod Calling
 pub mod Along
+pub mod Logs
 pub mod Plain
 pub mod Fetched
 pub mod Unowned

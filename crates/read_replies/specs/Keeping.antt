@@ -2,10 +2,10 @@
 use Rattle.std.specs.Prelude.{◌≡◌, ◌≢◌, ◌⊎◌, ℕ, ◌+◌, ◌<◌, ◌≤◌, List, [], length, take, drop, Some, None, IsTrue}
 use Rattle.std.specs.FinMap.{get}
 use Rattle.cd_base.specs.declared.ids.Fp.{Fp}
-use Rattle.cd_base.specs.declared.shape.Shape.{Shape}
 use Rattle.cd_edges.specs.declared.area.Area.TheVariants.{Shares, Recipes}
 use Rattle.cd_edges.specs.Disk.{Cloud, Image, reads}
 use Rattle.commit_journal.specs.declared.header.Header.{Header}
+use Rattle.container_log.specs.States.{State, Agrees}
 use Rattle.file_index.specs.declared.key.Entry.{Entry}
 use Rattle.file_index.specs.declared.key.FileKey.{FileKey}
 use Rattle.share_index.specs.declared.key.Place.{Place}
@@ -60,3 +60,8 @@ pub record IsFoundRecipe (cloud : Cloud) (index : CloudIndex) (key : FileKey) (n
   pub lies : IsTrue cloud.told → 1 ≤ entry.len → entry.len ≤ 1180190
       → IsOther (reads cloud.now Recipes) entry.at entry.len named found
   pub unfit : (entry.len < 1) ⊎ (1180190 < entry.len) → found ≡ fingerprint []
+
+-- Of a log only the containers that it keeps have changed. Where they were what the told cloud's area has there, they still are.
+pub record ReadsLog (old new : State) (before after : Cloud) : Type 0 where
+  pub rest : new ≡ record old { kept = new.kept }
+  pub agrees : IsTrue before.told → Agrees old (before.now old.area).read → Agrees new (after.now new.area).read

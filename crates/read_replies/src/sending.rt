@@ -10,6 +10,7 @@ ghost use Rattle.cd_edges.specs.Disk.{Cloud, reads};
 ghost use Rattle.cd_edges.specs.Shelf.{IsCall, HasFailed, KeepsCounts, Stays};
 ghost use Rattle.commit_journal.specs.declared.header.Header.{Header};
 ghost use Rattle.container_log.specs.Laying.{Placed, IsAt};
+ghost use Rattle.container_log.specs.States.{Agrees};
 ghost use Rattle.message_fields.specs.Fingerprints.{IsBatch};
 ghost use Rattle.message_fields.specs.Shares.{IsShare, share_bytes};
 ghost use Rattle.messages.specs.declared.request.Request.TheVariants as requests;
@@ -20,7 +21,7 @@ ghost use Rattle.user_dedup.specs.declared.command.Command.{Command};
 ghost use Rattle.user_dedup.specs.Cloud.{fingerprint, user_view, held_string};
 ghost use Rattle.user_dedup.specs.Dedup.{answer_over};
 ghost use Rattle.read_replies.specs.Allowed.{Replies, SharesReply};
-ghost use Rattle.read_replies.specs.Keeping.{Keeps, IsOther, IsFoundShare};
+ghost use Rattle.read_replies.specs.Keeping.{Keeps, IsOther, IsFoundShare, ReadsLog};
 ghost use Rattle.read_replies.specs.Owned.{first_unowned};
 ghost use Rattle.read_replies.specs.Steps.{HasRead, IfRotten, SentOne, Sent, SentAll};
 
@@ -55,9 +56,10 @@ fn put_from<V: Shelf>(
         → IfRotten result (λ named found. IsOther ((V.cloud_at shelf.old cloud.0).now log.old.area).read place.at place.len named found) }
     ensures whole { IsTrue (V.cloud_at shelf.old cloud.0).told → (b : Placed) → b.place ≡ place.at → length b.blob ≡ place.len → fingerprint b.blob ≡ fp.now
         → IsAt ((V.cloud_at shelf.old cloud.0).now log.old.area).read b → IfRotten result (λ named found. ⊥) }
-    ensures blob { IsTrue (V.cloud_at shelf.old cloud.0).told → (b : Placed) → b.place ≡ place.at → length b.blob ≡ place.len → fingerprint b.blob ≡ fp.now
+    ensures blob { IsTrue (V.cloud_at shelf.old cloud.0).told → Agrees log.old ((V.cloud_at shelf.old cloud.0).now log.old.area).read
+        → (b : Placed) → b.place ≡ place.at → length b.blob ≡ place.len → fingerprint b.blob ≡ fp.now
         → IsAt ((V.cloud_at shelf.old cloud.0).now log.old.area).read b → OnOk result (reply.new ≡ reply.old ++ share_bytes b.blob) }
-    ensures log { log.new ≡ log.old }
+    ensures log { ReadsLog log.old log.new (V.cloud_at shelf.old cloud.0) (V.cloud_at shelf.new cloud.0) }
     ensures reads { HasRead (V.cloud_at shelf.old) (V.cloud_at shelf.new) cloud.0 (V.faults shelf.old) (V.faults shelf.new) result }
 {
     let (share, _) = buffer.split_at_mut(place.len as usize);
@@ -91,9 +93,10 @@ fn put_share<V: Shelf>(
         → IfRotten result (λ named found. found ≡ fingerprint []) }
     ensures whole { IsTrue (V.cloud_at shelf.old cloud.0).told → (p : Place) → place ≡ Some p → (b : Placed) → b.place ≡ p.at → length b.blob ≡ p.len → IsShare b.blob
         → fingerprint b.blob ≡ fp.now → IsAt ((V.cloud_at shelf.old cloud.0).now log.old.area).read b → IfRotten result (λ named found. ⊥) }
-    ensures blob { IsTrue (V.cloud_at shelf.old cloud.0).told → (p : Place) → place ≡ Some p → (b : Placed) → b.place ≡ p.at → length b.blob ≡ p.len → IsShare b.blob
+    ensures blob { IsTrue (V.cloud_at shelf.old cloud.0).told → Agrees log.old ((V.cloud_at shelf.old cloud.0).now log.old.area).read
+        → (p : Place) → place ≡ Some p → (b : Placed) → b.place ≡ p.at → length b.blob ≡ p.len → IsShare b.blob
         → fingerprint b.blob ≡ fp.now → IsAt ((V.cloud_at shelf.old cloud.0).now log.old.area).read b → OnOk result (reply.new ≡ reply.old ++ share_bytes b.blob) }
-    ensures log { log.new ≡ log.old }
+    ensures log { ReadsLog log.old log.new (V.cloud_at shelf.old cloud.0) (V.cloud_at shelf.new cloud.0) }
     ensures reads { HasRead (V.cloud_at shelf.old) (V.cloud_at shelf.new) cloud.0 (V.faults shelf.old) (V.faults shelf.new) result }
 {
     match place {
@@ -129,10 +132,11 @@ fn put_each<V: Shelf>(
     ensures whole { IsTrue (V.cloud_at shelf.old cloud.0).told → (header : Header) (list : List Command) (user : UserId)
         → Keeps (reads (V.cloud_at shelf.old cloud.0).now) header list index.now → All (Contains (user_view header.shape list user).own) fps.now
         → IfRotten result (λ named found. ⊥) }
-    ensures held { IsTrue (V.cloud_at shelf.old cloud.0).told → (header : Header) (list : List Command) (user : UserId)
+    ensures held { IsTrue (V.cloud_at shelf.old cloud.0).told → Agrees log.old ((V.cloud_at shelf.old cloud.0).now log.old.area).read
+        → (header : Header) (list : List Command) (user : UserId)
         → Keeps (reads (V.cloud_at shelf.old cloud.0).now) header list index.now → All (Contains (user_view header.shape list user).own) fps.now
         → OnOk result (reply.new ≡ reply.old ++ flat_map share_bytes (map (λ fp. unwrap_or (held_string list fp) []) fps.now)) }
-    ensures log { log.new ≡ log.old }
+    ensures log { ReadsLog log.old log.new (V.cloud_at shelf.old cloud.0) (V.cloud_at shelf.new cloud.0) }
     ensures reads { HasRead (V.cloud_at shelf.old) (V.cloud_at shelf.new) cloud.0 (V.faults shelf.old) (V.faults shelf.new) result }
 {
     for place in 0..fps.len() {
@@ -164,10 +168,11 @@ fn put_shares<V: Shelf>(
     ensures whole { IsTrue (V.cloud_at shelf.old cloud.0).told → (header : Header) (list : List Command) (user : UserId)
         → Keeps (reads (V.cloud_at shelf.old cloud.0).now) header list index.now → All (Contains (user_view header.shape list user).own) fps.now
         → IfRotten result (λ named found. ⊥) }
-    ensures held { IsTrue (V.cloud_at shelf.old cloud.0).told → (header : Header) (list : List Command) (user : UserId)
+    ensures held { IsTrue (V.cloud_at shelf.old cloud.0).told → Agrees log.old ((V.cloud_at shelf.old cloud.0).now log.old.area).read
+        → (header : Header) (list : List Command) (user : UserId)
         → Keeps (reads (V.cloud_at shelf.old cloud.0).now) header list index.now → All (Contains (user_view header.shape list user).own) fps.now
         → OnOk result (reply.new ≡ reply_bytes (replies.Shares (map (λ fp. unwrap_or (held_string list fp) []) fps.now))) }
-    ensures log { log.new ≡ log.old }
+    ensures log { ReadsLog log.old log.new (V.cloud_at shelf.old cloud.0) (V.cloud_at shelf.new cloud.0) }
     ensures reads { HasRead (V.cloud_at shelf.old) (V.cloud_at shelf.new) cloud.0 (V.faults shelf.old) (V.faults shelf.new) result }
 {
     begin_shares(reply, fps.len());
@@ -182,10 +187,12 @@ fn put_shares<V: Shelf>(
 /// fingerprint; or Rotten where fewer bytes lie there than were kept, or others. Rotten names the fingerprint, and that of what was
 /// found at the place that the memory has for it, whatever the memory has.
 ///
-/// Over a told cloud whose areas have the list that the memory has, it is the reply of that list. Failed comes only where the
-/// cloud's count of faults rose; nothing is known of the content then. The cloud's areas stay in any case.
+/// Over a told cloud whose areas have the list that the memory has, and with which the log agrees, it is the reply of that list.
+/// Failed comes only where the cloud's count of faults rose; nothing is known of the content then. The cloud's areas stay in any
+/// case. Of the log only the containers change that it keeps, and with NotYours nothing.
 ///
-/// It asks for 1 to 256 fingerprints, the log of the shares, and a buffer of 8,208 bytes at least, and takes no memory.
+/// It asks for 1 to 256 fingerprints, the log of the shares, and a buffer of 8,208 bytes at least. It takes no memory but for the
+/// containers that the log keeps, and goes on without where there is none for them.
 pub fn shares<V: Shelf>(
     index: &CloudIndex,
     log: &mut Log,
@@ -199,14 +206,16 @@ pub fn shares<V: Shelf>(
     requires batch { IsBatch fps.now }
     requires area { log.old.area ≡ areas.Shares }
     requires buffer { 8208 ≤ length buffer.old }
-    ensures value { IsTrue (V.cloud_at shelf.old cloud.0).told → (header : Header) (list : List Command)
+    ensures value { IsTrue (V.cloud_at shelf.old cloud.0).told → Agrees log.old ((V.cloud_at shelf.old cloud.0).now log.old.area).read
+        → (header : Header) (list : List Command)
         → Keeps (reads (V.cloud_at shelf.old cloud.0).now) header list index.now
         → OnOk result (reply.new ≡ reply_bytes (answer_over header.shape header.cloud.0 list (requests.GetShares user fps.now)).reply) }
     ensures kind { OnOk result (Replies reply.new (SharesReply fps.now (IsFoundShare (V.cloud_at shelf.old cloud.0) index.now))) }
     ensures foreign { (place : ℕ) → first_unowned index.now user fps.now ≡ Some place
-        → (shelf.new ≡ shelf.old) × OnOk result (reply.new ≡ reply_bytes (replies.NotYours place)) }
-    ensures untouched { (place : ℕ) → OnOk result (IsReply reply.new (replies.NotYours place) → shelf.new ≡ shelf.old) }
-    ensures log { log.new ≡ log.old }
+        → (shelf.new ≡ shelf.old) × (log.new ≡ log.old) × OnOk result (reply.new ≡ reply_bytes (replies.NotYours place)) }
+    ensures untouched { (place : ℕ) → OnOk result (IsReply reply.new (replies.NotYours place)
+        → (shelf.new ≡ shelf.old) × (log.new ≡ log.old)) }
+    ensures log { ReadsLog log.old log.new (V.cloud_at shelf.old cloud.0) (V.cloud_at shelf.new cloud.0) }
     ensures stays { Stays (V.cloud_at shelf.old cloud.0) (V.cloud_at shelf.new cloud.0) }
     ensures call { IsCall (V.cloud_at shelf.old) (V.cloud_at shelf.new) cloud.0 (V.faults shelf.old) (V.faults shelf.new) }
     ensures failed { OnErr result (HasFailed (V.cloud_at shelf.old cloud.0) (V.cloud_at shelf.new cloud.0) (V.faults shelf.old) (V.faults shelf.new)) }

@@ -11,6 +11,6 @@ returns-in-Ok-clause-ok g c =
     fetched_one c.args.entry.now.fp c.write_recipe.new.out recipe c.args.entry.now.len c.write_recipe.ensures.is long c.requires.some c.in-Ok.ensures.hashed
 
 pub returns-in-Ok-clause-blob : goal.returns-in-Ok-clause-blob
-returns-in-Ok-clause-blob g c = λ told b place_is len_is same at.
+returns-in-Ok-clause-blob g c = λ told agreed b place_is len_is same at.
     let part : length b.blob ≡ length c.split_at_mut-recipe.result.0.now = omega (arith, len_is, c.split_at_mut-recipe.ensures.front_len) in
-    c.write_recipe.ensures.spelled ∙ ap (λ (r : List ℕ). reply_bytes (replies.Recipe r)) (c.in-Ok.ensures.blob told b place_is part same at)
+    c.write_recipe.ensures.spelled ∙ ap (λ (r : List ℕ). reply_bytes (replies.Recipe r)) (c.in-Ok.ensures.blob told agreed b place_is part same at)

@@ -14,13 +14,13 @@ use Rattle.read_replies.proofs.Calling.{rotten_at, recipe_or_missing, rotten_or_
 use Rattle.read_replies.proofs.fetching.recipe.Goals as goal
 
 pub returns-in-Ok-clause-value : goal.returns-in-Ok-clause-value
-returns-in-Ok-clause-value g c = λ told header list k.
+returns-in-Ok-clause-value g c = λ told agreed header list k.
     let cloud = g.V.Shelf.cloud_at c.args.shelf.now c.args.cloud.0 in
     let entry = c.in-Some.entry in
     let e : entry_in list (key_of c.args.user.0 c.args.tag.now.0 c.args.version.0) ≡ Some entry = sym (c.entry.ensures.meaning header.shape list k.remembers) ∙ c.in-Some.is in
     let r = recipe_at (reads cloud.now) header list c.args.index.now c.args.user c.args.tag.now c.args.version entry k e in
     let b : Placed = record { place = entry.at; blob = r.recipe } in
-    c.in-Ok.ensures.blob told b refl r.long r.named (subst (λ (x : Area). IsAt (cloud.now x).read b) (sym c.requires.area) r.lies) ∙ ap reply_bytes (sym r.reply)
+    c.in-Ok.ensures.blob told agreed b refl r.long r.named (subst (λ (x : Area). IsAt (cloud.now x).read b) (sym c.requires.area) r.lies) ∙ ap reply_bytes (sym r.reply)
 
 pub returns-in-Ok-clause-kind : goal.returns-in-Ok-clause-kind
 returns-in-Ok-clause-kind g c =
@@ -37,7 +37,7 @@ returns-in-Err-Rotten-clause-untouched g c = λ other.
     absurd (rotten_or_missing c.write_rotten.new.out c.in-Err-Rotten.named c.in-Err-Rotten.found c.write_rotten.ensures other)
 
 pub returns-in-Err-Rotten-clause-value : goal.returns-in-Err-Rotten-clause-value
-returns-in-Err-Rotten-clause-value g c = λ told header list k.
+returns-in-Err-Rotten-clause-value g c = λ told agreed header list k.
     let cloud = g.V.Shelf.cloud_at c.args.shelf.now c.args.cloud.0 in
     let entry = c.in-Some.entry in
     let e : entry_in list (key_of c.args.user.0 c.args.tag.now.0 c.args.version.0) ≡ Some entry = sym (c.entry.ensures.meaning header.shape list k.remembers) ∙ c.in-Some.is in
@@ -67,7 +67,7 @@ returns-in-Err-Rotten-clause-kind g c =
     }
 
 pub returns-in-None-clause-value : goal.returns-in-None-clause-value
-returns-in-None-clause-value g c = λ told header list k.
+returns-in-None-clause-value g c = λ told agreed header list k.
     c.write_missing.ensures.spelled
     ∙ ap reply_bytes (sym (recipe_missing header.shape list c.args.user c.args.tag.now c.args.version (sym (c.entry.ensures.meaning header.shape list k.remembers) ∙ c.in-None.is)))
 

@@ -27,7 +27,7 @@ loop-place-preserved g c =
     (among_at c.args.fps.now c.loop-place.place c.fp_at-fp.result c.fp_at-fp.ensures) c.place_of-at.ensures.meaning c.loop-place.invariant c.in-Ok.ensures.reads c.in-Ok.ensures.log c.in-Ok.ensures.ok c.in-Ok.ensures.blob
 
 pub returns-clause-held : goal.returns-clause-held
-returns-clause-held g c = λ told header list user k own.
+returns-clause-held g c = λ told agreed header list user k own.
     let past : length c.args.fps.now ≤ c.loop-place.place = omega arith in
-    c.loop-place.invariant.held told header list user k own
+    c.loop-place.invariant.held told agreed told header list user k own
     ∙ ap (λ (l : List Fp). c.args.reply.now ++ flat_map share_bytes (strings_for list l)) (take_all c.loop-place.place c.args.fps.now past)

@@ -10,7 +10,7 @@ use Rattle.read_replies.proofs.Calling.{rotten_at, shares_or_not_yours, rotten_o
 use Rattle.read_replies.proofs.sending.shares.Goals as goal
 
 pub returns-in-Some-clause-value : goal.returns-in-Some-clause-value
-returns-in-Some-clause-value g c = λ told header list k.
+returns-in-Some-clause-value g c = λ told agreed header list k.
     c.write_not_yours.ensures.spelled
     ∙ ap (λ (o : Option ℕ). reply_bytes (shares_reply o (strings_for list c.args.fps.now))) (sym c.in-Some.is ∙ c.first_foreign.ensures.value header.shape list k.remembers)
 
@@ -18,13 +18,13 @@ pub returns-in-Some-clause-foreign : goal.returns-in-Some-clause-foreign
 returns-in-Some-clause-foreign g c = λ place lack.
     let e : Some c.in-Some.place ≡ Some place = sym c.in-Some.is ∙ c.first_foreign.ensures.kept ∙ lack in
     let same : c.in-Some.place ≡ place = cc in
-    (refl, c.write_not_yours.ensures.spelled ∙ ap (λ (n : ℕ). reply_bytes (replies.NotYours n)) same)
+    (refl, refl, c.write_not_yours.ensures.spelled ∙ ap (λ (n : ℕ). reply_bytes (replies.NotYours n)) same)
 
 pub returns-in-Ok-clause-value : goal.returns-in-Ok-clause-value
-returns-in-Ok-clause-value g c = λ told header list k.
+returns-in-Ok-clause-value g c = λ told agreed header list k.
     let own = (user_view header.shape list c.args.user).own in
     let none : None ≡ first_lacking own c.args.fps.now = sym c.in-None.is ∙ c.first_foreign.ensures.value header.shape list k.remembers in
-    c.in-Ok.ensures.held told header list c.args.user k (all_owned own c.args.fps.now none)
+    c.in-Ok.ensures.held told agreed header list c.args.user k (all_owned own c.args.fps.now none)
     ∙ ap (λ (o : Option ℕ). reply_bytes (shares_reply o (strings_for list c.args.fps.now))) none
 
 pub returns-in-Ok-clause-foreign : goal.returns-in-Ok-clause-foreign
@@ -46,7 +46,7 @@ returns-in-Err-Rotten-clause-untouched g c = λ place other.
     absurd (rotten_or_not_yours c.write_rotten.new.out c.in-Err-Rotten.named c.in-Err-Rotten.found place c.write_rotten.ensures other)
 
 pub returns-in-Err-Rotten-clause-value : goal.returns-in-Err-Rotten-clause-value
-returns-in-Err-Rotten-clause-value g c = λ told header list k.
+returns-in-Err-Rotten-clause-value g c = λ told agreed header list k.
     let own = (user_view header.shape list c.args.user).own in
     let none : None ≡ first_lacking own c.args.fps.now = sym c.in-None.is ∙ c.first_foreign.ensures.value header.shape list k.remembers in
     absurd (rotten_at c.in-Err-Rotten.field-0 _ _ (λ (named found : Fp). ⊥) c.in-Err-Rotten.field-0-is

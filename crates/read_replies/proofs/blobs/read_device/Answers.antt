@@ -7,7 +7,7 @@ use Rattle.read_replies.specs.declared.blobs.Stop.TheVariants as stops
 use Rattle.read_replies.specs.Keeping.{IsOther}
 use Rattle.read_replies.specs.Steps.{IfRotten}
 use Rattle.read_replies.proofs.Calling.{rotten_as, not_rotten, when_ok, ok_both, compared, other_there, blob_there}
-use Rattle.read_replies.proofs.blobs.read_blob.Goals as goal
+use Rattle.read_replies.proofs.blobs.read_device.Goals as goal
 
 pub returns-in-Ok-clause-hashed : goal.returns-in-Ok-clause-hashed
 returns-in-Ok-clause-hashed g c =
