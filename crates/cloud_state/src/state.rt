@@ -40,7 +40,7 @@ fn buffer(alloc: Global, len: usize) -> Result<Vec<u8>, NoMemory>
 }
 
 impl CloudState {
-    /// A state that isn't open, of the cloud that the header names, in these rooms. It takes all its memory here; the only
+    /// A state that isn't open, of the cloud that the header names, in these rooms. It takes all this memory here; the only
     /// error is want of memory.
     pub fn make(alloc: Global, header: Header, rooms: Rooms) -> Result<CloudState, NoMemory>
         requires written { IsWritten header }

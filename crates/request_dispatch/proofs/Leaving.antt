@@ -1,11 +1,12 @@
 -- Replies after which nothing has changed.
-use Rattle.std.proofs.Common.{◌≡◌, ℕ, List, Result, Ok, Err, IsTrue, ap, sym, subst}
+use Rattle.std.proofs.Common.{◌≡◌, ℕ, List, Result, Ok, Err, IsTrue, ap, sym, ◌∙◌, subst}
 use Rattle.std.specs.Prelude.{OnOk}
 use Rattle.cd_base.specs.declared.ids.Fp.{Fp}
 use Rattle.cd_base.specs.declared.rooms.Room.{Room}
 use Rattle.cd_edges.specs.declared.area.Area.TheVariants.{Shares, Recipes}
 use Rattle.cd_edges.specs.Disk.{Cloud, Areas, reads}
 use Rattle.cd_edges.specs.Shelf.{Stays}
+use Rattle.container_log.specs.States.{State}
 use Rattle.file_index.specs.Files.{key_of}
 use Rattle.file_index.specs.declared.key.FileKey.{FileKey}
 use Rattle.messages.specs.declared.request.Request.{Request}
@@ -14,9 +15,11 @@ use Rattle.messages.specs.declared.reply.Reply.{Reply}
 use Rattle.messages.specs.declared.reply.Reply.TheVariants as replies
 use Rattle.messages.specs.Replies.{IsReply}
 use Rattle.cloud_index.specs.declared.index.CloudIndex.{CloudIndex}
+use Rattle.command_log.specs.Logs.{Logs}
 use Rattle.cloud_state.specs.declared.state.CloudState.{CloudState}
 use Rattle.read_replies.specs.Keeping.{IsOther, IsFoundShare, IsFoundRecipe}
 use Rattle.request_dispatch.specs.Asking.{IsFound}
+use Rattle.request_dispatch.specs.Reading.{after_reading}
 use Rattle.request_dispatch.specs.Leaving.{StoresNothing, EntersNothing, FindsNone, FindsForeign}
 
 module _ {T E : Type 0} (r : Result T E) (content : List ℕ) (Same : Type 0) (old new : CloudState) where
@@ -57,6 +60,15 @@ pub shares_leave : {T E : Type 0} (r : Result T E) (content : List ℕ) (Same : 
     → (answer : Reply) → FindsForeign answer → OnOk r (IsReply content answer → Same)
 shares_leave r content Same foreign (replies.NotYours place) leaves = foreign place
 shares_leave r content Same foreign answer leaves = elim leaves [ ]
+
+-- where a read left its log as it was, so are all
+pub quiet : {T E : Type 0} (r s : Result T E) (P Same : Type 0) (old new : Logs) (put : State → Logs) (before left : State) → s ≡ r
+    → new ≡ record (put left) { journal = after_reading (put left).journal s } → OnOk r (P → Same × (left ≡ before)) → put before ≡ old → OnOk s (P → Same × (new ≡ old))
+quiet {T} {E} r s P Same old new put before left same is said back = by s is (subst (λ (x : Result T E). OnOk x (P → Same × (left ≡ before))) (sym same) said)
+  where
+    by : (s : Result T E) → new ≡ record (put left) { journal = after_reading (put left).journal s } → OnOk s (P → Same × (left ≡ before)) → OnOk s (P → Same × (new ≡ old))
+    by (Err e) is said = tt
+    by (Ok x) is said = λ p. let u = said p in (u.0, is ∙ ap put u.1 ∙ back)
 
 -- ---- what is found lies there afterwards too
 

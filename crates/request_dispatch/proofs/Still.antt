@@ -1,5 +1,5 @@
 -- What a request that changes nothing leaves.
-use Rattle.std.proofs.Common.{◌≡◌, inl, ℕ, ◌+◌, List, ◌++◌, length, Option, None, Result, Ok, Err, refl, sym, ap, ◌∙◌, subst, arith}
+use Rattle.std.proofs.Common.{◌≡◌, inl, ℕ, ◌+◌, List, [], ◌∷◌, ◌++◌, length, Option, None, Result, Ok, Err, refl, sym, ap, ◌∙◌, subst, arith}
 use Rattle.std.specs.Prelude.{OnOk, OnErr, option_to_list}
 use Rattle.std.proofs.lemmas.List.{append-nil}
 use Rattle.cd_base.specs.declared.ids.Fp.{Fp}
@@ -10,7 +10,10 @@ use Rattle.cd_edges.specs.Shelf.{IsCall, HasFailed, KeepsCounts, Stays}
 use Rattle.cd_edges.proofs.Moments.{stayed}
 use Rattle.commit_journal.specs.declared.header.Header.{Header}
 use Rattle.commit_journal.specs.declared.journal.Stage.TheVariants.{Shut, AtEnd}
-use Rattle.commit_journal.specs.Headers.{IsWritten}
+use Rattle.cd_edges.specs.declared.area.Area.TheVariants.{Journal}
+use Rattle.commit_journal.specs.Headers.{IsWritten, header_bytes}
+use Rattle.commit_journal.specs.States as journals
+use Rattle.container_log.specs.States.{State, HasStaged}
 use Rattle.messages.specs.declared.request.Request.{Request}
 use Rattle.messages.specs.declared.request.Request.TheVariants as requests
 use Rattle.messages.specs.declared.reply.Reply.{Reply}
@@ -18,6 +21,7 @@ use Rattle.messages.specs.declared.reply.Reply.TheVariants as replies
 use Rattle.messages.specs.Replies.{IsReply, reply_bytes}
 use Rattle.user_dedup.specs.declared.command.Command.{Command}
 use Rattle.user_dedup.specs.Exec.{items_of}
+use Rattle.cloud_store.specs.Records.{bodies_in}
 use Rattle.cloud_store.specs.Standing.{StandsForSome}
 use Rattle.cloud_index.specs.declared.index.CloudIndex.{CloudIndex}
 use Rattle.cloud_index.specs.Memory.{Remembers, HasRooms}
@@ -27,11 +31,11 @@ use Rattle.cloud_state.specs.declared.state.CloudState.{CloudState}
 use Rattle.cloud_state.specs.State.{AreRooms, IsOpen, HasLogs, HasEnds, IsSettled, Agrees}
 use Rattle.cloud_state.specs.Serving.{serves, Served, IsServedOrNot, moments_of, Gives}
 use Rattle.read_replies.specs.Allowed.{Replies, IsPlain}
-use Rattle.read_replies.specs.Keeping.{Keeps}
+use Rattle.read_replies.specs.Keeping.{Keeps, ReadsLog}
 use Rattle.request_dispatch.specs.Asking.{IsFound}
 use Rattle.request_dispatch.specs.Executing.{Executes}
 use Rattle.request_dispatch.specs.Leaving.{LeavesAll}
-use Rattle.request_dispatch.specs.Reading.{after_reading, OnlyReads}
+use Rattle.request_dispatch.specs.Reading.{after_reading, ReadsLogs, OnlyReads}
 use Rattle.request_dispatch.proofs.Leaving.{read_found}
 
 -- what server and cloud agree on is kept
@@ -48,45 +52,56 @@ gives_plain (Ok x) shape request content P s plain =
 
 -- ---- the state
 
-logs_still : {T E : Type 0} (r : Result T E) (rooms : Rooms) (log : Logs) → HasLogs rooms log → HasLogs rooms (after_reading log r)
-logs_still (Ok x) rooms log h = h
-logs_still (Err e) rooms log h = record {
-  journal_limit = h.journal_limit;
-  shares_area = h.shares_area;
-  shares_limit = h.shares_limit;
-  shares_staged = h.shares_staged;
-  recipes_area = h.recipes_area;
-  recipes_limit = h.recipes_limit;
-  recipes_staged = h.recipes_staged;
+-- that a reading was Ok
+abbrev ok_read : {T E : Type 0} → T → Result T E
+ok_read x = Ok x
+
+limit_after : {T E : Type 0} (r : Result T E) (journal : journals.State) → (after_reading journal r).limit ≡ journal.limit
+limit_after (Ok x) journal = refl
+limit_after (Err e) journal = refl
+
+-- nothing is staged in a log that is read
+staged_still : (old new : State) (c0 c1 : Cloud) → ReadsLog old new c0 c1 → HasStaged old [] → HasStaged new []
+staged_still old new c0 c1 reads none = subst (λ (s : State). HasStaged s []) (sym reads.rest) (record { fit = none.fit; bytes = none.bytes })
+
+logs_still : {T E : Type 0} (r : Result T E) (rooms : Rooms) (old new : Logs) (c0 c1 : Cloud) → ReadsLogs old new c0 c1 r → HasLogs rooms old → HasLogs rooms new
+logs_still r rooms old new c0 c1 reads h = record {
+  journal_limit = ap (λ (j : journals.State). j.limit) reads.journal ∙ limit_after r old.journal ∙ h.journal_limit;
+  shares_area = ap (λ (s : State). s.area) reads.shares.rest ∙ h.shares_area;
+  shares_limit = ap (λ (s : State). s.limit) reads.shares.rest ∙ h.shares_limit;
+  shares_staged = staged_still old.shares new.shares c0 c1 reads.shares h.shares_staged;
+  recipes_area = ap (λ (s : State). s.area) reads.recipes.rest ∙ h.recipes_area;
+  recipes_limit = ap (λ (s : State). s.limit) reads.recipes.rest ∙ h.recipes_limit;
+  recipes_staged = staged_still old.recipes new.recipes c0 c1 reads.recipes h.recipes_staged;
 }
 
-ends_still : {T E : Type 0} (r : Result T E) (old new : CloudState) → OnlyReads old new r → HasEnds old → IsOpen new → HasEnds new
-ends_still (Ok x) old new o ends is_open = record {
-  shares = ap (λ (l : Logs). l.shares.end) o.log ∙ ends.shares ∙ ap (λ (i : CloudIndex). i.shares_end) (sym o.index);
+ends_still : {T E : Type 0} (r : Result T E) (old new : CloudState) (c0 c1 : Cloud) → OnlyReads old new c0 c1 r → HasEnds old → IsOpen new → HasEnds new
+ends_still (Ok x) old new c0 c1 o ends is_open = record {
+  shares = ap (λ (s : State). s.end) o.log.shares.rest ∙ ends.shares ∙ ap (λ (i : CloudIndex). i.shares_end) (sym o.index);
   shares_within = omega (arith, ap (λ (i : CloudIndex). i.shares_end) o.index, ap (λ (x : Rooms). x.shares) o.rooms, ends.shares_within);
-  recipes = ap (λ (l : Logs). l.recipes.end) o.log ∙ ends.recipes ∙ ap (λ (i : CloudIndex). i.recipes_end) (sym o.index);
+  recipes = ap (λ (s : State). s.end) o.log.recipes.rest ∙ ends.recipes ∙ ap (λ (i : CloudIndex). i.recipes_end) (sym o.index);
   recipes_within = omega (arith, ap (λ (i : CloudIndex). i.recipes_end) o.index, ap (λ (x : Rooms). x.recipes) o.rooms, ends.recipes_within);
-  journal_within = omega (arith, ap (λ (l : Logs). l.journal.gate) o.log, ap (λ (x : Rooms). x.journal) o.rooms, ends.journal_within);
+  journal_within = omega (arith, ap (λ (j : journals.State). j.gate) o.log.journal, ap (λ (x : Rooms). x.journal) o.rooms, ends.journal_within);
 }
-ends_still (Err e) old new o ends is_open = absurd (let no : Shut ≡ AtEnd = sym (ap (λ (l : Logs). l.journal.stage) o.log) ∙ is_open in cc)
+ends_still (Err e) old new c0 c1 o ends is_open = absurd (let no : Shut ≡ AtEnd = sym (ap (λ (j : journals.State). j.stage) o.log.journal) ∙ is_open in cc)
 
-pub settled_still : {T E : Type 0} (r : Result T E) (old new : CloudState) → OnlyReads old new r → IsSettled old → IsOpen old → IsSettled new
-settled_still r old new o s is_open = record {
+pub settled_still : {T E : Type 0} (r : Result T E) (old new : CloudState) (c0 c1 : Cloud) → OnlyReads old new c0 c1 r → IsSettled old → IsOpen old → IsSettled new
+settled_still r old new c0 c1 o s is_open = record {
   written = subst IsWritten (sym o.header) s.written;
   limits = subst AreRooms (sym o.rooms) s.limits;
   rooms = subst (λ (x : Rooms). HasRooms x new.index) (sym o.rooms) (subst (λ (i : CloudIndex). HasRooms old.rooms i) (sym o.index) s.rooms);
-  logs = subst (λ (x : Rooms). HasLogs x new.log) (sym o.rooms) (subst (λ (l : Logs). HasLogs old.rooms l) (sym o.log) (logs_still r old.rooms old.log s.logs));
+  logs = subst (λ (x : Rooms). HasLogs x new.log) (sym o.rooms) (logs_still r old.rooms old.log new.log c0 c1 o.log s.logs);
   blob = omega (arith, o.blob, s.blob);
-  ends = ends_still r old new o (s.ends is_open);
+  ends = ends_still r old new c0 c1 o (s.ends is_open);
 }
 
-open_still : {T E : Type 0} (r : Result T E) (old new : CloudState) → OnlyReads old new r → IsOpen old → OnOk r (IsOpen new)
-open_still (Ok x) old new o is_open = ap (λ (l : Logs). l.journal.stage) o.log ∙ is_open
-open_still (Err e) old new o is_open = tt
+open_still : {T E : Type 0} (r : Result T E) (old new : CloudState) (c0 c1 : Cloud) → OnlyReads old new c0 c1 r → IsOpen old → OnOk r (IsOpen new)
+open_still (Ok x) old new c0 c1 o is_open = ap (λ (j : journals.State). j.stage) o.log.journal ∙ is_open
+open_still (Err e) old new c0 c1 o is_open = tt
 
-shut_then : {T E : Type 0} (r : Result T E) (old new : CloudState) → OnlyReads old new r → OnErr r (new.log.journal.stage ≡ Shut)
-shut_then (Ok x) old new o = tt
-shut_then (Err e) old new o = ap (λ (l : Logs). l.journal.stage) o.log
+shut_then : {T E : Type 0} (r : Result T E) (old new : CloudState) (c0 c1 : Cloud) → OnlyReads old new c0 c1 r → OnErr r (new.log.journal.stage ≡ Shut)
+shut_then (Ok x) old new c0 c1 o = tt
+shut_then (Err e) old new c0 c1 o = ap (λ (j : journals.State). j.stage) o.log.journal
 
 -- ---- the cloud
 
@@ -97,19 +112,35 @@ leaves_still state c0 c1 request list stays agrees =
 
 module _ (old new : CloudState) (c0 c1 : Cloud) (request : Request) (content : List ℕ) (stays : Stays c0 c1) (same : c1.told ≡ c0.told) (list : List Command)
     (agrees : Agrees old c0 list) (adds : (serves old list request).adds ≡ None) where
-  agrees_still : (log : Logs) → log ≡ old.log → new.header ≡ old.header → new.index ≡ old.index → new.log ≡ log → Agrees new c1 list
-  agrees_still log log_is header index is = record {
-    remembers = subst (λ (h : Header). Remembers h.shape list new.index) (sym header) (subst (λ (i : CloudIndex). Remembers old.header.shape list i) (sym index) agrees.remembers);
-    on = subst (λ (h : Header). IsOn h list new.log c1) (sym header)
-        (subst (λ (l : Logs). IsOn old.header list l c1) (sym (is ∙ log_is)) (on_still old.header list old.log c0 c1 stays same agrees.on));
-  }
+  on_read : {T E : Type 0} (x : T) → ReadsLogs old.log new.log c0 c1 (ok_read {T = T} {E = E} x) → IsOn old.header list new.log c1
+  on_read x reads =
+      let on = on_still old.header list old.log c0 c1 stays same agrees.on in
+      record {
+        told = on.told;
+        sound = on.sound;
+        has = on.has;
+        on_disk = on.on_disk;
+        ended = subst (λ (j : journals.State). journals.IsEnded j (c1.now Journal) (header_bytes old.header ∷ bodies_in list)) (sym reads.journal) on.ended;
+        shares_end_at = record {
+          area_is = ap (λ (s : State). s.area) reads.shares.rest ∙ on.shares_end_at.area_is;
+          end_is = ap (λ (s : State). s.end) reads.shares.rest ∙ on.shares_end_at.end_is;
+        };
+        recipes_end_at = record {
+          area_is = ap (λ (s : State). s.area) reads.recipes.rest ∙ on.recipes_end_at.area_is;
+          end_is = ap (λ (s : State). s.end) reads.recipes.rest ∙ on.recipes_end_at.end_is;
+        };
+        shares_current = record { agrees = reads.shares.agrees agrees.on.told agrees.on.shares_current.agrees };
+        recipes_current = record { agrees = reads.recipes.agrees agrees.on.told agrees.on.recipes_current.agrees };
+      }
 
-  pub served_still : {T E : Type 0} (r : Result T E) → OnlyReads old new r → OnOk r (content ≡ reply_bytes (serves old list request).reply) → OnOk r (Served old new c1 list request content)
+  pub served_still : {T E : Type 0} (r : Result T E) → OnlyReads old new c0 c1 r → OnOk r (content ≡ reply_bytes (serves old list request).reply) → OnOk r (Served old new c1 list request content)
   served_still (Err e) o value = tt
-  served_still (Ok x) o value = record {
+  served_still {T} {E} (Ok x) o value = record {
     reply = value;
-    agrees = subst (λ (more : Option Command). Agrees new c1 (list ++ option_to_list more)) (sym adds)
-        (subst (λ (l : List Command). Agrees new c1 l) (sym (append-nil list)) (agrees_still old.log (λ i. old.log) o.header o.index o.log));
+    agrees = subst (λ (more : Option Command). Agrees new c1 (list ++ option_to_list more)) (sym adds) (subst (λ (l : List Command). Agrees new c1 l) (sym (append-nil list)) (record {
+      remembers = subst (λ (h : Header). Remembers h.shape list new.index) (sym o.header) (subst (λ (i : CloudIndex). Remembers old.header.shape list i) (sym o.index) agrees.remembers);
+      on = subst (λ (h : Header). IsOn h list new.log c1) (sym o.header) (on_read {T = T} {E = E} x o.log);
+    }));
   }
 
   pub moments_still : {T E : Type 0} (r : Result T E) → OnOk r (moment c1 ≡ moment c0 + moments_of list (serves old list request).adds)
@@ -118,15 +149,15 @@ module _ (old new : CloudState) (c0 c1 : Cloud) (request : Request) (content : L
 
 -- ---- the memory
 
-kept_all : {T E : Type 0} (r : Result T E) (P Same : Type 0) (old new : CloudState) → OnlyReads old new r → OnOk r (P → Same)
+kept_all : {T E : Type 0} (r : Result T E) (P Same : Type 0) (old new : CloudState) → new.index ≡ old.index → OnOk r (P → Same × (new.log ≡ old.log))
     → OnOk r (P → Same × (new.index ≡ old.index) × (new.log ≡ old.log))
-kept_all (Err e) P Same old new o f = tt
-kept_all (Ok x) P Same old new o f = λ p. (f p, o.index, o.log)
+kept_all (Err e) P Same old new index f = tt
+kept_all (Ok x) P Same old new index f = λ p. let s = f p in (s.0, index, s.1)
 
 -- ---- all of it
 
 pub was_read : {T E : Type 0} (r : Result T E) (Same : Type 0) (old new : CloudState) (before after : ℕ → Cloud) (faults_before faults_after : ℕ) (request : Request) (content : List ℕ)
-    → IsSettled old → IsOpen old → OnlyReads old new r → Stays (before old.header.cloud.0) (after old.header.cloud.0)
+    → IsSettled old → IsOpen old → OnlyReads old new (before old.header.cloud.0) (after old.header.cloud.0) r → Stays (before old.header.cloud.0) (after old.header.cloud.0)
     → IsCall before after old.header.cloud.0 faults_before faults_after
     → OnErr r (HasFailed (before old.header.cloud.0) (after old.header.cloud.0) faults_before faults_after)
     → OnOk r (KeepsCounts (before old.header.cloud.0) (after old.header.cloud.0) faults_before faults_after)
@@ -134,23 +165,23 @@ pub was_read : {T E : Type 0} (r : Result T E) (Same : Type 0) (old new : CloudS
     → ((list : List Command) → (serves old list request).adds ≡ None)
     → ((named found : Fp) → OnOk r (IsReply content (replies.Rotten named found) → IsFound (before old.header.cloud.0) old.index request named found))
     → OnOk r (Gives old.header.shape request content)
-    → ((answer : Reply) → LeavesAll request answer → OnOk r (IsReply content answer → Same))
+    → ((answer : Reply) → LeavesAll request answer → OnOk r (IsReply content answer → Same × (new.log ≡ old.log)))
     → Executes Same old new before after faults_before faults_after request content r
 was_read r Same old new before after faults_before faults_after request content settled is_open o stays call failed counts value adds rotten kind quiet =
     let c0 = before old.header.cloud.0 in
     let c1 = after old.header.cloud.0 in
     record {
-      settled = settled_still r old new o settled is_open;
+      settled = settled_still r old new c0 c1 o settled is_open;
       same = record { header = o.header; rooms = o.rooms };
-      open_still = open_still r old new o is_open;
-      shut = shut_then r old new o;
+      open_still = open_still r old new c0 c1 o is_open;
+      shut = shut_then r old new c0 c1 o;
       any_moment = λ list agrees within. leaves_still old c0 c1 request list stays agrees;
       served = λ list agrees within. served_still old new c0 c1 request content stays call.told list agrees (adds list) r o (value list agrees);
       moments = λ list agrees within. moments_still old new c0 c1 request content stays call.told list agrees (adds list) r;
       stays = λ list agrees within none. (stays, o.index);
       rotten = rotten;
       found = λ named found. read_found r (IsReply content (replies.Rotten named found)) c0 c1 old.index new.index request named found stays call.told o.index (rotten named found);
-      untouched = λ answer leaves. kept_all r (IsReply content answer) Same old new o (quiet answer leaves);
+      untouched = λ answer leaves. kept_all r (IsReply content answer) Same old new o.index (quiet answer leaves);
       kind = kind;
       call = call;
       failed = failed;

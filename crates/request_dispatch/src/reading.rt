@@ -12,11 +12,12 @@ ghost use Rattle.messages.specs.declared.reply.Reply.TheVariants as replies;
 ghost use Rattle.messages.specs.Replies.{reply_bytes, IsReply};
 ghost use Rattle.user_dedup.specs.declared.command.Command.{Command};
 ghost use Rattle.user_dedup.specs.Dedup.{answer_over};
+ghost use Rattle.command_log.specs.Held.{IsCurrent};
 ghost use Rattle.cloud_state.specs.State.{IsSettled, IsOpen};
 ghost use Rattle.read_replies.specs.Allowed.{Replies, SharesReply, RecipeReply};
 ghost use Rattle.read_replies.specs.Keeping.{Keeps, IsFoundShare, IsNamed, HasNone, IsFoundRecipe};
 ghost use Rattle.request_dispatch.specs.Executing.{Executes};
-ghost use Rattle.request_dispatch.specs.Reading.{after_reading};
+ghost use Rattle.request_dispatch.specs.Reading.{after_reading, ReadsLogs};
 
 use cd_base::{CloudNo, Tag, UserId, Version};
 use cd_edges::{Failed, Shelf};
@@ -30,7 +31,7 @@ use read_replies::{recipe, shares};
 // Shuts the journal where the device failed.
 fn shut_where_failed(log: &mut CommandLog, read: Result<(), Failed>) -> Result<(), Failed>
     ensures same { result ≡ read }
-    ensures log { log.new ≡ after_reading log.old result }
+    ensures log { log.new ≡ record log.old { journal = after_reading log.old.journal result } }
 {
     match read {
         Ok(()) => Ok(()),
@@ -55,12 +56,14 @@ fn shares_by<V: Shelf>(
     requires batch { IsBatch fps.now }
     requires area { log.old.shares.area ≡ areas.Shares }
     requires buffer { 8208 ≤ length buffer.old }
-    ensures value { IsTrue (V.cloud_at shelf.old cloud.0).told → (header : Header) (list : List Command)
+    ensures value { IsTrue (V.cloud_at shelf.old cloud.0).told → IsCurrent log.old.shares (V.cloud_at shelf.old cloud.0).now
+        → (header : Header) (list : List Command)
         → Keeps (reads (V.cloud_at shelf.old cloud.0).now) header list index.now
         → OnOk result (reply.new ≡ reply_bytes (answer_over header.shape header.cloud.0 list (requests.GetShares user fps.now)).reply) }
     ensures kind { OnOk result (Replies reply.new (SharesReply fps.now (IsFoundShare (V.cloud_at shelf.old cloud.0) index.now))) }
-    ensures untouched { (place : ℕ) → OnOk result (IsReply reply.new (replies.NotYours place) → shelf.new ≡ shelf.old) }
-    ensures log { log.new ≡ after_reading log.old result }
+    ensures untouched { (place : ℕ) → OnOk result (IsReply reply.new (replies.NotYours place)
+        → (shelf.new ≡ shelf.old) × (log.new ≡ log.old)) }
+    ensures log { ReadsLogs log.old log.new (V.cloud_at shelf.old cloud.0) (V.cloud_at shelf.new cloud.0) result }
     ensures stays { Stays (V.cloud_at shelf.old cloud.0) (V.cloud_at shelf.new cloud.0) }
     ensures call { IsCall (V.cloud_at shelf.old) (V.cloud_at shelf.new) cloud.0 (V.faults shelf.old) (V.faults shelf.new) }
     ensures failed { OnErr result (HasFailed (V.cloud_at shelf.old cloud.0) (V.cloud_at shelf.new cloud.0) (V.faults shelf.old) (V.faults shelf.new)) }
@@ -93,13 +96,14 @@ fn recipe_by<V: Shelf>(
 ) -> Result<(), Failed>
     requires area { log.old.recipes.area ≡ areas.Recipes }
     requires buffer { 1180190 ≤ length buffer.old }
-    ensures value { IsTrue (V.cloud_at shelf.old cloud.0).told → (header : Header) (list : List Command)
+    ensures value { IsTrue (V.cloud_at shelf.old cloud.0).told → IsCurrent log.old.recipes (V.cloud_at shelf.old cloud.0).now
+        → (header : Header) (list : List Command)
         → Keeps (reads (V.cloud_at shelf.old cloud.0).now) header list index.now
         → OnOk result (reply.new ≡ reply_bytes (answer_over header.shape header.cloud.0 list (requests.GetRecipe user tag.now version)).reply) }
     ensures kind { OnOk result (Replies reply.new (RecipeReply (IsNamed index.now (key_of user.0 tag.now.0 version.0)) (HasNone index.now (key_of user.0 tag.now.0 version.0))
         (IsFoundRecipe (V.cloud_at shelf.old cloud.0) index.now (key_of user.0 tag.now.0 version.0)))) }
-    ensures untouched { OnOk result (IsReply reply.new replies.Missing → shelf.new ≡ shelf.old) }
-    ensures log { log.new ≡ after_reading log.old result }
+    ensures untouched { OnOk result (IsReply reply.new replies.Missing → (shelf.new ≡ shelf.old) × (log.new ≡ log.old)) }
+    ensures log { ReadsLogs log.old log.new (V.cloud_at shelf.old cloud.0) (V.cloud_at shelf.new cloud.0) result }
     ensures stays { Stays (V.cloud_at shelf.old cloud.0) (V.cloud_at shelf.new cloud.0) }
     ensures call { IsCall (V.cloud_at shelf.old) (V.cloud_at shelf.new) cloud.0 (V.faults shelf.old) (V.faults shelf.new) }
     ensures failed { OnErr result (HasFailed (V.cloud_at shelf.old cloud.0) (V.cloud_at shelf.new cloud.0) (V.faults shelf.old) (V.faults shelf.new)) }

@@ -36,7 +36,8 @@ use read_replies::{entries, hello, known};
 /// cloud's count of faults rose; the server is shut then, nothing is known of the content, and the cloud stands for the list
 /// without the command or with it.
 ///
-/// It asks for a settled and open server, and for a request that `Asked::read` read for its shape. It takes no memory.
+/// It asks for a settled and open server, and for a request that `Asked::read` read for its shape. It takes no memory but for
+/// the containers that the logs keep, and goes on without where there is none for them.
 pub fn dispatch<V: Shelf>(
     state: &mut CloudState,
     shelf: &mut V,

@@ -22,8 +22,8 @@ returns g c =
     c.requires.settled c.requires.open
     (record { header = refl; rooms = refl; index = refl; log = e.log; blob = refl })
     e.stays e.call e.failed e.uncounted
-    (λ list agrees. e.value agrees.on.told old.header list (kept old c0 list agrees))
+    (λ list agrees. e.value agrees.on.told agrees.on.recipes_current old.header list (kept old c0 list agrees))
     (λ list. refl)
     (λ named other. recipe_rotten r (IsNamed old.index key) (HasNone old.index key) (IsFoundRecipe c0 old.index key) c.recipe_by.new.reply named other e.kind)
     (gives_plain r old.header.shape request c.recipe_by.new.reply _ e.kind (recipe_plain c.args.user c.args.tag.now c.args.version (IsNamed old.index key) (HasNone old.index key) (IsFoundRecipe c0 old.index key)))
-    (λ answer leaves. recipe_leaves r c.recipe_by.new.reply (c.recipe_by.new.shelf ≡ c.args.shelf.now) e.untouched answer leaves)
+    (λ answer leaves. recipe_leaves r c.recipe_by.new.reply ((c.recipe_by.new.shelf ≡ c.args.shelf.now) × (c.recipe_by.new.log ≡ old.log)) e.untouched answer leaves)

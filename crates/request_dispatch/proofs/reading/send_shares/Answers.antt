@@ -21,8 +21,8 @@ returns g c =
     c.requires.settled c.requires.open
     (record { header = refl; rooms = refl; index = refl; log = e.log; blob = refl })
     e.stays e.call e.failed e.uncounted
-    (λ list agrees. e.value agrees.on.told old.header list (kept old c0 list agrees))
+    (λ list agrees. e.value agrees.on.told agrees.on.shares_current old.header list (kept old c0 list agrees))
     (λ list. refl)
     (λ named other. shares_rotten r c.args.fps.now found c.shares_by.new.reply named other e.kind)
     (gives_plain r old.header.shape request c.shares_by.new.reply _ e.kind (shares_plain c.args.user c.args.fps.now found))
-    (λ answer leaves. shares_leave r c.shares_by.new.reply (c.shares_by.new.shelf ≡ c.args.shelf.now) e.untouched answer leaves)
+    (λ answer leaves. shares_leave r c.shares_by.new.reply ((c.shares_by.new.shelf ≡ c.args.shelf.now) × (c.shares_by.new.log ≡ old.log)) e.untouched answer leaves)
