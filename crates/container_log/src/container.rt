@@ -3,6 +3,7 @@
 ghost use Rattle.std.specs.Prelude.{◌≡◌, ◌*◌, ◌^◌, ◌<◌, ◌≤◌, length, IsTrue, IfSome, OnOk, OnErr};
 ghost use Rattle.cd_edges.specs.Shelf.{IsCall, HasFailed, KeepsCounts, Stays, ReadsFrom};
 ghost use Rattle.container_log.specs.Caches.{container_of, is_left};
+ghost use Rattle.container_log.specs.Places.{container_len};
 
 use crate::places::CONTAINER;
 use cd_base::CloudNo;
@@ -41,8 +42,8 @@ impl Container {
         area: Area,
         number: u64,
     ) -> Result<(), Failed>
-        requires whole { length self.old ≡ 4194304 }
-        requires within { number * 4194304 < 2 ^ 64 }
+        requires whole { length self.old ≡ container_len }
+        requires within { number * container_len < 2 ^ 64 }
         ensures read { IsTrue (V.cloud_at shelf.old cloud.0).told
             → OnOk result (self.new ≡ container_of ((V.cloud_at shelf.old cloud.0).now area).read number) }
         ensures stays { Stays (V.cloud_at shelf.old cloud.0) (V.cloud_at shelf.new cloud.0) }

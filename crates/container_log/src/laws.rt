@@ -36,8 +36,8 @@ pub fn law_of_laying()
 pub fn law_of_room()
     ensures { (log : State) (blobs : List (List ℕ)) (blob : List ℕ) (greatest : ℕ) → HasStaged log blobs
         → All (λ (b : List ℕ). length b ≤ greatest) blobs → length blob ≤ greatest
-        → sum_by (λ (b : List ℕ). length b) blobs + length blob + greatest ≤ 4194304
-        → need_of log (length blob) ≤ 4194304 }
+        → sum_by (λ (b : List ℕ). length b) blobs + length blob + greatest ≤ container_len
+        → need_of log (length blob) ≤ container_len }
 {}
 
 /// A blob is what is read from its place on. Later writes at an end behind it leave it, and so does a crash of one.

@@ -7,7 +7,7 @@ ghost use Rattle.cd_edges.specs.Disk.{LeavesOnly, IsAtArea, MayLeave, moment, ov
 ghost use Rattle.cd_edges.specs.Shelf.{IsCall, HasFailed, KeepsCounts, Stays, ReadsFrom, wrote, stable};
 ghost use Rattle.container_log.specs.Kept.{KeepsBelow};
 ghost use Rattle.container_log.specs.Laying.{Placed, lengths, placed, IsAt};
-ghost use Rattle.container_log.specs.Places.{place_of, end_after, end_of_laid};
+ghost use Rattle.container_log.specs.Places.{container_len, place_of, end_after, end_of_laid};
 ghost use Rattle.container_log.specs.States.{State, HasStaged, staged_end, need_of, with_blob, without_staged, after_flush};
 ghost use Rattle.container_log.specs.States.{Agrees, OnAgreeing, IsKept, IsAfterRead};
 ghost use Rattle.container_log.specs.States.{in_area, KeepsEarlier, IsTorn, area_flushed};
@@ -23,7 +23,7 @@ use std::marker::Model;
 use std::mem;
 
 /// The most bytes that can be staged, with the zeros between blobs: as many as a container has.
-pub const STAGING: usize = 4_194_304;
+pub const STAGING: usize = CONTAINER as usize;
 
 /// The log of an area: blobs in containers of 4,194,304 bytes, each in one container, behind one another.
 ///
@@ -42,6 +42,7 @@ pub struct Log {
 
 impl Model for Log {
     ghost use Rattle.std.specs.Prelude.{◌≡◌, ◌+◌, ◌^◌, ◌<◌, ◌≤◌, take, vec_len};
+    ghost use Rattle.container_log.specs.Places.{container_len};
     ghost use Rattle.container_log.specs.States.{State};
 
     ghost Value = { State };
@@ -55,7 +56,7 @@ impl Model for Log {
       kept = l.cache.kept;
     } };
 
-    ghost invariant = { λ l. (vec_len l.buffer ≡ 4194304) × (l.used ≤ 4194304) × (l.end + l.used < 2 ^ 64) };
+    ghost invariant = { λ l. (vec_len l.buffer ≡ container_len) × (l.used ≤ container_len) × (l.end + l.used < 2 ^ 64) };
 }
 
 // A buffer of so many bytes.
@@ -119,7 +120,7 @@ impl Log {
     /// the log's end at most. So a blob of up to 4,194,304 bytes has room where the log ends at a container's first place and
     /// nothing is staged.
     pub fn has_room(&self, len: usize) -> bool
-        ensures { IsTrue result ↔ (need_of self.now len ≤ 4194304) }
+        ensures { IsTrue result ↔ (need_of self.now len ≤ container_len) }
     {
         let gap = gap_behind(self.end + self.used as u64, len as u64);
         len <= STAGING && self.used as u64 + gap + len as u64 <= STAGING as u64
@@ -129,7 +130,7 @@ impl Log {
     /// `used` is the log's end, `need` reaches from there to the blob's end, and together they are more than `limit`. Nothing
     /// changes then. It copies the blob once and takes no memory.
     pub fn stage(&mut self, blob: &[u8]) -> Result<u64, LogFull>
-        requires room { need_of self.old (length blob.now) ≤ 4194304 }
+        requires room { need_of self.old (length blob.now) ≤ container_len }
 
         ensures answer { MatchResult result
             (λ place. (self.old.end + need_of self.old (length blob.now) ≤ self.old.limit)

@@ -20,14 +20,14 @@ fn read_new<V: Shelf>(
     place: u64,
     out: &mut [u8],
 ) -> Result<usize, Failed>
-    requires within { place % 4194304 + length out.old ≤ 4194304 }
-    requires none { kept_of cache.old.kept (place / 4194304) ≡ None }
+    requires within { place % container_len + length out.old ≤ container_len }
+    requires none { kept_of cache.old.kept (place / container_len) ≡ None }
     ensures bytes { IsTrue (V.cloud_at shelf.old cloud.0).told
         → IfOk result (λ count. ReadsFrom ((V.cloud_at shelf.old cloud.0).now area).read place count out.new) }
     ensures bound { IfOk result (λ count. count ≤ length out.new) }
     ensures agrees { OnKept (V.cloud_at shelf.old cloud.0) area cache.old.kept
         (AreOf ((V.cloud_at shelf.old cloud.0).now area).read cache.new.kept) }
-    ensures kept { IsReadOf cache.old (place / 4194304) cache.new }
+    ensures kept { IsReadOf cache.old (place / container_len) cache.new }
     ensures stays { Stays (V.cloud_at shelf.old cloud.0) (V.cloud_at shelf.new cloud.0) }
     ensures call { IsCall (V.cloud_at shelf.old) (V.cloud_at shelf.new) cloud.0
         (V.faults shelf.old) (V.faults shelf.new) }
@@ -65,9 +65,9 @@ pub(crate) fn read_kept<V: Shelf>(
     ensures bound { IfOk result (λ count. count ≤ length out.new) }
     ensures agrees { OnKept (V.cloud_at shelf.old cloud.0) area cache.old.kept
         (AreOf ((V.cloud_at shelf.old cloud.0).now area).read cache.new.kept) }
-    ensures no_call { (bytes : List ℕ) → place % 4194304 + length out.old ≤ 4194304
-        → kept_of cache.old.kept (place / 4194304) ≡ Some bytes → (shelf.new ≡ shelf.old) × IsOk result }
-    ensures kept { IsReadOf cache.old (place / 4194304) cache.new }
+    ensures no_call { (bytes : List ℕ) → place % container_len + length out.old ≤ container_len
+        → kept_of cache.old.kept (place / container_len) ≡ Some bytes → (shelf.new ≡ shelf.old) × IsOk result }
+    ensures kept { IsReadOf cache.old (place / container_len) cache.new }
     ensures stays { Stays (V.cloud_at shelf.old cloud.0) (V.cloud_at shelf.new cloud.0) }
     ensures call { IsCall (V.cloud_at shelf.old) (V.cloud_at shelf.new) cloud.0
         (V.faults shelf.old) (V.faults shelf.new) }
