@@ -4,6 +4,7 @@ ghost use Rattle.std.specs.Prelude.{◌≡◌, ℕ, ◌+◌, ◌*◌, ◌/◌, �
 ghost use Rattle.std.specs.Prelude.{IsOk, IfOk, OnOk, OnErr};
 ghost use Rattle.cd_edges.specs.Shelf.{IsCall, HasFailed, KeepsCounts, Stays, ReadsFrom};
 ghost use Rattle.container_log.specs.Caches.{AreOf, OnKept, kept_of, IsReadOf};
+ghost use Rattle.container_log.specs.Places.{container_len};
 
 use crate::cache::Cache;
 use crate::log::STAGING;
