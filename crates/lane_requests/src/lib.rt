@@ -3,10 +3,10 @@
 
 ghost use Rattle.std.specs.Prelude.{◌≡◌, ◌<◌, ◌≤◌, ℕ, List, length, Some, Ok, false};
 ghost use Rattle.cd_base.specs.declared.shape.Shape.{Shape};
+ghost use Rattle.frames.specs.Frames.{frame_limit};
 ghost use Rattle.messages.specs.declared.request.Request.{Request};
 ghost use Rattle.messages.specs.declared.reply.Reply.{Reply};
 ghost use Rattle.messages.specs.Requests.{request_bytes, FitsRequest};
-ghost use Rattle.messages.specs.Replies.{frame_limit};
 ghost use Rattle.user_dedup.specs.Requests.{HasRecipe, asked_at};
 ghost use Rattle.upload_job.specs.Lanes.{LaneView, request_at};
 ghost use Rattle.lane_requests.specs.Reached.{IsReached, IsOnItsWay};
