@@ -39,7 +39,8 @@ fn compare(there: &[u8], len: usize, fp: &Fp) -> Result<(), Stop>
     }
 }
 
-// Fills the buffer with what lies at a place, by way of what the log keeps, and answers whether that is as long and has the fingerprint.
+// Fills the buffer with what lies at a place, by way of what the log keeps, and answers whether that is as long and has
+// the fingerprint.
 fn read_through<V: Shelf>(
     log: &mut Log,
     shelf: &mut V,
@@ -49,14 +50,19 @@ fn read_through<V: Shelf>(
     out: &mut [u8],
 ) -> Result<bool, Failed>
     ensures hashed { IfOk result (λ fits. IsTrue fits → fingerprint out.new ≡ fp.now) }
-    ensures blob { IsTrue (V.cloud_at shelf.old cloud.0).told → Agrees log.old ((V.cloud_at shelf.old cloud.0).now log.old.area).read
-        → (b : Placed) → b.place ≡ at → length b.blob ≡ length out.old → IsAt ((V.cloud_at shelf.old cloud.0).now log.old.area).read b
+    ensures blob { IsTrue (V.cloud_at shelf.old cloud.0).told
+        → Agrees log.old ((V.cloud_at shelf.old cloud.0).now log.old.area).read
+        → (b : Placed) → b.place ≡ at → length b.blob ≡ length out.old
+        → IsAt ((V.cloud_at shelf.old cloud.0).now log.old.area).read b
         → OnOk result (out.new ≡ b.blob) }
     ensures log { ReadsLog log.old log.new (V.cloud_at shelf.old cloud.0) (V.cloud_at shelf.new cloud.0) }
     ensures stays { Stays (V.cloud_at shelf.old cloud.0) (V.cloud_at shelf.new cloud.0) }
-    ensures call { IsCall (V.cloud_at shelf.old) (V.cloud_at shelf.new) cloud.0 (V.faults shelf.old) (V.faults shelf.new) }
-    ensures failed { OnErr result (HasFailed (V.cloud_at shelf.old cloud.0) (V.cloud_at shelf.new cloud.0) (V.faults shelf.old) (V.faults shelf.new)) }
-    ensures uncounted { OnOk result (KeepsCounts (V.cloud_at shelf.old cloud.0) (V.cloud_at shelf.new cloud.0) (V.faults shelf.old) (V.faults shelf.new)) }
+    ensures call { IsCall (V.cloud_at shelf.old) (V.cloud_at shelf.new) cloud.0
+        (V.faults shelf.old) (V.faults shelf.new) }
+    ensures failed { OnErr result (HasFailed (V.cloud_at shelf.old cloud.0) (V.cloud_at shelf.new cloud.0)
+        (V.faults shelf.old) (V.faults shelf.new)) }
+    ensures uncounted { OnOk result (KeepsCounts (V.cloud_at shelf.old cloud.0) (V.cloud_at shelf.new cloud.0)
+        (V.faults shelf.old) (V.faults shelf.new)) }
 {
     let len = out.len();
     match log.read(shelf, cloud, at, out) {
@@ -80,13 +86,16 @@ fn read_device<V: Shelf>(
     ensures hashed { OnOk result (fingerprint out.new ≡ fp.now) }
     ensures named { IfRotten result (λ named found. named ≡ fp.now) }
     ensures found { IsTrue (V.cloud_at shelf.old cloud.0).told
-        → IfRotten result (λ named found. IsOther ((V.cloud_at shelf.old cloud.0).now log.old.area).read at (length out.old) named found) }
-    ensures whole { IsTrue (V.cloud_at shelf.old cloud.0).told → (b : Placed) → b.place ≡ at → length b.blob ≡ length out.old → fingerprint b.blob ≡ fp.now
+        → IfRotten result (λ named found.
+        IsOther ((V.cloud_at shelf.old cloud.0).now log.old.area).read at (length out.old) named found) }
+    ensures whole { IsTrue (V.cloud_at shelf.old cloud.0).told
+        → (b : Placed) → b.place ≡ at → length b.blob ≡ length out.old → fingerprint b.blob ≡ fp.now
         → IsAt ((V.cloud_at shelf.old cloud.0).now log.old.area).read b → IfRotten result (λ named found. ⊥) }
     ensures blob { IsTrue (V.cloud_at shelf.old cloud.0).told → (b : Placed) → b.place ≡ at → length b.blob ≡ length out.old → fingerprint b.blob ≡ fp.now
         → IsAt ((V.cloud_at shelf.old cloud.0).now log.old.area).read b → OnOk result (out.new ≡ b.blob) }
     ensures log { log.new ≡ log.old }
-    ensures reads { HasRead (V.cloud_at shelf.old) (V.cloud_at shelf.new) cloud.0 (V.faults shelf.old) (V.faults shelf.new) result }
+    ensures reads { HasRead (V.cloud_at shelf.old) (V.cloud_at shelf.new) cloud.0
+        (V.faults shelf.old) (V.faults shelf.new) result }
 {
     let len = out.len();
     match log.read_alone(shelf, cloud, at, out) {
@@ -98,9 +107,9 @@ fn read_device<V: Shelf>(
     }
 }
 
-/// Fills the buffer with what lies at a place: by way of what the log keeps, and, where that isn't as long or has another fingerprint,
-/// from the device alone. So Rotten comes exactly where fewer bytes lie on the device or their fingerprint is another, with that of the
-/// bytes that lie there; and Failed only where the cloud's count of faults rose.
+/// Fills the buffer with what lies at a place: by way of what the log keeps, and, where that isn't as long or has another
+/// fingerprint, from the device alone. So Rotten comes exactly where fewer bytes lie on the device or their fingerprint is
+/// another, with that of the bytes that lie there; and Failed only where the cloud's count of faults rose.
 pub(crate) fn read_blob<V: Shelf>(
     log: &mut Log,
     shelf: &mut V,
@@ -112,14 +121,18 @@ pub(crate) fn read_blob<V: Shelf>(
     ensures hashed { OnOk result (fingerprint out.new ≡ fp.now) }
     ensures named { IfRotten result (λ named found. named ≡ fp.now) }
     ensures found { IsTrue (V.cloud_at shelf.old cloud.0).told
-        → IfRotten result (λ named found. IsOther ((V.cloud_at shelf.old cloud.0).now log.old.area).read at (length out.old) named found) }
-    ensures whole { IsTrue (V.cloud_at shelf.old cloud.0).told → (b : Placed) → b.place ≡ at → length b.blob ≡ length out.old → fingerprint b.blob ≡ fp.now
+        → IfRotten result (λ named found.
+        IsOther ((V.cloud_at shelf.old cloud.0).now log.old.area).read at (length out.old) named found) }
+    ensures whole { IsTrue (V.cloud_at shelf.old cloud.0).told
+        → (b : Placed) → b.place ≡ at → length b.blob ≡ length out.old → fingerprint b.blob ≡ fp.now
         → IsAt ((V.cloud_at shelf.old cloud.0).now log.old.area).read b → IfRotten result (λ named found. ⊥) }
-    ensures blob { IsTrue (V.cloud_at shelf.old cloud.0).told → Agrees log.old ((V.cloud_at shelf.old cloud.0).now log.old.area).read
+    ensures blob { IsTrue (V.cloud_at shelf.old cloud.0).told
+        → Agrees log.old ((V.cloud_at shelf.old cloud.0).now log.old.area).read
         → (b : Placed) → b.place ≡ at → length b.blob ≡ length out.old → fingerprint b.blob ≡ fp.now
         → IsAt ((V.cloud_at shelf.old cloud.0).now log.old.area).read b → OnOk result (out.new ≡ b.blob) }
     ensures log { ReadsLog log.old log.new (V.cloud_at shelf.old cloud.0) (V.cloud_at shelf.new cloud.0) }
-    ensures reads { HasRead (V.cloud_at shelf.old) (V.cloud_at shelf.new) cloud.0 (V.faults shelf.old) (V.faults shelf.new) result }
+    ensures reads { HasRead (V.cloud_at shelf.old) (V.cloud_at shelf.new) cloud.0
+        (V.faults shelf.old) (V.faults shelf.new) result }
 {
     match read_through(log, shelf, cloud, at, fp, out) {
         Ok(true) => Ok(()),

@@ -50,7 +50,8 @@ fn put_from<V: Shelf>(
         → IfRotten result (λ named found. IsOther ((V.cloud_at shelf.old cloud.0).now log.old.area).read entry.now.at entry.now.len named found) }
     ensures whole { IsTrue (V.cloud_at shelf.old cloud.0).told → (b : Placed) → b.place ≡ entry.now.at → length b.blob ≡ entry.now.len → fingerprint b.blob ≡ entry.now.fp
         → IsAt ((V.cloud_at shelf.old cloud.0).now log.old.area).read b → IfRotten result (λ named found. ⊥) }
-    ensures blob { IsTrue (V.cloud_at shelf.old cloud.0).told → Agrees log.old ((V.cloud_at shelf.old cloud.0).now log.old.area).read
+    ensures blob { IsTrue (V.cloud_at shelf.old cloud.0).told
+        → Agrees log.old ((V.cloud_at shelf.old cloud.0).now log.old.area).read
         → (b : Placed) → b.place ≡ entry.now.at → length b.blob ≡ entry.now.len → fingerprint b.blob ≡ entry.now.fp
         → IsAt ((V.cloud_at shelf.old cloud.0).now log.old.area).read b → OnOk result (reply.new ≡ reply_bytes (replies.Recipe b.blob)) }
     ensures log { ReadsLog log.old log.new (V.cloud_at shelf.old cloud.0) (V.cloud_at shelf.new cloud.0) }
@@ -85,7 +86,8 @@ fn put_recipe<V: Shelf>(
     ensures whole { IsTrue (V.cloud_at shelf.old cloud.0).told → 1 ≤ entry.now.len → entry.now.len ≤ 1180190
         → (b : Placed) → b.place ≡ entry.now.at → length b.blob ≡ entry.now.len → fingerprint b.blob ≡ entry.now.fp
         → IsAt ((V.cloud_at shelf.old cloud.0).now log.old.area).read b → IfRotten result (λ named found. ⊥) }
-    ensures blob { IsTrue (V.cloud_at shelf.old cloud.0).told → Agrees log.old ((V.cloud_at shelf.old cloud.0).now log.old.area).read
+    ensures blob { IsTrue (V.cloud_at shelf.old cloud.0).told
+        → Agrees log.old ((V.cloud_at shelf.old cloud.0).now log.old.area).read
         → (b : Placed) → b.place ≡ entry.now.at → length b.blob ≡ entry.now.len → fingerprint b.blob ≡ entry.now.fp
         → IsAt ((V.cloud_at shelf.old cloud.0).now log.old.area).read b → OnOk result (reply.new ≡ reply_bytes (replies.Recipe b.blob)) }
     ensures log { ReadsLog log.old log.new (V.cloud_at shelf.old cloud.0) (V.cloud_at shelf.new cloud.0) }
@@ -110,8 +112,8 @@ fn put_recipe<V: Shelf>(
 /// Failed comes only where the cloud's count of faults rose; nothing is known of the content then. The cloud's areas stay in any
 /// case. Of the log only the containers change that it keeps, and with Missing nothing.
 ///
-/// It asks for the log of the recipes and a buffer of 1,180,190 bytes at least, the most that a recipe has. It takes no memory but
-/// for the containers that the log keeps, and goes on without where there is none for them.
+/// It asks for the log of the recipes and a buffer of 1,180,190 bytes at least, the most that a recipe has. It takes no
+/// memory but for the containers that the log keeps, and goes on without where there is none for them.
 pub fn recipe<V: Shelf>(
     index: &CloudIndex,
     log: &mut Log,
@@ -125,13 +127,15 @@ pub fn recipe<V: Shelf>(
 ) -> Result<(), Failed>
     requires area { log.old.area ≡ areas.Recipes }
     requires buffer { 1180190 ≤ length buffer.old }
-    ensures value { IsTrue (V.cloud_at shelf.old cloud.0).told → Agrees log.old ((V.cloud_at shelf.old cloud.0).now log.old.area).read
+    ensures value { IsTrue (V.cloud_at shelf.old cloud.0).told
+        → Agrees log.old ((V.cloud_at shelf.old cloud.0).now log.old.area).read
         → (header : Header) (list : List Command)
         → Keeps (reads (V.cloud_at shelf.old cloud.0).now) header list index.now
         → OnOk result (reply.new ≡ reply_bytes (answer_over header.shape header.cloud.0 list (requests.GetRecipe user tag.now version)).reply) }
     ensures kind { OnOk result (Replies reply.new (RecipeReply (IsNamed index.now (key_of user.0 tag.now.0 version.0)) (HasNone index.now (key_of user.0 tag.now.0 version.0))
         (IsFoundRecipe (V.cloud_at shelf.old cloud.0) index.now (key_of user.0 tag.now.0 version.0)))) }
-    ensures untouched { OnOk result (IsReply reply.new replies.Missing → (shelf.new ≡ shelf.old) × (log.new ≡ log.old)) }
+    ensures untouched { OnOk result (IsReply reply.new replies.Missing
+        → (shelf.new ≡ shelf.old) × (log.new ≡ log.old)) }
     ensures log { ReadsLog log.old log.new (V.cloud_at shelf.old cloud.0) (V.cloud_at shelf.new cloud.0) }
     ensures stays { Stays (V.cloud_at shelf.old cloud.0) (V.cloud_at shelf.new cloud.0) }
     ensures call { IsCall (V.cloud_at shelf.old) (V.cloud_at shelf.new) cloud.0 (V.faults shelf.old) (V.faults shelf.new) }

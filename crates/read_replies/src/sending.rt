@@ -56,7 +56,8 @@ fn put_from<V: Shelf>(
         → IfRotten result (λ named found. IsOther ((V.cloud_at shelf.old cloud.0).now log.old.area).read place.at place.len named found) }
     ensures whole { IsTrue (V.cloud_at shelf.old cloud.0).told → (b : Placed) → b.place ≡ place.at → length b.blob ≡ place.len → fingerprint b.blob ≡ fp.now
         → IsAt ((V.cloud_at shelf.old cloud.0).now log.old.area).read b → IfRotten result (λ named found. ⊥) }
-    ensures blob { IsTrue (V.cloud_at shelf.old cloud.0).told → Agrees log.old ((V.cloud_at shelf.old cloud.0).now log.old.area).read
+    ensures blob { IsTrue (V.cloud_at shelf.old cloud.0).told
+        → Agrees log.old ((V.cloud_at shelf.old cloud.0).now log.old.area).read
         → (b : Placed) → b.place ≡ place.at → length b.blob ≡ place.len → fingerprint b.blob ≡ fp.now
         → IsAt ((V.cloud_at shelf.old cloud.0).now log.old.area).read b → OnOk result (reply.new ≡ reply.old ++ share_bytes b.blob) }
     ensures log { ReadsLog log.old log.new (V.cloud_at shelf.old cloud.0) (V.cloud_at shelf.new cloud.0) }
@@ -93,7 +94,8 @@ fn put_share<V: Shelf>(
         → IfRotten result (λ named found. found ≡ fingerprint []) }
     ensures whole { IsTrue (V.cloud_at shelf.old cloud.0).told → (p : Place) → place ≡ Some p → (b : Placed) → b.place ≡ p.at → length b.blob ≡ p.len → IsShare b.blob
         → fingerprint b.blob ≡ fp.now → IsAt ((V.cloud_at shelf.old cloud.0).now log.old.area).read b → IfRotten result (λ named found. ⊥) }
-    ensures blob { IsTrue (V.cloud_at shelf.old cloud.0).told → Agrees log.old ((V.cloud_at shelf.old cloud.0).now log.old.area).read
+    ensures blob { IsTrue (V.cloud_at shelf.old cloud.0).told
+        → Agrees log.old ((V.cloud_at shelf.old cloud.0).now log.old.area).read
         → (p : Place) → place ≡ Some p → (b : Placed) → b.place ≡ p.at → length b.blob ≡ p.len → IsShare b.blob
         → fingerprint b.blob ≡ fp.now → IsAt ((V.cloud_at shelf.old cloud.0).now log.old.area).read b → OnOk result (reply.new ≡ reply.old ++ share_bytes b.blob) }
     ensures log { ReadsLog log.old log.new (V.cloud_at shelf.old cloud.0) (V.cloud_at shelf.new cloud.0) }
@@ -132,7 +134,8 @@ fn put_each<V: Shelf>(
     ensures whole { IsTrue (V.cloud_at shelf.old cloud.0).told → (header : Header) (list : List Command) (user : UserId)
         → Keeps (reads (V.cloud_at shelf.old cloud.0).now) header list index.now → All (Contains (user_view header.shape list user).own) fps.now
         → IfRotten result (λ named found. ⊥) }
-    ensures held { IsTrue (V.cloud_at shelf.old cloud.0).told → Agrees log.old ((V.cloud_at shelf.old cloud.0).now log.old.area).read
+    ensures held { IsTrue (V.cloud_at shelf.old cloud.0).told
+        → Agrees log.old ((V.cloud_at shelf.old cloud.0).now log.old.area).read
         → (header : Header) (list : List Command) (user : UserId)
         → Keeps (reads (V.cloud_at shelf.old cloud.0).now) header list index.now → All (Contains (user_view header.shape list user).own) fps.now
         → OnOk result (reply.new ≡ reply.old ++ flat_map share_bytes (map (λ fp. unwrap_or (held_string list fp) []) fps.now)) }
@@ -168,7 +171,8 @@ fn put_shares<V: Shelf>(
     ensures whole { IsTrue (V.cloud_at shelf.old cloud.0).told → (header : Header) (list : List Command) (user : UserId)
         → Keeps (reads (V.cloud_at shelf.old cloud.0).now) header list index.now → All (Contains (user_view header.shape list user).own) fps.now
         → IfRotten result (λ named found. ⊥) }
-    ensures held { IsTrue (V.cloud_at shelf.old cloud.0).told → Agrees log.old ((V.cloud_at shelf.old cloud.0).now log.old.area).read
+    ensures held { IsTrue (V.cloud_at shelf.old cloud.0).told
+        → Agrees log.old ((V.cloud_at shelf.old cloud.0).now log.old.area).read
         → (header : Header) (list : List Command) (user : UserId)
         → Keeps (reads (V.cloud_at shelf.old cloud.0).now) header list index.now → All (Contains (user_view header.shape list user).own) fps.now
         → OnOk result (reply.new ≡ reply_bytes (replies.Shares (map (λ fp. unwrap_or (held_string list fp) []) fps.now))) }
@@ -206,13 +210,15 @@ pub fn shares<V: Shelf>(
     requires batch { IsBatch fps.now }
     requires area { log.old.area ≡ areas.Shares }
     requires buffer { 8208 ≤ length buffer.old }
-    ensures value { IsTrue (V.cloud_at shelf.old cloud.0).told → Agrees log.old ((V.cloud_at shelf.old cloud.0).now log.old.area).read
+    ensures value { IsTrue (V.cloud_at shelf.old cloud.0).told
+        → Agrees log.old ((V.cloud_at shelf.old cloud.0).now log.old.area).read
         → (header : Header) (list : List Command)
         → Keeps (reads (V.cloud_at shelf.old cloud.0).now) header list index.now
         → OnOk result (reply.new ≡ reply_bytes (answer_over header.shape header.cloud.0 list (requests.GetShares user fps.now)).reply) }
     ensures kind { OnOk result (Replies reply.new (SharesReply fps.now (IsFoundShare (V.cloud_at shelf.old cloud.0) index.now))) }
     ensures foreign { (place : ℕ) → first_unowned index.now user fps.now ≡ Some place
-        → (shelf.new ≡ shelf.old) × (log.new ≡ log.old) × OnOk result (reply.new ≡ reply_bytes (replies.NotYours place)) }
+        → (shelf.new ≡ shelf.old) × (log.new ≡ log.old)
+        × OnOk result (reply.new ≡ reply_bytes (replies.NotYours place)) }
     ensures untouched { (place : ℕ) → OnOk result (IsReply reply.new (replies.NotYours place)
         → (shelf.new ≡ shelf.old) × (log.new ≡ log.old)) }
     ensures log { ReadsLog log.old log.new (V.cloud_at shelf.old cloud.0) (V.cloud_at shelf.new cloud.0) }

@@ -56,7 +56,8 @@ fn shares_by<V: Shelf>(
     requires batch { IsBatch fps.now }
     requires area { log.old.shares.area ≡ areas.Shares }
     requires buffer { 8208 ≤ length buffer.old }
-    ensures value { IsTrue (V.cloud_at shelf.old cloud.0).told → IsCurrent log.old.shares (V.cloud_at shelf.old cloud.0).now
+    ensures value { IsTrue (V.cloud_at shelf.old cloud.0).told
+        → IsCurrent log.old.shares (V.cloud_at shelf.old cloud.0).now
         → (header : Header) (list : List Command)
         → Keeps (reads (V.cloud_at shelf.old cloud.0).now) header list index.now
         → OnOk result (reply.new ≡ reply_bytes (answer_over header.shape header.cloud.0 list (requests.GetShares user fps.now)).reply) }
@@ -96,13 +97,15 @@ fn recipe_by<V: Shelf>(
 ) -> Result<(), Failed>
     requires area { log.old.recipes.area ≡ areas.Recipes }
     requires buffer { 1180190 ≤ length buffer.old }
-    ensures value { IsTrue (V.cloud_at shelf.old cloud.0).told → IsCurrent log.old.recipes (V.cloud_at shelf.old cloud.0).now
+    ensures value { IsTrue (V.cloud_at shelf.old cloud.0).told
+        → IsCurrent log.old.recipes (V.cloud_at shelf.old cloud.0).now
         → (header : Header) (list : List Command)
         → Keeps (reads (V.cloud_at shelf.old cloud.0).now) header list index.now
         → OnOk result (reply.new ≡ reply_bytes (answer_over header.shape header.cloud.0 list (requests.GetRecipe user tag.now version)).reply) }
     ensures kind { OnOk result (Replies reply.new (RecipeReply (IsNamed index.now (key_of user.0 tag.now.0 version.0)) (HasNone index.now (key_of user.0 tag.now.0 version.0))
         (IsFoundRecipe (V.cloud_at shelf.old cloud.0) index.now (key_of user.0 tag.now.0 version.0)))) }
-    ensures untouched { OnOk result (IsReply reply.new replies.Missing → (shelf.new ≡ shelf.old) × (log.new ≡ log.old)) }
+    ensures untouched { OnOk result (IsReply reply.new replies.Missing
+        → (shelf.new ≡ shelf.old) × (log.new ≡ log.old)) }
     ensures log { ReadsLogs log.old log.new (V.cloud_at shelf.old cloud.0) (V.cloud_at shelf.new cloud.0) result }
     ensures stays { Stays (V.cloud_at shelf.old cloud.0) (V.cloud_at shelf.new cloud.0) }
     ensures call { IsCall (V.cloud_at shelf.old) (V.cloud_at shelf.new) cloud.0 (V.faults shelf.old) (V.faults shelf.new) }
