@@ -14,7 +14,8 @@ use request_dispatch::Asked;
 use std::alloc::Global;
 
 /// The server of one cloud: it keeps a memory of the list of commands that lies on the cloud's disk, and adds to both. It takes all its
-/// memory when it is made. It is closed at first, and opens its cloud at the first request; after a Fault it is closed again.
+/// memory when it is made, but for the containers that it keeps. It is closed at first, and opens its cloud at the first
+/// request; after a Fault it is closed again.
 #[derive(Drop)]
 pub struct Server {
     state: CloudState,
@@ -154,7 +155,9 @@ impl Server {
     ///
     /// On a cloud that stands as a peer the reply is the one that the peer's list gives, and the list has then the command that the request
     /// adds; or it is Fault, where a device failed, and the command may be there or not. A crash at any moment leaves the list, or the list with
-    /// that command. After any other reply than Fault the server is open, and what was added is certain. It takes no memory.
+    /// that command. After any other reply than Fault the server is open, and what was added is certain. It takes no
+    /// memory but for containers that it reads and keeps, up to 4 of Shares and 4 of Recipes of 4,194,304 bytes each, and
+    /// goes on without where there is none for them.
     ///
     /// A request that adds nothing leaves the cloud's areas and the memory as they were. Stored with 0, Full, Lacking, Missing and NotYours by
     /// an open server come with no call of a device at all. Rotten names what lies then where the memory has the share or the recipe, and what
