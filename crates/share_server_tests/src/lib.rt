@@ -14,6 +14,8 @@ mod damage;
 #[cfg(test)]
 mod greatest;
 #[cfg(test)]
+mod reads;
+#[cfg(test)]
 mod replies;
 #[cfg(test)]
 mod requests;
