@@ -3,7 +3,7 @@
 # of bytes, beside SHA-256 of these bytes and beside their digits alone by the kit's `hex`: what isn't digits is to take a tenth of
 # the hash at most.
 . "$(dirname "$0")/build.sh"
-build lines cd_base cd_edges cd_fakes grammar hex session transcript
+build lines answers cd_base cd_edges cd_fakes grammar hex session transcript
 PYTHONPATH="$top/bench" PYTHONDONTWRITEBYTECODE=1 python3 - "$program" <<'PY'
 import sys
 from measure import least

@@ -1,5 +1,5 @@
 -- The text of an answer.
-use Rattle.std.proofs.Common.{◌≡◌, ◌<◌, ◌≤◌, ℕ, List, [], ◌∷◌, ◌++◌, refl, sym, ap, ◌∙◌, append_assoc, arith, length, codes}
+use Rattle.std.proofs.Common.{◌≡◌, ◌<◌, ℕ, List, [], ◌∷◌, ◌++◌, refl, sym, ap, ◌∙◌, append_assoc, arith, length, codes}
 use Rattle.transcript.specs.Transcript.{line_text}
 use Rattle.transcript.specs.declared.line.Line.TheVariants as lines
 use Rattle.answers.specs.Packed.{packed_text}

@@ -6,3 +6,6 @@ mod spelling;
 mod writing;
 
 pub use answer::Answer;
+
+#[cfg(test)]
+mod tests;

@@ -1,8 +1,7 @@
 -- One line: what is read of it, and what is written.
 use Rattle.std.proofs.Common.{◌≡◌, ℕ, ◌+◌, Bool, true, false, List, [], ◌++◌, length, refl, sym, ap, ◌∙◌, subst}
-use Rattle.std.specs.Prelude.{Option, Some, None, Result, Ok, Err, IfErr, OnOk, take, drop}
+use Rattle.std.specs.Prelude.{Option, Some, None, Result, Ok, Err, IfErr, OnOk}
 use Rattle.std.specs.Io.KnownBytes.{Appends}
-use Rattle.std.proofs.lemmas.List.{take-append-drop}
 use Rattle.cd_base.specs.declared.shape.Shape.{Shape}
 use Rattle.cd_edges.specs.Causes.{Rose}
 use Rattle.cd_edges.specs.Disk.{Cloud}
@@ -107,9 +106,6 @@ ends_there jobs old new left left_now more over told place there =
     subst (λ (b : Bool). NextLine old there.unread (Ok b) new left_now) over (told there.unread there.left_is) in (line_here jobs old left place there (Ok None) n.none, n.left_is)
 
 -- ---- what is written
-
-pub front_of : (bytes : List ℕ) (sent : ℕ) (before now : Option (List ℕ)) → Appends before now (take sent bytes) → WritesFront bytes before now
-front_of bytes sent before now a = (take sent bytes, drop sent bytes, take-append-drop sent bytes, a)
 
 pub writes_line : (bytes line : List ℕ) (before now : Option (List ℕ)) (was is : ℕ) (result : Result (Unit {0}) ReplayEnd) → bytes ≡ line
     → IfErr result (EndsSink bytes before now was is) → IfErr result (EndsWriting line before now was is)

@@ -13,7 +13,8 @@ ghost use Rattle.replay_core.specs.Going.{CanBe, SaysNext, SaysEvent, EndsReadin
 
 use crate::ReplayEnd;
 use crate::writing::write_text;
-use cd_base::{Bytes, Shape};
+use answers::Answer;
+use cd_base::Shape;
 use cd_edges::{Shelf, Sink, Source};
 use local_link::LocalLink;
 use script_lines::{Buffers, CarryErr, Jobs, carry_out};
@@ -97,7 +98,7 @@ pub fn answer_line<K: Sink, V: Shelf>(
     jobs: &mut Jobs,
     event: &Event,
     buffers: &mut Buffers,
-    text: &mut Bytes,
+    text: &mut Answer,
     sink: &mut K,
 ) -> Result<(), ReplayEnd>
     requires fits { Fits link.old.servers.shape (length jobs.old) event.now }
@@ -112,9 +113,9 @@ pub fn answer_line<K: Sink, V: Shelf>(
     ensures reached { AreReached link.old.servers.shape jobs.new }
     ensures count { OnOk result (length jobs.new ≡ jobs_after (length jobs.old) event.now) }
 {
-    text.clear();
+    text.clear(alloc);
     match carry_out(alloc, link, jobs, event, buffers, text) {
-        Ok(()) => write_text(sink, text.as_slice()),
+        Ok(()) => write_text(alloc, sink, text),
         Err(error) => Err(end_of_error(error)),
     }
 }

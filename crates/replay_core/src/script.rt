@@ -17,7 +17,7 @@ use crate::ReplayEnd;
 use crate::lines::{answer_line, next_event};
 use crate::opening::{empty_clouds, first_line, open_clouds};
 use crate::writing::write_one;
-use cd_base::Bytes;
+use answers::Answer;
 use cd_edges::{Shelf, Sink, Source};
 use local_link::{LocalLink, Servers};
 use script_lines::{Buffers, Jobs};
@@ -50,7 +50,7 @@ fn carry_lines<S: Source, K: Sink, V: Shelf>(
     law_of_moments();
     let shape = link.shape();
     let mut jobs = Jobs::new(alloc);
-    let mut text = Bytes::new(alloc);
+    let mut text = Answer::new(alloc);
     let mut events: u64 = 0;
     'lines: loop {
         let next = next_event(alloc, shape, jobs.len() as u32, events, reader, source);
@@ -68,7 +68,7 @@ fn carry_lines<S: Source, K: Sink, V: Shelf>(
             Err(end) => return end,
         }
     }
-    match write_one(sink, &Line::Done { events }, &mut text) {
+    match write_one(alloc, sink, &Line::Done { events }, &mut text) {
         Ok(()) => ReplayEnd::Done { events },
         Err(end) => end,
     }
@@ -96,7 +96,7 @@ fn carry_script<S: Source, K: Sink, V: Shelf>(
 {
     law_of_acknowledged();
     law_of_own_replies();
-    let mut text = Bytes::new(alloc);
+    let mut text = Answer::new(alloc);
     let Ok(mut buffers) = Buffers::make(alloc) else {
         return ReplayEnd::NoMemory;
     };
@@ -105,7 +105,7 @@ fn carry_script<S: Source, K: Sink, V: Shelf>(
         Err(end) => return end,
     }
     let shape = link.shape();
-    match write_one(sink, &Line::Opened { shape }, &mut text) {
+    match write_one(alloc, sink, &Line::Opened { shape }, &mut text) {
         Ok(()) => carry_lines(alloc, reader, source, sink, link, &mut buffers),
         Err(end) => end,
     }

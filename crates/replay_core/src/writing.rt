@@ -6,33 +6,41 @@ ghost use Rattle.transcript.specs.Transcript.{line_text};
 ghost use Rattle.replay_core.specs.Going.{EndsSink, EndsWriting};
 
 use crate::ReplayEnd;
-use cd_base::Bytes;
-use cd_edges::{Sink, write_all};
-use transcript::{Line, write_line};
+use answers::Answer;
+use cd_edges::{Failed, Sink};
+use std::alloc::Global;
+use transcript::Line;
 
-/// Writes these bytes. Where the sink fails a front of them was written.
-pub fn write_text<K: Sink>(sink: &mut K, bytes: &[u8]) -> Result<(), ReplayEnd>
-    ensures ok { OnOk result (Appends (K.written sink.old) (K.written sink.new) bytes.now) }
+/// Writes this text, and drops it. Where the sink fails a front of it was written.
+pub fn write_text<K: Sink>(alloc: Global, sink: &mut K, text: &mut Answer) -> Result<(), ReplayEnd>
+    ensures ok { OnOk result (Appends (K.written sink.old) (K.written sink.new) text.old) }
     ensures still { OnOk result (K.faults sink.new ≡ K.faults sink.old) }
-    ensures end { IfErr result (EndsSink bytes.now (K.written sink.old) (K.written sink.new)
+    ensures end { IfErr result (EndsSink text.old (K.written sink.old) (K.written sink.new)
         (K.faults sink.old) (K.faults sink.new)) }
 {
-    match write_all(sink, bytes) {
+    let written = text.write(sink);
+    text.clear(alloc);
+    match written {
         Ok(()) => Ok(()),
-        Err(_) => Err(ReplayEnd::SinkFault),
+        Err(Failed) => Err(ReplayEnd::SinkFault),
     }
 }
 
 /// Writes a line of the transcript. `text` is used on the way.
-pub fn write_one<K: Sink>(sink: &mut K, line: &Line, text: &mut Bytes) -> Result<(), ReplayEnd>
+pub fn write_one<K: Sink>(
+    alloc: Global,
+    sink: &mut K,
+    line: &Line,
+    text: &mut Answer,
+) -> Result<(), ReplayEnd>
     ensures ok { OnOk result (Appends (K.written sink.old) (K.written sink.new) (line_text line.now)) }
     ensures still { OnOk result (K.faults sink.new ≡ K.faults sink.old) }
     ensures end { IfErr result (EndsWriting (line_text line.now) (K.written sink.old) (K.written sink.new)
         (K.faults sink.old) (K.faults sink.new)) }
 {
-    text.clear();
-    match write_line(line, text) {
-        Ok(()) => write_text(sink, text.as_slice()),
+    text.clear(alloc);
+    match text.push(line) {
+        Ok(()) => write_text(alloc, sink, text),
         Err(_) => Err(ReplayEnd::NoMemory),
     }
 }

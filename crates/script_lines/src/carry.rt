@@ -16,6 +16,7 @@ use crate::one::{arm_line, replace_line, restart_line};
 use crate::rebuilding::rebuild_line;
 use crate::upload::upload_line;
 use crate::{CarryErr, Jobs};
+use answers::Answer;
 use cd_base::{Bytes, NoMemory};
 use cd_edges::Shelf;
 use frames::ReplyBuf;
@@ -71,7 +72,7 @@ pub fn carry_out<V: Shelf>(
     jobs: &mut Jobs,
     event: &Event,
     buffers: &mut Buffers,
-    text: &mut Bytes,
+    text: &mut Answer,
 ) -> Result<(), CarryErr>
     requires fits { Fits link.old.servers.shape (length jobs.old) event.now }
     requires reached { AreReached link.old.servers.shape jobs.old }

@@ -13,6 +13,7 @@ ghost use Rattle.script_lines.specs.Jobs.{AreReached};
 
 use crate::Jobs;
 use crate::news::{as_news, becomes, put_line, put_stored};
+use answers::Answer;
 use cd_base::{Bytes, CloudNo, NoMemory};
 use cd_edges::Shelf;
 use frames::ReplyBuf;
@@ -23,7 +24,7 @@ use upload_job::LaneNews;
 use vault::law_of_parts;
 
 // Appends what each reply told.
-fn put_told(job: u32, lane: CloudNo, told: &[LaneNews], text: &mut Bytes) -> Result<(), NoMemory>
+fn put_told(job: u32, lane: CloudNo, told: &[LaneNews], text: &mut Answer) -> Result<(), NoMemory>
     ensures { OnOk result (text.new ≡ text.old ++ text_of (map (step_line_of job lane.0) told.now)) }
 {
     for news in told {
@@ -43,7 +44,7 @@ fn put_lane(
     came: Result<(), StepErr>,
     told: &[LaneNews],
     stored: bool,
-    text: &mut Bytes,
+    text: &mut Answer,
 ) -> Result<(), NoMemory>
     ensures brought { OnOk result (IsBrought came) }
     ensures text { OnOk result (text.new ≡ text.old ++ text_of (lane_lines job lane.0 came told.now stored)) }
@@ -72,7 +73,7 @@ fn finish_one<V: Shelf>(
     content: &mut Bytes,
     reply: &mut ReplyBuf,
     told: &mut Vec<LaneNews>,
-    text: &mut Bytes,
+    text: &mut Answer,
 ) -> Result<(), NoMemory>
     requires job { IsJob (length jobs.old) job }
     requires below { lane.0 < link.old.servers.shape.n }
@@ -100,7 +101,7 @@ fn finish_lanes<V: Shelf>(
     content: &mut Bytes,
     reply: &mut ReplyBuf,
     told: &mut Vec<LaneNews>,
-    text: &mut Bytes,
+    text: &mut Answer,
 ) -> Result<(), NoMemory>
     requires job { IsJob (length jobs.old) job }
     requires reached { AreReached link.old.servers.shape jobs.old }
@@ -127,7 +128,7 @@ pub fn finish_line<V: Shelf>(
     content: &mut Bytes,
     reply: &mut ReplyBuf,
     told: &mut Vec<LaneNews>,
-    text: &mut Bytes,
+    text: &mut Answer,
 ) -> Result<(), NoMemory>
     requires job { IsJob (length jobs.old) job }
     requires reached { AreReached link.old.servers.shape jobs.old }

@@ -10,7 +10,8 @@ ghost use Rattle.script_lines.specs.Does.{CarriesOut, IsCutOff};
 ghost use Rattle.script_lines.specs.Getting.{SaysGet};
 
 use crate::Jobs;
-use crate::news::put_line;
+use crate::news::{put_got, put_line};
+use answers::Answer;
 use cd_base::{Bytes, Clouds, NoMemory, UserId, Version};
 use cd_edges::Shelf;
 use local_link::LocalLink;
@@ -22,11 +23,11 @@ use transcript::Line;
 use vault::law_of_parts;
 
 // Appends the file that a restore gave, or why it gave none.
-fn put_file(file: Bytes, came: Result<(), RestoreErr>, text: &mut Bytes) -> Result<(), NoMemory>
+fn put_file(file: Bytes, came: Result<(), RestoreErr>, text: &mut Answer) -> Result<(), NoMemory>
     ensures { OnOk result (SaysGet came file text.old text.new) }
 {
     match came {
-        Ok(()) => put_line(Line::Got { bytes: file }, text),
+        Ok(()) => put_got(file, text),
         Err(error) => match as_refusal(error) {
             Some(why) => put_line(Line::Refused { why }, text),
             None => Err(NoMemory),
@@ -43,7 +44,7 @@ pub fn get_line<V: Shelf>(
     path: &[u8],
     version: Version,
     clouds: &Clouds,
-    text: &mut Bytes,
+    text: &mut Answer,
 ) -> Result<(), NoMemory>
     requires path { IsPath path.now }
     requires clouds { AreSources link.old.servers.shape clouds.now }

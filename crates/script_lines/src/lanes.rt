@@ -15,6 +15,7 @@ ghost use Rattle.vault.specs.Steps.{step_line as step_line_of};
 
 use crate::Jobs;
 use crate::news::{as_news, becomes, put_line, put_stored};
+use answers::Answer;
 use cd_base::{Bytes, CloudNo, NoMemory};
 use cd_edges::Shelf;
 use frames::ReplyBuf;
@@ -31,7 +32,7 @@ fn put_told_step(
     lane: CloudNo,
     told: LaneNews,
     stored: bool,
-    text: &mut Bytes,
+    text: &mut Answer,
 ) -> Result<(), NoMemory>
     ensures { OnOk result (text.new ≡ text.old ++ text_of (step_line_of job lane.0 told ∷ stored_if job stored)) }
 {
@@ -48,7 +49,7 @@ fn put_step(
     lane: CloudNo,
     came: Result<Option<LaneNews>, StepErr>,
     stored: bool,
-    text: &mut Bytes,
+    text: &mut Answer,
 ) -> Result<(), NoMemory>
     ensures told { OnOk result (IsTold came) }
     ensures text { OnOk result (text.new ≡ text.old ++ text_of (step_lines job lane.0 came stored)) }
@@ -76,7 +77,7 @@ pub fn step_line<V: Shelf>(
     lane: CloudNo,
     content: &mut Bytes,
     reply: &mut ReplyBuf,
-    text: &mut Bytes,
+    text: &mut Answer,
 ) -> Result<(), NoMemory>
     requires job { IsJob (length jobs.old) job }
     requires below { lane.0 < link.old.servers.shape.n }
@@ -97,7 +98,7 @@ pub fn step_line<V: Shelf>(
 }
 
 // Appends the line of a lane whose request is lost, or that it has none.
-fn put_lost(job: u32, lane: CloudNo, has_request: bool, text: &mut Bytes) -> Result<(), NoMemory>
+fn put_lost(job: u32, lane: CloudNo, has_request: bool, text: &mut Answer) -> Result<(), NoMemory>
     ensures asks { OnOk result (IsTrue has_request → text.new ≡ text.old ++ text_of (lines.Lost job lane ∷ [])) }
     ensures done { OnOk result (has_request ≡ false
         → text.new ≡ text.old ++ text_of (lines.Step job lane news_words.Done ∷ [])) }
@@ -123,7 +124,7 @@ pub fn lose_line<V: Shelf>(
     job: u32,
     lane: CloudNo,
     content: &mut Bytes,
-    text: &mut Bytes,
+    text: &mut Answer,
 ) -> Result<(), NoMemory>
     requires job { IsJob (length jobs.old) job }
     requires below { lane.0 < link.old.servers.shape.n }
@@ -167,7 +168,7 @@ pub fn drop_line<V: Shelf>(
     lane: CloudNo,
     content: &mut Bytes,
     reply: &mut ReplyBuf,
-    text: &mut Bytes,
+    text: &mut Answer,
 ) -> Result<(), NoMemory>
     requires job { IsJob (length jobs.old) job }
     requires below { lane.0 < link.old.servers.shape.n }

@@ -16,6 +16,7 @@ ghost use Rattle.script_lines.specs.Paging.{IsListReply, RefusesAs, TakesPage, A
 
 use crate::Jobs;
 use crate::news::put_line;
+use answers::Answer;
 use cd_base::{Bytes, CloudNo, NoMemory, Tag, UserId, Version};
 use cd_edges::Shelf;
 use frames::ReplyBuf;
@@ -23,7 +24,7 @@ use local_link::LocalLink;
 use message_fields::Entries;
 use messages::{MsgErr, Reply, Request};
 use std::alloc::Global;
-use transcript::{Line, Refusal};
+use transcript::{Line, Refusal, write_line};
 use user_dedup::{Link, Lost};
 
 // The entries of a page that isn't the last one.
@@ -155,12 +156,20 @@ fn entry_line(entry: (Tag, Version)) -> Line
     Line::Entry { tag, version }
 }
 
+// Appends the line of an entry. For want of memory nothing changes.
+fn put_entry(entry: (Tag, Version), lines: &mut Bytes) -> Result<(), NoMemory>
+    ensures ok { OnOk result (lines.new ≡ lines.old ++ text_of (line_of_entry entry ∷ [])) }
+    ensures err { OnErr result (lines.new ≡ lines.old) }
+{
+    write_line(&entry_line(entry), lines)
+}
+
 // Appends the line of each entry.
 fn put_entries(page: &[(Tag, Version)], lines: &mut Bytes) -> Result<(), NoMemory>
     ensures { OnOk result (lines.new ≡ lines.old ++ text_of (map line_of_entry page.now)) }
 {
     for entry in page {
-        match put_line(entry_line(*entry), lines) {
+        match put_entry(*entry, lines) {
             Ok(()) => {}
             Err(NoMemory) => return Err(NoMemory),
         }
@@ -249,7 +258,7 @@ fn put_listing(
     user: UserId,
     cloud: CloudNo,
     listing: &Listing,
-    text: &mut Bytes,
+    text: &mut Answer,
 ) -> Result<(), NoMemory>
     ensures { OnOk result (text.new
         ≡ text.old ++ text_of (lines.Entries user cloud listing.now.count ∷ []) ++ listing.now.lines) }
@@ -262,7 +271,7 @@ fn put_listing(
 }
 
 // Appends why a listing came to no end.
-fn put_no_page(why: NoPage, text: &mut Bytes) -> Result<(), NoMemory>
+fn put_no_page(why: NoPage, text: &mut Answer) -> Result<(), NoMemory>
     ensures { OnOk result (SaysNoPage why text.old text.new) }
 {
     match why {
@@ -280,7 +289,7 @@ pub fn list_line<V: Shelf>(
     cloud: CloudNo,
     content: &mut Bytes,
     reply: &mut ReplyBuf,
-    text: &mut Bytes,
+    text: &mut Answer,
 ) -> Result<(), NoMemory>
     requires below { cloud.0 < link.old.servers.shape.n }
     ensures does { OnOk result (CarriesOut V.cloud_at (events.List user cloud) link.old jobs.now

@@ -1,12 +1,14 @@
 //! What a transcript says of news.
 
 ghost use Rattle.std.specs.Prelude.{◌≡◌, ◌++◌, ◌∷◌, [], ◌&&◌, not, OnOk, OnErr};
+ghost use Rattle.transcript.specs.declared.line.Line.TheVariants as lines;
 ghost use Rattle.vault.specs.Steps.{as_told};
 ghost use Rattle.session.specs.Texts.{text_of};
 ghost use Rattle.script_lines.specs.Stepping.{stored_if};
 
+use answers::Answer;
 use cd_base::{Bytes, NoMemory};
-use transcript::{Line, News, write_line};
+use transcript::{Line, News};
 use upload_job::LaneNews;
 
 /// The news of a lane, as a transcript says them.
@@ -38,11 +40,19 @@ pub fn as_news(told: LaneNews) -> News
 }
 
 /// Appends the text of one line. For want of memory nothing changes.
-pub fn put_line(line: Line, text: &mut Bytes) -> Result<(), NoMemory>
+pub fn put_line(line: Line, text: &mut Answer) -> Result<(), NoMemory>
     ensures ok { OnOk result (text.new ≡ text.old ++ text_of (line ∷ [])) }
     ensures err { OnErr result (text.new ≡ text.old) }
 {
-    write_line(&line, text)
+    text.push(&line)
+}
+
+/// Appends the text of the line of a file that was read. For want of memory nothing changes.
+pub fn put_got(file: Bytes, text: &mut Answer) -> Result<(), NoMemory>
+    ensures ok { OnOk result (text.new ≡ text.old ++ text_of (lines.Got file ∷ [])) }
+    ensures err { OnErr result (text.new ≡ text.old) }
+{
+    text.push_got(file)
 }
 
 /// Whether something holds now that didn't hold before.
@@ -53,7 +63,7 @@ pub fn becomes(before: bool, now: bool) -> bool
 }
 
 /// Appends the line of a job that is stored, where it is.
-pub fn put_stored(job: u32, stored: bool, text: &mut Bytes) -> Result<(), NoMemory>
+pub fn put_stored(job: u32, stored: bool, text: &mut Answer) -> Result<(), NoMemory>
     ensures { OnOk result (text.new ≡ text.old ++ text_of (stored_if job stored)) }
 {
     if stored {

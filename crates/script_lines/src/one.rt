@@ -10,7 +10,8 @@ ghost use Rattle.share_server.specs.Serving.{an_error};
 
 use crate::news::put_line;
 use crate::{CarryErr, Jobs};
-use cd_base::{Bytes, CloudNo, NoMemory};
+use answers::Answer;
+use cd_base::{CloudNo, NoMemory};
 use cd_edges::{Failed, Shelf};
 use commit_journal::OpenErr;
 use local_link::LocalLink;
@@ -25,7 +26,7 @@ pub fn arm_line<V: Shelf>(
     cloud: CloudNo,
     calls: u32,
     keep: u32,
-    text: &mut Bytes,
+    text: &mut Answer,
 ) -> Result<(), NoMemory>
     requires below { cloud.0 < link.old.servers.shape.n }
     ensures does { OnOk result (CarriesOut V.cloud_at (events.Arm cloud calls keep) link.old jobs.now
@@ -66,7 +67,7 @@ pub fn restart_line<V: Shelf>(
     link: &mut LocalLink<'_, V>,
     jobs: &Jobs,
     cloud: CloudNo,
-    text: &mut Bytes,
+    text: &mut Answer,
 ) -> Result<(), NoMemory>
     requires below { cloud.0 < link.old.servers.shape.n }
     ensures does { OnOk result (CarriesOut V.cloud_at (events.Restart cloud) link.old jobs.now
@@ -95,7 +96,7 @@ pub fn replace_line<V: Shelf>(
     link: &mut LocalLink<'_, V>,
     jobs: &Jobs,
     cloud: CloudNo,
-    text: &mut Bytes,
+    text: &mut Answer,
 ) -> Result<(), CarryErr>
     requires below { cloud.0 < link.old.servers.shape.n }
     ensures does { OnOk result (CarriesOut V.cloud_at (events.Replace cloud) link.old jobs.now

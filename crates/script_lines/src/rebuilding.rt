@@ -13,7 +13,8 @@ ghost use Rattle.script_lines.specs.Rebuilding.{SaysRebuild};
 
 use crate::Jobs;
 use crate::news::put_line;
-use cd_base::{Bytes, CloudNo, Clouds, NoMemory, UserId};
+use answers::Answer;
+use cd_base::{CloudNo, Clouds, NoMemory, UserId};
 use cd_edges::Shelf;
 use local_link::LocalLink;
 use rebuild::{RebuildErr, Rebuilt, Skip, SkipWhy, Skips, rebuild};
@@ -95,7 +96,7 @@ fn as_stop(error: RebuildErr) -> Option<Refusal>
 }
 
 // Appends the line of each version that was skipped.
-fn put_skips(skips: &Skips, text: &mut Bytes) -> Result<(), NoMemory>
+fn put_skips(skips: &Skips, text: &mut Answer) -> Result<(), NoMemory>
     ensures { OnOk result (text.new ≡ text.old ++ text_of (map skip_line skips.now)) }
 {
     for place in 0..skips.len() {
@@ -115,7 +116,7 @@ fn put_done(
     user: UserId,
     cloud: CloudNo,
     rebuilt: &Rebuilt,
-    text: &mut Bytes,
+    text: &mut Answer,
 ) -> Result<(), NoMemory>
     ensures { OnOk result (text.new ≡ text.old
         ++ text_of (lines.Rebuilt user cloud rebuilt.now.files (length rebuilt.now.skipped) ∷ map skip_line rebuilt.now.skipped)) }
@@ -143,7 +144,7 @@ fn put_rebuilt(
     user: UserId,
     cloud: CloudNo,
     came: Result<Rebuilt, RebuildErr>,
-    text: &mut Bytes,
+    text: &mut Answer,
 ) -> Result<(), NoMemory>
     ensures { OnOk result (SaysRebuild user cloud.0 came text.old text.new) }
 {
@@ -165,7 +166,7 @@ pub fn rebuild_line<V: Shelf>(
     user: UserId,
     target: CloudNo,
     from: &Clouds,
-    text: &mut Bytes,
+    text: &mut Answer,
 ) -> Result<(), NoMemory>
     requires below { target.0 < link.old.servers.shape.n }
     requires clouds { AreClouds link.old.servers.shape from.now }

@@ -9,7 +9,8 @@ ghost use Rattle.script_lines.specs.Jobs.{AreReached};
 
 use crate::Jobs;
 use crate::news::put_line;
-use cd_base::{Bytes, NoMemory, UserId, Version};
+use answers::Answer;
+use cd_base::{NoMemory, UserId, Version};
 use cd_edges::Shelf;
 use local_link::LocalLink;
 use std::alloc::Global;
@@ -26,7 +27,7 @@ pub fn upload_line<V: Shelf>(
     path: &[u8],
     version: Version,
     bytes: &[u8],
-    text: &mut Bytes,
+    text: &mut Answer,
 ) -> Result<(), NoMemory>
     requires fits { IsUpload (length jobs.old) path.now bytes.now }
     requires reached { AreReached link.now.servers.shape jobs.old }

@@ -4,8 +4,9 @@ ghost use Rattle.std.specs.Prelude.{◌≡◌};
 ghost use Rattle.cloud_state.specs.State.{AreRooms};
 ghost use Rattle.script_lines.specs.Jobs.{AreReached};
 
+use answers::Answer;
 use cd_base::{Bytes, Rooms, Shape};
-use cd_fakes::MemShelf;
+use cd_fakes::{MemShelf, MemSink};
 use local_link::LocalLink;
 use script_lines::{Buffers, Jobs, carry_out};
 use session::read_line;
@@ -33,7 +34,7 @@ fn carry(
     jobs: &mut Jobs,
     buffers: &mut Buffers,
     line: &[u8],
-    text: &mut Bytes,
+    text: &mut Answer,
 ) -> Result<(), Fail>
     requires { AreReached link.old.servers.shape jobs.old }
     ensures shape { link.new.servers.shape ≡ link.old.servers.shape }
@@ -56,7 +57,7 @@ fn carry(
 /// The text of the answers to these lines, over four empty clouds of which any three give a file back.
 pub fn played(alloc: Global, lines: &[&[u8]]) -> Result<Bytes, Fail> {
     let mut shelf = MemShelf::of(alloc, 4, 100_000, 20_000, &[])?;
-    let mut text = Bytes::new(alloc);
+    let mut text = Answer::new(alloc);
     {
         let mut link = LocalLink::over(alloc, &mut shelf, Shape { n: 4, k: 3 }, rooms())?;
         let mut jobs = Jobs::new(alloc);
@@ -65,5 +66,12 @@ pub fn played(alloc: Global, lines: &[&[u8]]) -> Result<Bytes, Fail> {
             carry(alloc, &mut link, &mut jobs, &mut buffers, line, &mut text)?;
         }
     }
-    Ok(text)
+    let mut sink = MemSink::of(alloc, 100_000, 100_000, &[])?;
+    match text.write(&mut sink) {
+        Ok(()) => {}
+        Err(_) => return Err(Fail::new("not written")),
+    }
+    let mut written = Bytes::new(alloc);
+    written.extend(sink.written())?;
+    Ok(written)
 }

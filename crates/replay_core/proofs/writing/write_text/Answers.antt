@@ -1,6 +1,4 @@
-use Rattle.replay_core.proofs.Steps.{front_of}
 use Rattle.replay_core.proofs.writing.write_text.Goals as goal
 
 pub returns-in-Err-clause-end : goal.returns-in-Err-clause-end
-returns-in-Err-clause-end g c =
-    (front_of c.args.bytes.now c.in-Err.field-0.sent (g.K.Sink.written c.args.sink.now) (g.K.Sink.written c.write_all.new.sink) c.in-Err.ensures.prefix.1, c.in-Err.ensures.cause.failed)
+returns-in-Err-clause-end g c = (c.in-Err.ensures.writes.front, c.in-Err.ensures.writes.cause.failed)
