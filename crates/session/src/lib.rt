@@ -2,11 +2,13 @@
 #![tactic(auto)]
 
 mod event;
+mod front;
 mod header;
 mod kinds;
 mod laws;
 mod limits;
 mod lines;
+mod long;
 mod reading;
 mod window;
 

@@ -1,7 +1,7 @@
 ghost use Rattle.std.specs.Prelude.{None};
 
 use super::*;
-use cd_base::{Clouds, Rooms, Shape};
+use cd_base::{Bytes, Clouds, NoMemory, Rooms, Shape};
 use cd_edges::{Failed, Source};
 use std::alloc::Global;
 use std::test::Fail;
@@ -307,11 +307,11 @@ fn lines_in_pieces(rt: HostRuntime) -> Result<(), Fail> {
         let mut source = source_of(b"cdstore 1 4 3\n\nget 7 61 1 0,1,2\n", *piece, 0);
         let mut reader = LineReader::make(rt.alloc())?;
         assert!(rt; reader.next(&mut source) == Ok(true));
-        assert_eq!(rt; reader.line(), b"cdstore 1 4 3".as_slice());
+        assert_eq!(rt; reader.line(rt.alloc())?.as_slice(), b"cdstore 1 4 3".as_slice());
         assert!(rt; reader.next(&mut source) == Ok(true));
-        assert_eq!(rt; reader.line(), b"".as_slice());
+        assert_eq!(rt; reader.line(rt.alloc())?.as_slice(), b"".as_slice());
         assert!(rt; reader.next(&mut source) == Ok(true));
-        assert_eq!(rt; reader.line(), b"get 7 61 1 0,1,2".as_slice());
+        assert_eq!(rt; reader.line(rt.alloc())?.as_slice(), b"get 7 61 1 0,1,2".as_slice());
         assert!(rt; reader.next(&mut source) == Ok(false));
     }
     Ok(())
@@ -341,5 +341,158 @@ fn lines_that_fail(rt: HostRuntime) -> Result<(), Fail> {
         found: Some(b'x'),
     });
     assert!(rt; reader.next(&mut source) == past);
+    Ok(())
+}
+
+// Hands out bytes of its own in pieces.
+#[derive(Drop)]
+struct Long {
+    bytes: Bytes,
+    at: usize,
+    piece: usize,
+}
+
+impl Source for Long {
+    ghost left = { λ _. None };
+
+    ghost faults = { λ _. 0 };
+
+    fn read(&mut self, out: &mut [u8]) -> Result<usize, Failed> {
+        let mut n = 0;
+        for place in out.iter_mut().take(self.piece) {
+            let Some(byte) = self.bytes.get(self.at) else {
+                break;
+            };
+            *place = *byte;
+            self.at = self.at.saturating_add(1);
+            n += 1;
+        }
+        Ok(n)
+    }
+}
+
+// A front and so many digits, of which one is exchanged for another byte; the line is ended, and another one follows.
+fn long_line(
+    alloc: Global,
+    front: &[u8],
+    digits: usize,
+    place: usize,
+    byte: u8,
+    piece: usize,
+) -> Result<Long, NoMemory> {
+    let mut bytes = Bytes::new(alloc);
+    bytes.extend(front)?;
+    for i in 0..digits {
+        let digit = b"0123456789abcdef"[(i / 7 + i) % 16];
+        bytes.push(if i == place { byte } else { digit })?;
+    }
+    bytes.extend(b"\nfinish 1\n")?;
+    Ok(Long {
+        bytes,
+        at: 0,
+        piece,
+    })
+}
+
+// What a long upload is read as, and whether the line behind it is read.
+fn long_upload(
+    alloc: Global,
+    digits: usize,
+    place: usize,
+    byte: u8,
+    piece: usize,
+) -> Result<(Result<Event, ScriptErr>, bool), NoMemory> {
+    let mut reader = LineReader::make(alloc)?;
+    let mut source = long_line(alloc, b"upload 7 6162 1 ", digits, place, byte, piece)?;
+    let Some(shape) = Shape::of(4, 3) else {
+        return Ok((Err(ScriptErr::NoMemory), false));
+    };
+    let taken = reader.next(&mut source) == Ok(true);
+    let event = reader.read_line(alloc, shape, 1);
+    let more = reader.next(&mut source) == Ok(true);
+    let next = reader.read_line(alloc, shape, 1);
+    let well = taken && more && matches!(next, Ok(Event::Finish { job: 1 }));
+    Ok((event, well))
+}
+
+// Whether the bytes are those of the digits of a long line.
+fn are_spelled(bytes: &Bytes, digits: usize) -> bool {
+    let mut i = 0;
+    for byte in bytes.as_slice() {
+        let high = (i / 7 + i) % 16;
+        let low = ((i + 1) / 7 + i + 1) % 16;
+        if *byte as usize != 16 * high + low {
+            return false;
+        }
+        i += 2;
+    }
+    i == digits
+}
+
+#[test]
+fn long_uploads(rt: HostRuntime) -> Result<(), Fail> {
+    for piece in &[1_usize, 7, 65_536, 1_000_000] {
+        for digits in &[65_520_usize, 65_522, 131_056, 200_000] {
+            match long_upload(rt.alloc(), *digits, 1_000_000, b'0', *piece)? {
+                (Ok(Event::Upload { user, path, bytes, .. }), true) => {
+                    assert!(rt; user.0 == 7 && path.as_slice() == b"ab".as_slice());
+                    assert!(rt; are_spelled(&bytes, *digits));
+                }
+                _ => assert!(rt; false),
+            }
+        }
+    }
+    Ok(())
+}
+
+// Whether a long line fails at this place, with this byte there, and the next one is read.
+fn long_fails(
+    alloc: Global,
+    digits: usize,
+    place: usize,
+    byte: u8,
+    at: u64,
+    found: u8,
+) -> Result<bool, NoMemory> {
+    let wrong = Some(ScriptErr::At {
+        at,
+        found: Some(found),
+    });
+    let (event, well) = long_upload(alloc, digits, place, byte, 65_536)?;
+    Ok(well && event.err() == wrong)
+}
+
+#[test]
+fn wrong_long_uploads(rt: HostRuntime) -> Result<(), Fail> {
+    for place in &[0_usize, 1, 4095, 65_519, 65_520, 65_521, 131_055, 131_056, 131_057, 199_998, 199_999] {
+        assert!(rt; long_fails(rt.alloc(), 200_000, *place, b'F', 16, if *place == 0 { b'F' } else { b'0' })?);
+    }
+    // a blank ends the content, and what follows it is too much; behind an odd count the content is wrong
+    assert!(rt; long_fails(rt.alloc(), 200_000, 150_000, b' ', 150_016, b' ')?);
+    assert!(rt; long_fails(rt.alloc(), 200_000, 150_001, b' ', 16, b'0')?);
+    assert!(rt; long_fails(rt.alloc(), 200_001, 1_000_000, b'0', 16, b'0')?);
+    Ok(())
+}
+
+#[test]
+fn long_first_lines(rt: HostRuntime) -> Result<(), Fail> {
+    let mut reader = LineReader::make(rt.alloc())?;
+    let mut source = long_line(rt.alloc(), b"upload 7 6162 1 ", 200_000, 0, b'0', 65_536)?;
+    assert!(rt; reader.next(&mut source) == Ok(true));
+    let wrong = Some(ScriptErr::At {
+        at: 0,
+        found: Some(b'u'),
+    });
+    assert!(rt; reader.read_header().err() == wrong);
+    let line = reader.line(rt.alloc())?;
+    assert!(rt; line.len() == 200_016 && line.as_slice().starts_with(b"upload 7 6162 1 0123456"));
+    let mut reader = LineReader::make(rt.alloc())?;
+    let mut source = long_line(rt.alloc(), b"cdstore 1 ", 200_000, 0, b'1', 65_536)?;
+    assert!(rt; reader.next(&mut source) == Ok(true));
+    let wrong = Some(ScriptErr::At {
+        at: 10,
+        found: Some(b'1'),
+    });
+    assert!(rt; reader.read_header().err() == wrong);
     Ok(())
 }
