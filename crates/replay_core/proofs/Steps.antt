@@ -34,26 +34,27 @@ pub line_here : (jobs : ℕ) (old : Lines) (left : Option (List ℕ)) (place : P
 line_here jobs old left place there reading e =
     ap (λ (n : ℕ). next_line n place.rest) (sym there.taken) ∙ ap (next_line old.taken) (sym there.rest) ∙ e
 
-pub says_line : (shape : Shape) (jobs : ℕ) (old new : Lines) (left left_now : Option (List ℕ)) (more : Bool) (line : List ℕ) (event : Event)
-    → more ≡ true → ((bytes : List ℕ) → left ≡ Some bytes → NextLine old bytes (Ok more) new left_now) → line ≡ new.line → event_at shape jobs line ≡ Ok event
+pub says_line : (shape : Shape) (jobs : ℕ) (old new behind_it : Lines) (left left_now : Option (List ℕ)) (more : Bool) (event : Event)
+    → more ≡ true → ((bytes : List ℕ) → left ≡ Some bytes → NextLine old bytes (Ok more) new left_now) → event_at shape jobs new.line ≡ Ok event
+    → behind_it.ahead ≡ new.ahead → behind_it.taken ≡ new.taken
     → (place : Place) → IsThere old left jobs place
-    → (next : Place) × Says shape place event next × IsThere new left_now (jobs_after jobs event) next
-says_line shape jobs old new left left_now more line event so told is said place there =
+    → (next : Place) × Says shape place event next × IsThere behind_it left_now (jobs_after jobs event) next
+says_line shape jobs old new behind_it left left_now more event so told said ahead taken place there =
     let n : TakesLine old (old.ahead ++ there.unread) new left_now =
     subst (λ (b : Bool). NextLine old there.unread (Ok b) new left_now) so (told there.unread there.left_is) in (
       behind place new.line event,
       record {
         line = new.line;
         here = line_here jobs old left place there (Ok (Some new.line)) n.line;
-        says = ap (λ (j : ℕ). event_at shape j new.line) there.jobs_are ∙ ap (event_at shape jobs) (sym is) ∙ said;
+        says = ap (λ (j : ℕ). event_at shape j new.line) there.jobs_are ∙ said;
         next_is = refl;
       },
       record {
         jobs_are = ap (λ (j : ℕ). jobs_after j event) there.jobs_are;
-        taken = n.taken ∙ ap (λ (t : ℕ). t + length new.line + 1) there.taken;
+        taken = taken ∙ n.taken ∙ ap (λ (t : ℕ). t + length new.line + 1) there.taken;
         unread = n.unread;
         left_is = n.left_is;
-        rest = n.follows ∙ ap after_line there.rest;
+        rest = ap (λ (x : List ℕ). x ++ n.unread) ahead ∙ n.follows ∙ ap after_line there.rest;
       },
     )
 

@@ -18,7 +18,7 @@ use cd_base::Shape;
 use cd_edges::{Shelf, Sink, Source};
 use local_link::LocalLink;
 use script_lines::{Buffers, CarryErr, Jobs, carry_out};
-use session::{Event, LineErr, LineReader, ScriptErr, read_line};
+use session::{Event, LineErr, LineReader, ScriptErr};
 use std::alloc::Global;
 
 /// The end of a replay whose line of this number says nothing.
@@ -42,12 +42,19 @@ pub fn end_of_reader(line: u64, error: LineErr) -> ReplayEnd
     }
 }
 
-// What a line says.
-fn event_of_line(alloc: Global, shape: Shape, jobs: u32, line: &[u8]) -> Result<Event, ScriptErr>
-    ensures says { SaysEvent (event_at shape jobs line.now) result }
+// What the reader's line says. The reader goes on behind it.
+fn event_of_line(
+    alloc: Global,
+    shape: Shape,
+    jobs: u32,
+    reader: &mut LineReader,
+) -> Result<Event, ScriptErr>
+    ensures says { SaysEvent (event_at shape jobs reader.old.line) result }
     ensures can { IfOk result (CanBe shape jobs) }
+    ensures ahead { reader.new.ahead ≡ reader.old.ahead }
+    ensures taken { reader.new.taken ≡ reader.old.taken }
 {
-    read_line(alloc, shape, jobs, line)
+    reader.read_line(alloc, shape, jobs)
 }
 
 /// Reads the next line, behind so many uploads and so many lines after the first; None at the end of the script.
@@ -72,7 +79,7 @@ pub fn next_event<S: Source>(
 {
     let line = events + 2;
     match reader.next(source) {
-        Ok(true) => match event_of_line(alloc, shape, jobs, reader.line()) {
+        Ok(true) => match event_of_line(alloc, shape, jobs, reader) {
             Ok(event) => Ok(Some(event)),
             Err(error) => Err(end_of_line(line, error)),
         },

@@ -20,14 +20,14 @@ use cd_edges::{Area, Failed, Shelf, Source};
 use commit_journal::OpenErr;
 use local_link::LocalLink;
 use opening_damage::damage_of;
-use session::{LineReader, read_header};
+use session::LineReader;
 
 // What the first line says, or how the replay ends there.
-fn header_of_line(line: &[u8]) -> Result<(Shape, Rooms), ReplayEnd>
-    ensures says { SaysHeader (header_at line.now) result }
+fn header_of_line(reader: &LineReader) -> Result<(Shape, Rooms), ReplayEnd>
+    ensures says { SaysHeader (header_at reader.now.line) result }
     ensures rooms { IfOk result (λ header. AreRooms header.1 × IsWithin header.1 []) }
 {
-    match read_header(line) {
+    match reader.read_header() {
         Ok(header) => Ok(header),
         Err(error) => Err(end_of_line(1, error)),
     }
@@ -47,7 +47,7 @@ pub fn first_line<S: Source>(
     ensures end { IfErr result (EndsFirst (S.left source.old) (S.faults source.old) (S.faults source.new)) }
 {
     match reader.next(source) {
-        Ok(true) => header_of_line(reader.line()),
+        Ok(true) => header_of_line(reader),
         Ok(false) => Err(ReplayEnd::Script {
             line: 1,
             at: 0,

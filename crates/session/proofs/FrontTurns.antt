@@ -83,10 +83,12 @@ moved_on n front ahead front-now ahead-now held moved plain none =
 pub front_follows : (before front ahead front-now ahead-now roomy read : List ℕ) (o p q : Option (List ℕ)) → Follows before o (front ++ ahead) p → front-now ++ ahead-now ≡ front ++ ahead → roomy ≡ ahead-now → Follows roomy p read q → Follows before o (front-now ++ read) q
 front_follows before front ahead front-now ahead-now roomy read o p q first same roomy-is second all e =
     let f = first all e in
-    let s = second f.0 f.1 in
-    (s.0, s.1,
+    let s = second f.0 f.1 in (
+      s.0,
+      s.1,
       append_assoc front-now read s.0 ∙ ap (λ (x : List ℕ). front-now ++ x) s.2 ∙ sym (append_assoc front-now roomy f.0)
-      ∙ ap (λ (x : List ℕ). (front-now ++ x) ++ f.0) roomy-is ∙ ap (λ (x : List ℕ). x ++ f.0) same ∙ f.2)
+          ∙ ap (λ (x : List ℕ). (front-now ++ x) ++ f.0) roomy-is ∙ ap (λ (x : List ℕ). x ++ f.0) same ∙ f.2,
+    )
 
 pub no_newline : (front read : List ℕ) (held : ℕ) → Plain front held → line_length read ≡ length read → line_length (front ++ read) ≡ length (front ++ read)
 no_newline front read held plain none = omega (arith, goes_on front read plain.none, length-append front read)

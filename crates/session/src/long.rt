@@ -55,24 +55,21 @@ fn read_spelled(
 }
 
 // The name in an upload's text up to its last word, if it is one.
-fn name_of(
-    alloc: Global,
-    shape: Shape,
-    jobs: u32,
-    head: &[u8],
-) -> Result<Option<Name>, NoMemory>
+fn name_of(alloc: Global, shape: Shape, jobs: u32, head: &[u8]) -> Result<Option<Name>, NoMemory>
     ensures { IfOk result (λ o. IfSome o (λ name. Names shape jobs head.now name.user name.path name.version)) }
 {
     let mut text = Bytes::new(alloc);
     text.extend(head)?;
     text.push(b'-')?;
     match read_line(alloc, shape, jobs, text.as_slice()) {
-        Ok(Event::Upload {
-            user,
-            path,
-            version,
-            bytes,
-        }) => {
+        Ok(
+            Event::Upload {
+                user,
+                path,
+                version,
+                bytes,
+            },
+        ) => {
             if bytes.is_empty() {
                 Ok(Some(Name {
                     user,
@@ -145,17 +142,8 @@ pub fn event_behind(
 {
     let (head, packed) = front.parts();
     match name_of(alloc, shape, jobs, head.as_slice()) {
-        Ok(Some(name)) => {
-            read_content(alloc, shape, jobs, name, head.as_slice(), packed, tail)
-        }
-        Ok(None) => read_spelled(
-            alloc,
-            shape,
-            jobs,
-            head.as_slice(),
-            packed.as_slice(),
-            tail,
-        ),
+        Ok(Some(name)) => { read_content(alloc, shape, jobs, name, head.as_slice(), packed, tail) }
+        Ok(None) => read_spelled(alloc, shape, jobs, head.as_slice(), packed.as_slice(), tail),
         Err(NoMemory) => Err(ScriptErr::NoMemory),
     }
 }

@@ -3,6 +3,7 @@ ghost use Rattle.std.specs.Prelude.{None};
 use super::*;
 use cd_base::{Bytes, Clouds, NoMemory, Rooms, Shape};
 use cd_edges::{Failed, Source};
+use grammar::encode;
 use std::alloc::Global;
 use std::test::Fail;
 
@@ -247,15 +248,15 @@ fn first_lines(rt: HostRuntime) {
 
 // Hands out bytes in pieces, and fails at one call.
 #[derive(Drop)]
-struct Pieces {
-    bytes: &'static [u8],
+struct Pieces<'a> {
+    bytes: &'a [u8],
     piece: usize,
     calls: u64,
     fails: u64,
     faults: u64,
 }
 
-impl Source for Pieces {
+impl Source for Pieces<'_> {
     ghost left = { λ _. None };
 
     ghost faults = { λ s. s.faults };
@@ -274,7 +275,7 @@ impl Source for Pieces {
     }
 }
 
-fn source_of(bytes: &'static [u8], piece: usize, fails: u64) -> Pieces {
+fn source_of(bytes: &[u8], piece: usize, fails: u64) -> Pieces<'_> {
     Pieces {
         bytes,
         piece,
@@ -307,11 +308,17 @@ fn lines_in_pieces(rt: HostRuntime) -> Result<(), Fail> {
         let mut source = source_of(b"cdstore 1 4 3\n\nget 7 61 1 0,1,2\n", *piece, 0);
         let mut reader = LineReader::make(rt.alloc())?;
         assert!(rt; reader.next(&mut source) == Ok(true));
-        assert_eq!(rt; reader.line(rt.alloc())?.as_slice(), b"cdstore 1 4 3".as_slice());
+        assert_eq!(rt;
+            reader.line(rt.alloc())?.as_slice(),
+            b"cdstore 1 4 3".as_slice()
+        );
         assert!(rt; reader.next(&mut source) == Ok(true));
         assert_eq!(rt; reader.line(rt.alloc())?.as_slice(), b"".as_slice());
         assert!(rt; reader.next(&mut source) == Ok(true));
-        assert_eq!(rt; reader.line(rt.alloc())?.as_slice(), b"get 7 61 1 0,1,2".as_slice());
+        assert_eq!(rt;
+            reader.line(rt.alloc())?.as_slice(),
+            b"get 7 61 1 0,1,2".as_slice()
+        );
         assert!(rt; reader.next(&mut source) == Ok(false));
     }
     Ok(())
@@ -344,155 +351,130 @@ fn lines_that_fail(rt: HostRuntime) -> Result<(), Fail> {
     Ok(())
 }
 
-// Hands out bytes of its own in pieces.
-#[derive(Drop)]
-struct Long {
-    bytes: Bytes,
-    at: usize,
-    piece: usize,
-}
-
-impl Source for Long {
-    ghost left = { λ _. None };
-
-    ghost faults = { λ _. 0 };
-
-    fn read(&mut self, out: &mut [u8]) -> Result<usize, Failed> {
-        let mut n = 0;
-        for place in out.iter_mut().take(self.piece) {
-            let Some(byte) = self.bytes.get(self.at) else {
-                break;
-            };
-            *place = *byte;
-            self.at = self.at.saturating_add(1);
-            n += 1;
-        }
-        Ok(n)
+// So many digits, of which the one at a place is another byte.
+fn digits_of(alloc: Global, count: usize, place: usize, byte: u8) -> Result<Bytes, NoMemory> {
+    let digits = b"0123456789abcdef";
+    let mut text = Bytes::new(alloc);
+    for i in 0..count {
+        let digit = digits[i % 17 % 16];
+        text.push(if i == place { byte } else { digit })?;
     }
+    Ok(text)
 }
 
-// A front and so many digits, of which one is exchanged for another byte; the line is ended, and another one follows.
-fn long_line(
-    alloc: Global,
-    front: &[u8],
-    digits: usize,
-    place: usize,
-    byte: u8,
-    piece: usize,
-) -> Result<Long, NoMemory> {
-    let mut bytes = Bytes::new(alloc);
-    bytes.extend(front)?;
-    for i in 0..digits {
-        let digit = b"0123456789abcdef"[(i / 7 + i) % 16];
-        bytes.push(if i == place { byte } else { digit })?;
-    }
-    bytes.extend(b"\nfinish 1\n")?;
-    Ok(Long {
-        bytes,
-        at: 0,
-        piece,
-    })
+// A front and digits as a line, with another line behind it.
+fn script_of(alloc: Global, front: &[u8], digits: &[u8]) -> Result<Bytes, NoMemory> {
+    let mut text = Bytes::new(alloc);
+    text.extend(front)?;
+    text.extend(digits)?;
+    text.extend(b"\nfinish 1\n")?;
+    Ok(text)
 }
 
-// What a long upload is read as, and whether the line behind it is read.
-fn long_upload(
-    alloc: Global,
-    digits: usize,
-    place: usize,
-    byte: u8,
-    piece: usize,
-) -> Result<(Result<Event, ScriptErr>, bool), NoMemory> {
-    let mut reader = LineReader::make(alloc)?;
-    let mut source = long_line(alloc, b"upload 7 6162 1 ", digits, place, byte, piece)?;
-    let Some(shape) = Shape::of(4, 3) else {
-        return Ok((Err(ScriptErr::NoMemory), false));
+const UPLOAD: &[u8] = b"upload 7 6162 1 ";
+
+// What a long upload is read as. The line behind it is read too, or the answer is want of memory.
+fn long_upload(alloc: Global, digits: &[u8], piece: usize) -> Result<Event, ScriptErr> {
+    let (Some(shape), Ok(script), Ok(mut reader)) = (
+        Shape::of(4, 3),
+        script_of(alloc, UPLOAD, digits),
+        LineReader::make(alloc),
+    ) else {
+        return Err(ScriptErr::NoMemory);
     };
+    let mut source = source_of(script.as_slice(), piece, 0);
     let taken = reader.next(&mut source) == Ok(true);
     let event = reader.read_line(alloc, shape, 1);
     let more = reader.next(&mut source) == Ok(true);
     let next = reader.read_line(alloc, shape, 1);
-    let well = taken && more && matches!(next, Ok(Event::Finish { job: 1 }));
-    Ok((event, well))
+    if taken && more && matches!(next, Ok(Event::Finish { job: 1 })) {
+        event
+    } else {
+        Err(ScriptErr::NoMemory)
+    }
 }
 
-// Whether the bytes are those of the digits of a long line.
-fn are_spelled(bytes: &Bytes, digits: usize) -> bool {
-    let mut i = 0;
-    for byte in bytes.as_slice() {
-        let high = (i / 7 + i) % 16;
-        let low = ((i + 1) / 7 + i + 1) % 16;
-        if *byte as usize != 16 * high + low {
-            return false;
+// Whether so many digits are read as the bytes that they spell.
+fn is_read(alloc: Global, count: usize, piece: usize) -> Result<bool, NoMemory> {
+    let digits = digits_of(alloc, count, count, b'0')?;
+    match long_upload(alloc, digits.as_slice(), piece) {
+        Ok(Event::Upload { bytes, .. }) => {
+            let mut text = Bytes::new(alloc);
+            encode(bytes.as_slice(), &mut text)?;
+            Ok(text.as_slice() == digits.as_slice())
         }
-        i += 2;
+        _ => Ok(false),
     }
-    i == digits
 }
 
 #[test]
 fn long_uploads(rt: HostRuntime) -> Result<(), Fail> {
     for piece in &[1_usize, 7, 65_536, 1_000_000] {
-        for digits in &[65_520_usize, 65_522, 131_056, 200_000] {
-            match long_upload(rt.alloc(), *digits, 1_000_000, b'0', *piece)? {
-                (Ok(Event::Upload { user, path, bytes, .. }), true) => {
-                    assert!(rt; user.0 == 7 && path.as_slice() == b"ab".as_slice());
-                    assert!(rt; are_spelled(&bytes, *digits));
-                }
-                _ => assert!(rt; false),
-            }
+        for count in &[65_520_usize, 65_522, 131_056, 200_000] {
+            assert!(rt; is_read(rt.alloc(), *count, *piece)?);
         }
     }
     Ok(())
 }
 
-// Whether a long line fails at this place, with this byte there, and the next one is read.
-fn long_fails(
+// Whether digits of which one is another byte fail at this place, with this byte there.
+fn fails_at(
     alloc: Global,
-    digits: usize,
+    count: usize,
     place: usize,
     byte: u8,
     at: u64,
     found: u8,
 ) -> Result<bool, NoMemory> {
+    let digits = digits_of(alloc, count, place, byte)?;
     let wrong = Some(ScriptErr::At {
         at,
         found: Some(found),
     });
-    let (event, well) = long_upload(alloc, digits, place, byte, 65_536)?;
-    Ok(well && event.err() == wrong)
+    Ok(long_upload(alloc, digits.as_slice(), 65_536).err() == wrong)
 }
 
 #[test]
 fn wrong_long_uploads(rt: HostRuntime) -> Result<(), Fail> {
-    for place in &[0_usize, 1, 4095, 65_519, 65_520, 65_521, 131_055, 131_056, 131_057, 199_998, 199_999] {
-        assert!(rt; long_fails(rt.alloc(), 200_000, *place, b'F', 16, if *place == 0 { b'F' } else { b'0' })?);
+    let alloc = rt.alloc();
+    assert!(rt; fails_at(alloc, 200_000, 0, b'F', 16, b'F')?);
+    for place in &[
+        1_usize, 4095, 65_519, 65_520, 65_521, 131_055, 131_056, 199_998, 199_999,
+    ] {
+        assert!(rt; fails_at(alloc, 200_000, *place, b'F', 16, b'0')?);
     }
     // a blank ends the content, and what follows it is too much; behind an odd count the content is wrong
-    assert!(rt; long_fails(rt.alloc(), 200_000, 150_000, b' ', 150_016, b' ')?);
-    assert!(rt; long_fails(rt.alloc(), 200_000, 150_001, b' ', 16, b'0')?);
-    assert!(rt; long_fails(rt.alloc(), 200_001, 1_000_000, b'0', 16, b'0')?);
+    assert!(rt; fails_at(alloc, 200_000, 150_000, b' ', 150_016, b' ')?);
+    assert!(rt; fails_at(alloc, 200_000, 150_001, b' ', 16, b'0')?);
+    assert!(rt; fails_at(alloc, 200_001, 200_001, b'0', 16, b'0')?);
     Ok(())
+}
+
+// Where a long line fails as a script's first one, if it is read back as it was written.
+fn first_fails(alloc: Global, front: &[u8]) -> Result<Option<ScriptErr>, NoMemory> {
+    let digits = digits_of(alloc, 200_000, 0, b'1')?;
+    let script = script_of(alloc, front, digits.as_slice())?;
+    let mut reader = LineReader::make(alloc)?;
+    let taken = reader.next(&mut source_of(script.as_slice(), 65_536, 0)) == Ok(true);
+    let line = reader.line(alloc)?;
+    if taken && script.as_slice().starts_with(line.as_slice()) && line.len() > 200_000 {
+        Ok(reader.read_header().err())
+    } else {
+        Ok(None)
+    }
 }
 
 #[test]
 fn long_first_lines(rt: HostRuntime) -> Result<(), Fail> {
-    let mut reader = LineReader::make(rt.alloc())?;
-    let mut source = long_line(rt.alloc(), b"upload 7 6162 1 ", 200_000, 0, b'0', 65_536)?;
-    assert!(rt; reader.next(&mut source) == Ok(true));
-    let wrong = Some(ScriptErr::At {
+    let upload = Some(ScriptErr::At {
         at: 0,
         found: Some(b'u'),
     });
-    assert!(rt; reader.read_header().err() == wrong);
-    let line = reader.line(rt.alloc())?;
-    assert!(rt; line.len() == 200_016 && line.as_slice().starts_with(b"upload 7 6162 1 0123456"));
-    let mut reader = LineReader::make(rt.alloc())?;
-    let mut source = long_line(rt.alloc(), b"cdstore 1 ", 200_000, 0, b'1', 65_536)?;
-    assert!(rt; reader.next(&mut source) == Ok(true));
-    let wrong = Some(ScriptErr::At {
+    assert!(rt; first_fails(rt.alloc(), UPLOAD)? == upload);
+    let name = Some(ScriptErr::At {
         at: 10,
         found: Some(b'1'),
     });
-    assert!(rt; reader.read_header().err() == wrong);
+    assert!(rt; first_fails(rt.alloc(), b"cdstore 1 ")? == name);
     Ok(())
 }
