@@ -17,6 +17,3 @@ pub use laws::law_of_scripts;
 pub use lines::{LineErr, LineReader};
 pub use reading::{ScriptErr, read_header, read_line};
 pub use transcript::{Line, News, Refusal, SkipWord, TargetWhy, write_line};
-
-#[cfg(test)]
-mod tests;

@@ -1,9 +1,9 @@
 ghost use Rattle.std.specs.Prelude.{None};
 
-use super::*;
 use cd_base::{Bytes, Clouds, NoMemory, Rooms, Shape};
 use cd_edges::{Failed, Source};
 use grammar::encode;
+use session::{Event, LineErr, LineReader, ScriptErr, read_header, read_line};
 use std::alloc::Global;
 use std::test::Fail;
 
