@@ -3,9 +3,7 @@ use Rattle.std.proofs.Common.{◌≡◌, ℕ, ◌+◌, ◌<◌, ◌≤◌, Bool,
 use Rattle.std.specs.Prelude.{◌≢◌, IsTrue, Result, Err, OnErr, IfErr}
 use Rattle.std.proofs.lemmas.Bool.{cases_eq}
 use Rattle.cd_base.specs.declared.ids.CloudNo.{CloudNo}
-use Rattle.cd_base.specs.declared.rooms.Rooms.{Rooms}
 use Rattle.cd_base.specs.declared.shape.Shape.{Shape}
-use Rattle.cd_edges.specs.declared.area.Area.TheVariants.{Journal}
 use Rattle.cd_edges.specs.Causes.{Rose}
 use Rattle.cd_edges.specs.Disk.{Cloud, Image, IsImage}
 use Rattle.cd_edges.specs.Shelf.{IsCall, Stays, HasFailed, KeepsCounts}
@@ -14,12 +12,9 @@ use Rattle.commit_journal.specs.declared.errors.OpenErr.{OpenErr}
 use Rattle.commit_journal.specs.declared.errors.OpenErr.TheVariants as errors
 use Rattle.commit_journal.specs.declared.header.Header.{Header}
 use Rattle.commit_journal.specs.Openings.{OnFault}
-use Rattle.commit_journal.specs.Records.{is_begun}
 use Rattle.cloud_opening.specs.Replied.{IsOkOrFault}
-use Rattle.cloud_store.specs.Space.{IsWithin}
 use Rattle.cloud_store.specs.Standing.{StandsForSome}
-use Rattle.cloud_store.specs.Store.{StandsFor}
-use Rattle.user_dedup.specs.Dedup.{Begun}
+use Rattle.share_server.proofs.NoCommands.{empty_stands}
 use Rattle.local_link.specs.Calls.{header_of}
 use Rattle.opening_damage.specs.Damage.{IsDamage}
 use Rattle.replay_core.specs.declared.end.ReplayEnd.{ReplayEnd}
@@ -27,14 +22,9 @@ use Rattle.replay_core.specs.declared.end.ReplayEnd.TheVariants as ends
 use Rattle.replay_core.specs.Endings.{IsFirstFilled}
 use Rattle.replay_core.specs.Opening.{IsBlank, Prepares, PreparesAll, AreSame, IsEmpty, EndsEmpty, EndsOpening, EndsUnopened, IsEndOf}
 
--- an image whose journal is empty stands for no commands
-pub stands_nothing : (image : Image) (header : Header) → image Journal ≡ [] → StandsFor image header []
-unfolding StandsFor
-stands_nothing image header e = (Begun, inr (ap is_begun e, refl))
-
 pub blank_stands : (header : Header) (cloud : Cloud) → IsBlank cloud → (image : Image) → IsImage cloud.now image
     → StandsForSome header (λ list. list ≡ []) image
-blank_stands header cloud blank image is = ([], refl, stands_nothing image header (blank image Journal is))
+blank_stands header cloud blank image is = ([], refl, empty_stands image header (λ area. blank image area is))
 
 -- ---- an answer of Err
 
@@ -166,9 +156,3 @@ ends_unopened shape old mid new number below same end is =
     by_end ends.SourceFault e = absurd e
     by_end ends.SinkFault e = absurd e
     by_end ends.NoMemory e = absurd e
-
--- ---- rooms
-
--- the header fits
-pub none_within : (rooms : Rooms) → 64 ≤ rooms.journal → IsWithin rooms []
-none_within rooms least = record { fps = omega arith; owners = omega arith; files = omega arith; shares = omega arith; recipes = omega arith; journal = omega arith }

@@ -7,6 +7,7 @@ use Rattle.cd_base.specs.Limits.{greatest_rooms}
 use Rattle.cd_edges.specs.Causes.{Rose}
 use Rattle.cloud_state.specs.State.{AreRooms}
 use Rattle.cloud_store.specs.Space.{IsWithin}
+use Rattle.share_server.proofs.NoCommands.{none_within}
 use Rattle.session.specs.Fault.{Fault}
 use Rattle.session.specs.Lines.{Lines, NextLine, TakesLine, next_line, after_line, line_length, room_after, script_limit, fault_at}
 use Rattle.session.specs.Reading.{header_at}
@@ -17,7 +18,6 @@ use Rattle.session.specs.Scripts.{Place, Begins, FailsFirst, IsWrongFirst}
 use Rattle.replay_core.specs.declared.end.ReplayEnd.{ReplayEnd}
 use Rattle.replay_core.specs.declared.end.ReplayEnd.TheVariants as ends
 use Rattle.replay_core.specs.Opening.{before_first, IsThere, IsHead, EndsFirst, SaysHeader, end_without}
-use Rattle.replay_core.proofs.Clouds.{none_within}
 
 pub if_told : (o : Option (List ℕ)) (P : List ℕ → Type 0) → ((bytes : List ℕ) → o ≡ Some bytes → P bytes) → IfSome o P
 if_told None P f = tt

@@ -16,6 +16,7 @@ use Rattle.cloud_store.specs.Standing.{StandsForSome, ImagesNow, ImagesSince}
 use Rattle.cloud_store.specs.Store.{StandsFor}
 use Rattle.share_server.specs.declared.server.Server.{Server}
 use Rattle.share_server.specs.Serving.{settled_with}
+use Rattle.share_server.proofs.NoCommands.{empty_stands}
 use Rattle.user_dedup.specs.declared.command.Command.{Command}
 use Rattle.user_dedup.proofs.Owned.{contains_here, contains_cases, contains_nothing}
 use Rattle.local_link.specs.declared.servers.Servers.{Servers}
@@ -24,7 +25,7 @@ use Rattle.local_link.specs.Calls.{header_of, no_commands}
 use Rattle.local_link.specs.Tells.{server_at, full_by, IsPeer, StandsAt, LeavesRest}
 use Rattle.local_link.proofs.Standing.{some_server, known_of, header_same, peer_moves}
 use Rattle.replay_core.specs.Opening.{Prepares, PreparesAll, IsEmpty, OpensTo}
-use Rattle.replay_core.proofs.Clouds.{stands_nothing, prepares_same, prepares_from}
+use Rattle.replay_core.proofs.Clouds.{prepares_same, prepares_from}
 
 -- the one list of none
 only_none : (list : List Command) → Contains ([] ∷ []) list → list ≡ []
@@ -45,7 +46,7 @@ prepares_opened servers old new cloud before now lt call images = record {
       let header = header_same servers.shape cloud here.0 (servers.are_servers.each cloud here.0 here.1) in
       subst (λ (h : Header). ImagesSince (old cloud) (new cloud) h (λ list. list ≡ [])) header
       (weaker (old cloud) (new cloud) (StandsForSome here.0.state.header (Contains ([] ∷ []))) (StandsForSome here.0.state.header (λ list. list ≡ []))
-      (go (λ image is. ([], contains_here [] [], stands_nothing image here.0.state.header (blank image Journal is))))
+      (go (λ image is. ([], contains_here [] [], empty_stands image here.0.state.header (λ area. blank image area is))))
       (λ image x. (x.0, only_none x.0 x.1, x.2)));
 }
 
@@ -83,7 +84,7 @@ may_fail_only servers cloud old shape result empty room whole told =
     some_of_any (server_at servers cloud) (MayBegin (old.now Journal).read true → IsOkOrFault result)
     (has_room (server_at servers cloud) (λ (server : Server). IsWithin server.state.rooms [])
     (λ (server : Server). MayBegin (old.now Journal).read true → IsOkOrFault result) room
-    (whole told [] (stands_nothing (reads old.now) (header_of shape cloud) (empty told Journal)))) (inr refl)
+    (whole told [] (empty_stands (reads old.now) (header_of shape cloud) (empty told)))) (inr refl)
 
 -- ---- one after another
 

@@ -3,9 +3,9 @@ use Rattle.std.specs.Prelude.{Option}
 use Rattle.user_dedup.specs.declared.command.Command.{Command}
 use Rattle.user_dedup.specs.Dedup.{FullRoom}
 use Rattle.cd_edges.specs.Disk.{reads}
-use Rattle.cd_edges.specs.declared.area.Area.TheVariants.{Journal}
+use Rattle.share_server.proofs.NoCommands.{empty_stands}
 use Rattle.local_link.specs.Calls.{header_of}
-use Rattle.replay_core.proofs.Clouds.{stands_nothing, ends_opening, failed_by}
+use Rattle.replay_core.proofs.Clouds.{ends_opening, failed_by}
 use Rattle.replay_core.proofs.Links.{prepares_opened, opened_peer, may_fail_only}
 use Rattle.replay_core.proofs.opening.open_cloud.Goals as goal
 
@@ -13,8 +13,8 @@ pub returns-in-Ok-clause-opens : goal.returns-in-Ok-clause-opens
 returns-in-Ok-clause-opens g c =
     opened_peer c.reopen.new.self.servers.shape c.args.cloud.0 (g.V.Shelf.cloud_at c.args.link.now.shelf.now c.args.cloud.0) (g.V.Shelf.cloud_at c.reopen.new.self.shelf.now c.args.cloud.0) _
     c.reopen.ensures.call.told c.in-Ok.ensures.counts.cloud c.reopen.ensures.call.armings
-    (λ told. (c.in-Ok.ensures.loaded told [] (stands_nothing (reads (g.V.Shelf.cloud_at c.args.link.now.shelf.now c.args.cloud.0).now)
-    (header_of c.args.link.now.servers.shape c.args.cloud.0) (c.requires.empty told Journal))).1)
+    (λ told. (c.in-Ok.ensures.loaded told [] (empty_stands (reads (g.V.Shelf.cloud_at c.args.link.now.shelf.now c.args.cloud.0).now)
+    (header_of c.args.link.now.servers.shape c.args.cloud.0) (c.requires.empty told))).1)
 
 pub returns-in-Ok-clause-prepares : goal.returns-in-Ok-clause-prepares
 returns-in-Ok-clause-prepares g c =
