@@ -213,7 +213,7 @@ contains_map {A} {B} g (y ∷ xs) x h =
       | inr later ↦ contains_later (g y) (map g xs) (g x) (contains_map g xs x later)
     ]
 
-found_is : (shape : Shape) (lists : ℕ → List Command) (from : List ℕ) (user : UserId) (keys : List (Tag × Version)) (f : Finding) → Contains (map (finding_under shape lists from user) keys) f
+pub found_is : (shape : Shape) (lists : ℕ → List Command) (from : List ℕ) (user : UserId) (keys : List (Tag × Version)) (f : Finding) → Contains (map (finding_under shape lists from user) keys) f
     → f.found ≡ version_under shape lists from user f.key
 found_is shape lists from user [] f h = absurd (contains_nothing f h)
 found_is shape lists from user (key ∷ keys) f h =

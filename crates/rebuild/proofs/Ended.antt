@@ -16,15 +16,16 @@ use Rattle.rebuild.specs.declared.error.RebuildErr.TheVariants as errors
 use Rattle.rebuild.specs.declared.skips.Rebuilt.{Rebuilt}
 use Rattle.rebuild.specs.Found.{findings}
 use Rattle.rebuild.specs.Kept.{Refills}
-use Rattle.rebuild.specs.Over.{Causes, Leads}
+use Rattle.rebuild.specs.Over.{Holds, Leads}
 use Rattle.rebuild.specs.Rebuilding.{Rebuilds, RunsTo, LeavesBut, nothing_yet}
 use Rattle.rebuild.specs.Several.{whole}
 use Rattle.rebuild.proofs.Bringing.{first_in, refills}
 use Rattle.rebuild.proofs.Cut.{cut_by}
 use Rattle.rebuild.proofs.Cutting.{goes_on}
-use Rattle.rebuild.proofs.Going.{causes_as}
+use Rattle.rebuild.proofs.Going.{holds_as}
 use Rattle.rebuild.proofs.Joining.{leads_as, then_err}
 use Rattle.rebuild.proofs.Pages.{ended, stopped}
+use Rattle.rebuild.proofs.Telling.{lanes_none}
 
 abbrev done : Rebuilt → Result Rebuilt RebuildErr
 done rebuilt = Ok rebuilt
@@ -58,19 +59,19 @@ module _ {L : Type 0} (t : LinkTelling L) (talk : L → ℕ → Talk → Type 0)
   -- over all pages
   abbrev pub PagesLead : L → L → Rebuilt → Result (Unit {0}) RebuildErr → Type 0
   PagesLead old new rebuilt result =
-      Leads t talk target from old new result (Causes t old target result) (λ turns a at b. RunsTo shape user target (serves t old target) from (whole rebuilt result) turns a at b)
+      Leads t talk target from old new result (Holds t old shape user target result) (λ turns a at b. RunsTo shape user target (serves t old target) from (whole rebuilt result) turns a at b)
 
   abbrev pub WholeLeads : L → L → Result Rebuilt RebuildErr → Type 0
   WholeLeads old new result =
-      Leads t talk target from old new result (Causes t old target result)
+      Leads t talk target from old new result (Holds t old shape user target result)
       (λ turns a at b. RunsTo shape user target (serves t old target) from result turns a at b × Refills shape target from user b result)
 
   pub whole_done : (old new : L) (rebuilt : Rebuilt) → AreChoice shape from → t.shape old ≡ shape → PagesLead old new rebuilt ended → WholeLeads old new (done rebuilt)
   whole_done old new rebuilt choice same leads =
-      leads_as t talk target from old new ended (done rebuilt) (Causes t old target ended) (Causes t old target (done rebuilt))
+      leads_as t talk target from old new ended (done rebuilt) (Holds t old shape user target ended) (Holds t old shape user target (done rebuilt))
       (λ turns a at b. RunsTo shape user target (serves t old target) from (done rebuilt) turns a at b)
       (λ turns a at b. RunsTo shape user target (serves t old target) from (done rebuilt) turns a at b × Refills shape target from user b (done rebuilt)) leads
-      (λ last p q x. x) (λ a b x. tt)
+      (λ last p q x. x) (λ turns a b x. record { caused = tt; said = tt; own = x.own })
       (λ turns a at b x. (
         x,
         refills shape user target (t.full old target) from turns rebuilt a b choice
@@ -79,10 +80,10 @@ module _ {L : Type 0} (t : LinkTelling L) (talk : L → ℕ → Talk → Type 0)
 
   pub whole_failed : (old new : L) (rebuilt : Rebuilt) (e : RebuildErr) → PagesLead old new rebuilt (stopped e) → WholeLeads old new (failed e)
   whole_failed old new rebuilt e leads =
-      leads_as t talk target from old new (stopped e) (failed e) (Causes t old target (stopped e)) (Causes t old target (failed e))
+      leads_as t talk target from old new (stopped e) (failed e) (Holds t old shape user target (stopped e)) (Holds t old shape user target (failed e))
       (λ turns a at b. RunsTo shape user target (serves t old target) from (failed e) turns a at b)
       (λ turns a at b. RunsTo shape user target (serves t old target) from (failed e) turns a at b × Refills shape target from user b (failed e)) leads
-      (λ last p q x. then_err (Unit {0}) Rebuilt t target last new p q e x) (λ a b x. causes_as (Unit {0}) Rebuilt t old target e a b x) (λ turns a at b x. (x, tt))
+      (λ last p q x. then_err (Unit {0}) Rebuilt t target last new p q e x) (λ turns a b x. holds_as (Unit {0}) Rebuilt t old shape user target e turns a b x) (λ turns a at b x. (x, tt))
 
   -- nothing was done, and memory ran out
   pub whole_none : (link : L) → length from ≡ shape.k → (Contains from target → ⊥) → WholeLeads link link (failed errors.NoMemory)
@@ -97,7 +98,7 @@ module _ {L : Type 0} (t : LinkTelling L) (talk : L → ℕ → Talk → Type 0)
         leaves,
         (([], refl), peers target (all target (contains_here target from)), refl),
         (refl, refl),
-        tt,
+        record { caused = tt; said = tt; own = lanes_none shape user target },
         λ told. (
           cut_by shape user target serve from before before [] (findings shape (λ cloud. (before cloud).list) from user) nothing_yet (before target) (before target) [] []
               (first_in shape from count) apart refl (refl, refl, refl) refl

@@ -25,12 +25,13 @@ use Rattle.rebuild.specs.declared.error.RebuildErr.TheVariants as errors
 use Rattle.rebuild.specs.Found.{Finding}
 use Rattle.rebuild.specs.Rebuilding.{Progressed, BringsAll, BringsOne, IsFront, LeavesBut, StopsAs}
 use Rattle.rebuild.specs.Filling.{GoesOn}
-use Rattle.rebuild.specs.Over.{Asked, Causes, HandsOn, Leads, ReadCaused, TargetAlong, ThenLost, is_lost}
+use Rattle.rebuild.specs.Over.{Asked, Causes, HandsOn, Holds, Leads, ReadCaused, TargetAlong, ThenLost, is_lost}
 use Rattle.rebuild.specs.Steps.{IsFound, ReadEnds}
 use Rattle.rebuild.specs.Entering.{EntryFound, EntryStops, EntryTold, noted}
 use Rattle.rebuild.specs.Several.{AllFound, KeysBrought, KeysCut, KeysTold, keys_of}
 use Rattle.rebuild.proofs.Cutting.{goes_on, with_first}
-use Rattle.rebuild.proofs.Joining.{Between, ByTurns, along_read, leads_as, serves_same, then_err}
+use Rattle.rebuild.proofs.Telling.{lanes_none, lanes_on, said_as, said_on}
+use Rattle.rebuild.proofs.Joining.{Along, ByTurns, along_read, leads_as, serves_same, then_err}
 use Rattle.rebuild.proofs.Staying.{found_before, found_later}
 
 -- ---- one way behind another
@@ -52,9 +53,9 @@ leaves_on from target a b c one two = record {
   counts = counts_on (a target) (b target) (c target) one.counts two.counts;
 }
 
-pub leads_then : {L A B : Type 0} (t : LinkTelling L) (talk : L → ℕ → Talk → Type 0) (target : ℕ) (from : List ℕ) (old mid new : L) (v : A) (r : Result B RebuildErr) (C D E : Between) (R S T : ByTurns)
+pub leads_then : {L A B : Type 0} (t : LinkTelling L) (talk : L → ℕ → Talk → Type 0) (target : ℕ) (from : List ℕ) (old mid new : L) (v : A) (r : Result B RebuildErr) (C D E : Along) (R S T : ByTurns)
     → Leads t talk target from old mid (ok_of v) C R → t.told mid ≡ t.told old → Leads t talk target from mid new r D S
-    → ((a b c : ℕ → Peer) → LeavesBut from target a b → LeavesBut from target b c → C a b → D b c → E a c)
+    → ((one two : List (Turn Peer)) (a b c : ℕ → Peer) → LeavesBut from target a b → LeavesBut from target b c → C one a b → D two b c → E (one ++ two) a c)
     → ((one two : List (Turn Peer)) (a b : ℕ → Peer) (at : Peer) (c : ℕ → Peer) → LeavesBut from target a b → LeavesBut from target b c → R one a (b target) b → S two b at c → T (one ++ two) a at c)
     → Leads t talk target from old new r E T
 leads_then {L} t talk target from old mid new v r C D E R S T first same second always both these all before peers =
@@ -71,14 +72,14 @@ leads_then {L} t talk target from old mid new v r C D E R S T first same second 
       leaves_on from target before x.0 y.0 x.5 y.5,
       along_on t talk target from old (before target) x.1 mid (x.0 target) y.1 y.2 y.3 way y.6,
       y.7,
-      always before x.0 y.0 x.5 y.5 x.8 y.8,
+      always x.1 y.1 before x.0 y.0 x.5 y.5 x.8 y.8,
       λ told. both x.1 y.1 before x.0 y.3 y.0 x.5 y.5 (subst (λ (q : Peer). R x.1 before q x.0) (sym x.7.1) (x.9 told))
           (y.9 (λ c has. subst (λ (f : ℕ → Bool). IsTrue (f c)) (sym same) (told c has))),
     )
 
 -- memory ran out behind it
-pub leads_out : {L A B : Type 0} (t : LinkTelling L) (talk : L → ℕ → Talk → Type 0) (target : ℕ) (from : List ℕ) (old new : L) (v : A) (r : Result B RebuildErr) (C D : Between) (R S : ByTurns)
-    → Leads t talk target from old new (ok_of v) C R → r ≡ Err errors.NoMemory → ((a b : ℕ → Peer) → D a b)
+pub leads_out : {L A B : Type 0} (t : LinkTelling L) (talk : L → ℕ → Talk → Type 0) (target : ℕ) (from : List ℕ) (old new : L) (v : A) (r : Result B RebuildErr) (C D : Along) (R S : ByTurns)
+    → Leads t talk target from old new (ok_of v) C R → r ≡ Err errors.NoMemory → ((turns : List (Turn Peer)) (a b : ℕ → Peer) → C turns a b → D turns a b)
     → ((turns : List (Turn Peer)) (a b : ℕ → Peer) → R turns a (b target) b → S turns a (b target) b) → Leads t talk target from old new r D S
 leads_out {L} {A} {B} t talk target from old new v r C D R S first is always told these all before peers =
     let x = first these all before peers in (
@@ -90,13 +91,13 @@ leads_out {L} {A} {B} t talk target from old new v r C D R S first is always tol
       x.5,
       x.6,
       subst (λ (s : Result B RebuildErr). ThenLost t target x.2 x.3 s new (x.0 target)) (sym is) x.7,
-      always before x.0,
+      always x.1 before x.0 x.8,
       λ h. subst (λ (q : Peer). S x.1 before q x.0) x.7.1 (told x.1 before x.0 (subst (λ (q : Peer). R x.1 before q x.0) (sym x.7.1) (x.9 h))),
     )
 
 -- nothing was done
-pub leads_still : {L A : Type 0} (t : LinkTelling L) (talk : L → ℕ → Talk → Type 0) (target : ℕ) (from : List ℕ) (link : L) (v : A) (C : Between) (S : ByTurns)
-    → ((a : ℕ → Peer) → C a a) → ((a : ℕ → Peer) → S [] a (a target) a) → Leads t talk target from link link (ok_of v) C S
+pub leads_still : {L A : Type 0} (t : LinkTelling L) (talk : L → ℕ → Talk → Type 0) (target : ℕ) (from : List ℕ) (link : L) (v : A) (C : Along) (S : ByTurns)
+    → ((a : ℕ → Peer) → C [] a a) → ((a : ℕ → Peer) → S [] a (a target) a) → Leads t talk target from link link (ok_of v) C S
 leads_still t talk target from link v C S always told these all before peers = (
   before,
   [],
@@ -169,13 +170,36 @@ causes_before t old mid target (Ok v) a b c same grow y = y
 causes_before t old mid target (Err (errors.FromRestore e)) a b c same grow y = read_before t old mid e a b c same grow y
 causes_before t old mid target (Err errors.TargetLost) a b c same grow y = y
 causes_before t old mid target (Err errors.TargetFault) a b c same grow y = rose_on (a target).faults (b target).faults (c target).faults (grow target) y
-causes_before t old mid target (Err (errors.TargetDamaged place byte)) a b c same grow y = y
-causes_before t old mid target (Err (errors.TargetRotten named hash)) a b c same grow y = y
+causes_before t old mid target (Err (errors.TargetDamaged place byte)) a b c same grow y = sym (ap (λ (f : ℕ → Bool). f target) same) ∙ y
+causes_before t old mid target (Err (errors.TargetRotten named hash)) a b c same grow y = sym (ap (λ (f : ℕ → Bool). f target) same) ∙ y
 causes_before t old mid target (Err (errors.TargetFull room used need limit)) a b c same grow y = y
 causes_before t old mid target (Err (errors.TargetLacking place)) a b c same grow y = y
 causes_before t old mid target (Err errors.TargetNoMemory) a b c same grow y = y
 causes_before t old mid target (Err (errors.TargetStrange kind)) a b c same grow y = y
 causes_before t old mid target (Err errors.NoMemory) a b c same grow y = y
+
+-- what holds behind turns that came before
+pub holds_on : {L A B : Type 0} (t : LinkTelling L) (old mid : L) (shape : Shape) (user : UserId) (target : ℕ) (v : A) (r : Result B RebuildErr) (one two : List (Turn Peer)) (a b c : ℕ → Peer) → t.told mid ≡ t.told old
+    → ((x : ℕ) → (a x).faults ≤ (b x).faults) → Holds t old shape user target (ok_of v) one a b → Holds t mid shape user target r two b c → Holds t old shape user target r (one ++ two) a c
+holds_on t old mid shape user target v r one two a b c same grow x y = record {
+  caused = causes_before t old mid target r a b c same grow y.caused;
+  said = said_on r one two y.said;
+  own = lanes_on shape user target one two x.own y.own;
+}
+
+-- what holds behind clouds that were read
+pub holds_before : {L A : Type 0} (t : LinkTelling L) (old mid : L) (shape : Shape) (user : UserId) (target : ℕ) (r : Result A RebuildErr) (turns : List (Turn Peer)) (a b c : ℕ → Peer) → t.told mid ≡ t.told old
+    → ((x : ℕ) → (a x).faults ≤ (b x).faults) → Holds t mid shape user target r turns b c → Holds t old shape user target r turns a c
+holds_before t old mid shape user target r turns a b c same grow y = record {
+  caused = causes_before t old mid target r a b c same grow y.caused;
+  said = y.said;
+  own = y.own;
+}
+
+-- of another result that failed so
+pub holds_as : (A B : Type 0) {L : Type 0} (t : LinkTelling L) (link : L) (shape : Shape) (user : UserId) (target : ℕ) (e : RebuildErr) (turns : List (Turn Peer)) (a b : ℕ → Peer) → Holds {L = L} {A = A} t link shape user target (Err e) turns a b
+    → Holds {L = L} {A = B} t link shape user target (Err e) turns a b
+holds_as A B t link shape user target e turns a b x = record { caused = causes_as A B t link target e a b x.caused; said = said_as A B e turns x.said; own = x.own }
 
 pub faults_grow : (from : List ℕ) (target : ℕ) (a b : ℕ → Peer) → LeavesBut from target a b → (x : ℕ) → (a x).faults ≤ (b x).faults
 faults_grow from target a b leaves x =
@@ -399,30 +423,30 @@ keys_err e = Err e
 
 module _ {L : Type 0} (t : LinkTelling L) (talk : L → ℕ → Talk → Type 0) (target : ℕ) (from : List ℕ) (shape : Shape) (user : UserId) (apart : Contains from target → ⊥) where
   abbrev pub EntryLeads : L → L → Tag × Version → Result (Option SkipWhy) RebuildErr → Type 0
-  EntryLeads old new key result = Leads t talk target from old new result (Causes t old target result) (EntryTold shape user target (serves t old target) from key result)
+  EntryLeads old new key result = Leads t talk target from old new result (Holds t old shape user target result) (EntryTold shape user target (serves t old target) from key result)
 
   abbrev pub KeysLeads : (List Command → Request → Outcome) → L → L → List (Tag × Version) → Progressed → Progressed → Result (Unit {0}) RebuildErr → Type 0
-  KeysLeads serve old new keys r next result = Leads t talk target from old new result (Causes t old target result) (KeysTold shape user target serve from keys r next result)
+  KeysLeads serve old new keys r next result = Leads t talk target from old new result (Holds t old shape user target result) (KeysTold shape user target serve from keys r next result)
 
   pub keys_done : (link : L) (r : Progressed) → KeysLeads (serves t link target) link link [] r r (Ok tt)
-  keys_done link r = leads_still t talk target from link (tt {0}) _ _ (λ a. tt {0}) (λ a. keys_none shape user target (serves t link target) from apart r a)
+  keys_done link r = leads_still t talk target from link (tt {0}) _ _ (λ a. record { caused = tt {0}; said = tt {0}; own = lanes_none shape user target }) (λ a. keys_none shape user target (serves t link target) from apart r a)
 
   pub keys_then : (old mid new : L) (key : Tag × Version) (more : List (Tag × Version)) (skip : Option SkipWhy) (r next : Progressed) (result : Result (Unit {0}) RebuildErr) → EntryLeads old mid key (ok_of skip)
       → Asked t target from old mid false → KeysLeads (serves t mid target) mid new more (noted key skip r) next result → KeysLeads (serves t old target) old new (key ∷ more) r next result
   keys_then old mid new key more skip r next result first asked second =
       let serve : List Command → Request → Outcome = serves t old target in
-      leads_then t talk target from old mid new skip result _ _ (Causes t old target result) _ _ (KeysTold shape user target serve from (key ∷ more) r next result) first asked.told
+      leads_then t talk target from old mid new skip result _ _ (Holds t old shape user target result) _ _ (KeysTold shape user target serve from (key ∷ more) r next result) first asked.told
       (subst (λ (s : List Command → Request → Outcome). KeysLeads s mid new more (noted key skip r) next result) (serves_same t target old mid asked.shape asked.full) second)
-      (λ a b c one two x y. causes_before t old mid target result a b c asked.told (faults_grow from target a b one) y)
+      (λ us vs a b c one two x y. holds_on t old mid shape user target skip result us vs a b c asked.told (faults_grow from target a b one) x y)
       (λ us vs a b at c one two x y. keys_step shape user target serve from apart key more skip r next result us vs a b at c one two x y)
 
   pub keys_failed : (old new : L) (key : Tag × Version) (more : List (Tag × Version)) (r next : Progressed) (e : RebuildErr) → r.stop ≡ None → EntryLeads old new key (Err e) → KeysLeads (serves t old target) old new (key ∷ more) r next (Err e)
   keys_failed old new key more r next e none first =
-      leads_as t talk target from old new (entry_err e) (keys_err e) _ _ _ _ first (λ last p q x. then_err (Option SkipWhy) (Unit {0}) t target last new p q e x) (λ a b x. causes_as (Option SkipWhy) (Unit {0}) t old target e a b x)
+      leads_as t talk target from old new (entry_err e) (keys_err e) _ _ _ _ first (λ last p q x. then_err (Option SkipWhy) (Unit {0}) t target last new p q e x) (λ turns a b x. holds_as (Option SkipWhy) (Unit {0}) t old shape user target e turns a b x)
       (λ turns a at b x. keys_stop shape user target (serves t old target) from apart key more r next e turns a at b none x)
 
   pub keys_full : (old new : L) (key : Tag × Version) (more : List (Tag × Version)) (skip : Option SkipWhy) (r next : Progressed) → r.stop ≡ None → EntryLeads old new key (ok_of skip)
       → KeysLeads (serves t old target) old new (key ∷ more) r next (Err errors.NoMemory)
   keys_full old new key more skip r next none first =
-      leads_out t talk target from old new skip (keys_err errors.NoMemory) _ _ _ _ first refl (λ a b. tt {0})
+      leads_out t talk target from old new skip (keys_err errors.NoMemory) _ _ _ _ first refl (λ turns a b x. record { caused = tt {0}; said = tt {0}; own = x.own })
       (λ turns a b x. cut_noted shape user target (serves t old target) from apart key more skip r turns a b none x)

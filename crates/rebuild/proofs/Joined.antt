@@ -23,7 +23,7 @@ use Rattle.rebuild.specs.declared.error.RebuildErr.TheVariants as errors
 use Rattle.rebuild.specs.Found.{Finding}
 use Rattle.rebuild.specs.Rebuilding.{Progressed, LeavesBut}
 use Rattle.rebuild.specs.Over.{Leads, Reading, TargetAlong}
-use Rattle.rebuild.proofs.Joining.{Between, ByTurns, along_read}
+use Rattle.rebuild.proofs.Joining.{Along, Between, ByTurns, along_read}
 use Rattle.rebuild.specs.Several.{AllFound, KeysBrought, KeysCut, KeysTold, keys_of}
 use Rattle.rebuild.proofs.Cutting.{brings_then}
 use Rattle.rebuild.proofs.Going.{ends_before, faults_grow}
@@ -115,9 +115,9 @@ only_cloud cloud from c here has =
       | inr none ↦ absurd (contains_nothing c none)
     ]
 
-pub page_then : {L B : Type 0} (t : LinkTelling L) (talk : L → ℕ → Talk → Type 0) (target : ℕ) (from : List ℕ) (cloud : ℕ) (old mid new : L) (r : Result B RebuildErr) (A D C R : Between) (S T : ByTurns)
+pub page_then : {L B : Type 0} (t : LinkTelling L) (talk : L → ℕ → Talk → Type 0) (target : ℕ) (from : List ℕ) (cloud : ℕ) (old mid new : L) (r : Result B RebuildErr) (A : Between) (D C : Along) (R : Between) (S T : ByTurns)
     → (Contains from target → ⊥) → Contains from cloud → Reading t from old mid → t.told mid ≡ t.told old → ReadLeads t (cloud ∷ []) old mid A R → Leads t talk target from mid new r D S
-    → ((a b c : ℕ → Peer) → OnlyRead (cloud ∷ []) a b → LeavesBut from target b c → A a b → D b c → C a c)
+    → ((turns : List (Turn Peer)) (a b c : ℕ → Peer) → OnlyRead (cloud ∷ []) a b → LeavesBut from target b c → A a b → D turns b c → C turns a c)
     → ((turns : List (Turn Peer)) (a b : ℕ → Peer) (at : Peer) (c : ℕ → Peer) → OnlyRead (cloud ∷ []) a b → LeavesBut from target b c → R a b → S turns b at c → T turns a at c)
     → Leads t talk target from old new r C T
 page_then {L} t talk target from cloud old mid new r A D C R S T apart here read same first second always both these all before peers =
@@ -136,7 +136,7 @@ page_then {L} t talk target from cloud old mid new r A D C R S T apart here read
       },
       along_read t talk target from old mid (before target) y.1 y.2 y.3 read (subst (λ (p : Peer). TargetAlong t talk target from mid p y.1 y.2 y.3) still y.6),
       y.7,
-      always before x.0 y.0 x.2 y.5 x.3 y.8,
+      always y.1 before x.0 y.0 x.2 y.5 x.3 y.8,
       λ told. both y.1 before x.0 y.3 y.0 x.2 y.5 (x.4 (λ c has. told c (contains_later target from c (only_cloud cloud from c here has))))
           (y.9 (λ c has. subst (λ (f : ℕ → Bool). IsTrue (f c)) (sym same) (told c has))),
     )

@@ -33,11 +33,13 @@ use Rattle.rebuild.specs.declared.error.RebuildErr.{RebuildErr}
 use Rattle.rebuild.specs.declared.error.RebuildErr.TheVariants as errors
 use Rattle.rebuild.specs.declared.versions.Found.{Found as FoundThere}
 use Rattle.rebuild.specs.Rebuilding.{LeavesBut, lane_ended, up_to}
-use Rattle.rebuild.specs.Filling.{BringsTold, BringCaused, EndsBy, OfTarget, LaneEnds, StopsBy, failed_as}
-use Rattle.rebuild.specs.Over.{Reading, TargetAlong, ThenLost, Leads, Causes, HandsOn, ReadCaused, is_lost}
+use Rattle.rebuild.specs.Filling.{BringsTold, BringCaused, BringHolds, EndsBy, OfTarget, LaneEnds, StopsBy, failed_as}
+use Rattle.rebuild.specs.Over.{Reading, TargetAlong, ThenLost, Leads, Causes, HandsOn, Holds, ReadCaused, is_lost}
+use Rattle.rebuild.specs.Turns.{OwnLanes}
 use Rattle.rebuild.specs.Steps.{IsFound, FindsTold, ReadEnds, found_of, skip_as}
 use Rattle.rebuild.specs.Entering.{EntryBrought, EntryFound, EntryStops, EntryTold, entered_as, stopped_as}
 use Rattle.rebuild.proofs.Stable.{SameOn, missing_same, version_same}
+use Rattle.rebuild.proofs.Telling.{lanes_none, said_stopped}
 
 -- ---- the target's own results
 
@@ -105,17 +107,21 @@ along_read t talk target from old mid p (u ∷ us) new last read x = (x.0, x.1, 
 abbrev pub Between : Type 1
 Between = (ℕ → Peer) → (ℕ → Peer) → Type 0
 
+abbrev pub Along : Type 1
+Along = List (Turn Peer) → (ℕ → Peer) → (ℕ → Peer) → Type 0
+
 abbrev pub ByTurns : Type 1
 ByTurns = List (Turn Peer) → (ℕ → Peer) → Peer → (ℕ → Peer) → Type 0
 
 -- the same way, with another result
-pub leads_as : {L A B : Type 0} (t : LinkTelling L) (talk : L → ℕ → Talk → Type 0) (target : ℕ) (from : List ℕ) (old new : L) (r : Result A RebuildErr) (s : Result B RebuildErr) (C D : Between) (R S : ByTurns)
+pub leads_as : {L A B : Type 0} (t : LinkTelling L) (talk : L → ℕ → Talk → Type 0) (target : ℕ) (from : List ℕ) (old new : L) (r : Result A RebuildErr) (s : Result B RebuildErr) (C D : Along) (R S : ByTurns)
     → Leads t talk target from old new r C R → ((last : L) (p q : Peer) → ThenLost t target last p r new q → ThenLost t target last p s new q)
-    → ((a b : ℕ → Peer) → C a b → D a b) → ((turns : List (Turn Peer)) (a : ℕ → Peer) (at : Peer) (b : ℕ → Peer) → R turns a at b → S turns a at b)
+    → ((turns : List (Turn Peer)) (a b : ℕ → Peer) → C turns a b → D turns a b)
+    → ((turns : List (Turn Peer)) (a : ℕ → Peer) (at : Peer) (b : ℕ → Peer) → R turns a at b → S turns a at b)
     → Leads t talk target from old new s D S
 leads_as t talk target from old new r s C D R S leads then always told these all before peers =
     let x = leads these all before peers in
-    (x.0, x.1, x.2, x.3, x.4, x.5, x.6, then x.2 x.3 (x.0 target) x.7, always before x.0 x.8, λ all_told. told x.1 before x.3 x.0 (x.9 all_told))
+    (x.0, x.1, x.2, x.3, x.4, x.5, x.6, then x.2 x.3 (x.0 target) x.7, always x.1 before x.0 x.8, λ all_told. told x.1 before x.3 x.0 (x.9 all_told))
 
 pub only_target : (target : ℕ) (from : List ℕ) (c : ℕ) → Contains (target ∷ []) c → Contains (target ∷ from) c
 only_target target from c has =
@@ -125,9 +131,9 @@ only_target target from c has =
     ]
 
 -- the clouds are read, and then the target alone has turns
-pub read_then : {L B : Type 0} (t : LinkTelling L) (talk : L → ℕ → Talk → Type 0) (target : ℕ) (from : List ℕ) (old mid new : L) (r : Result B RebuildErr) (A D C R : Between) (S T : ByTurns)
+pub read_then : {L B : Type 0} (t : LinkTelling L) (talk : L → ℕ → Talk → Type 0) (target : ℕ) (from : List ℕ) (old mid new : L) (r : Result B RebuildErr) (A : Between) (D C : Along) (R : Between) (S T : ByTurns)
     → (Contains from target → ⊥) → Reading t from old mid → t.told mid ≡ t.told old → ReadLeads t from old mid A R → Leads t talk target [] mid new r D S
-    → ((a b c : ℕ → Peer) → OnlyRead from a b → LeavesBut [] target b c → A a b → D b c → C a c)
+    → ((turns : List (Turn Peer)) (a b c : ℕ → Peer) → OnlyRead from a b → LeavesBut [] target b c → A a b → D turns b c → C turns a c)
     → ((turns : List (Turn Peer)) (a b : ℕ → Peer) (at : Peer) (c : ℕ → Peer) → OnlyRead from a b → LeavesBut [] target b c → R a b → S turns b at c → T turns a at c)
     → Leads t talk target from old new r C T
 read_then {L} t talk target from old mid new r A D C R S T apart read same first second always both these all before peers =
@@ -147,15 +153,15 @@ read_then {L} t talk target from old mid new r A D C R S T apart read same first
       along_read t talk target from old mid (before target) y.1 y.2 y.3 read
           (subst (λ (p : Peer). TargetAlong t talk target from mid p y.1 y.2 y.3) still (along_wider t talk target from mid (x.0 target) y.1 y.2 y.3 y.6)),
       y.7,
-      always before x.0 y.0 x.2 y.5 x.3 y.8,
+      always y.1 before x.0 y.0 x.2 y.5 x.3 y.8,
       λ told. both y.1 before x.0 y.3 y.0 x.2 y.5 (x.4 (λ c has. told c (contains_later target from c has)))
           (y.9 (λ c has. subst (λ (f : ℕ → Bool). IsTrue (f c)) (sym same) (told c (only_target target from c has)))),
     )
 
 -- the clouds are read, and stop it
-pub read_stops : {L B : Type 0} (t : LinkTelling L) (talk : L → ℕ → Talk → Type 0) (target : ℕ) (from : List ℕ) (old new : L) (r : Result B RebuildErr) (A C R : Between) (T : ByTurns)
+pub read_stops : {L B : Type 0} (t : LinkTelling L) (talk : L → ℕ → Talk → Type 0) (target : ℕ) (from : List ℕ) (old new : L) (r : Result B RebuildErr) (A : Between) (C : Along) (R : Between) (T : ByTurns)
     → (Contains from target → ⊥) → Reading t from old new → ReadLeads t from old new A R → ((p q : Peer) → q ≡ p → ThenLost t target new p r new q)
-    → ((a b : ℕ → Peer) → OnlyRead from a b → A a b → C a b) → ((a b : ℕ → Peer) → OnlyRead from a b → R a b → T [] a (a target) b)
+    → ((a b : ℕ → Peer) → OnlyRead from a b → A a b → C [] a b) → ((a b : ℕ → Peer) → OnlyRead from a b → R a b → T [] a (a target) b)
     → Leads t talk target from old new r C T
 read_stops t talk target from old new r A C R T apart read first then always told these all before peers =
     let x = first these (λ c has. all c (contains_later target from c has)) before peers in
@@ -190,17 +196,17 @@ then_err A B t target last new p q errors.TargetNoMemory x = x
 then_err A B t target last new p q (errors.TargetStrange kind) x = x
 then_err A B t target last new p q errors.NoMemory x = x
 
-pub bring_caused_as : (A B : Type 0) (e : RebuildErr) (p q : Peer) → BringCaused {A = A} (Err e) p q → BringCaused {A = B} (Err e) p q
-bring_caused_as A B (errors.FromRestore e) p q x = x
-bring_caused_as A B errors.TargetLost p q x = x
-bring_caused_as A B errors.TargetFault p q x = x
-bring_caused_as A B (errors.TargetDamaged place byte) p q x = x
-bring_caused_as A B (errors.TargetRotten named hash) p q x = x
-bring_caused_as A B (errors.TargetFull room used need limit) p q x = x
-bring_caused_as A B (errors.TargetLacking place) p q x = x
-bring_caused_as A B errors.TargetNoMemory p q x = x
-bring_caused_as A B (errors.TargetStrange kind) p q x = x
-bring_caused_as A B errors.NoMemory p q x = x
+pub bring_caused_as : (A B : Type 0) (told : Bool) (e : RebuildErr) (p q : Peer) → BringCaused {A = A} told (Err e) p q → BringCaused {A = B} told (Err e) p q
+bring_caused_as A B told (errors.FromRestore e) p q x = x
+bring_caused_as A B told errors.TargetLost p q x = x
+bring_caused_as A B told errors.TargetFault p q x = x
+bring_caused_as A B told (errors.TargetDamaged place byte) p q x = x
+bring_caused_as A B told (errors.TargetRotten named hash) p q x = x
+bring_caused_as A B told (errors.TargetFull room used need limit) p q x = x
+bring_caused_as A B told (errors.TargetLacking place) p q x = x
+bring_caused_as A B told errors.TargetNoMemory p q x = x
+bring_caused_as A B told (errors.TargetStrange kind) p q x = x
+bring_caused_as A B told errors.NoMemory p q x = x
 
 -- the version whose parts were lent
 pub version_is : (user : UserId) (number : Version) (path file path_lent file_lent : List ℕ) → path_lent ≡ path → file_lent ≡ file
@@ -280,18 +286,33 @@ own_hands from (Err errors.TargetNoMemory) own = tt
 own_hands from (Err (errors.TargetStrange kind)) own = tt
 own_hands from (Err errors.NoMemory) own = tt
 
-pub own_caused : {L B : Type 0} (t : LinkTelling L) (link : L) (target : ℕ) (r : Result B RebuildErr) (p : Peer) (a c : ℕ → Peer) → OfTarget r → p ≡ a target → BringCaused r p (c target) → Causes t link target r a c
-own_caused t link target (Ok x) p a c own same y = tt
-own_caused t link target (Err (errors.FromRestore e)) p a c own same y = absurd own
-own_caused t link target (Err errors.TargetLost) p a c own same y = tt
-own_caused t link target (Err errors.TargetFault) p a c own same y = subst (λ (q : Peer). Rose q.faults (c target).faults) same y
-own_caused t link target (Err (errors.TargetDamaged place byte)) p a c own same y = tt
-own_caused t link target (Err (errors.TargetRotten named hash)) p a c own same y = tt
-own_caused t link target (Err (errors.TargetFull room used need limit)) p a c own same y = tt
-own_caused t link target (Err (errors.TargetLacking place)) p a c own same y = tt
-own_caused t link target (Err errors.TargetNoMemory) p a c own same y = tt
-own_caused t link target (Err (errors.TargetStrange kind)) p a c own same y = y
-own_caused t link target (Err errors.NoMemory) p a c own same y = tt
+pub own_caused : {L B : Type 0} (t : LinkTelling L) (link : L) (target : ℕ) (known : Bool) (r : Result B RebuildErr) (p : Peer) (a c : ℕ → Peer) → known ≡ t.told link target → OfTarget r → p ≡ a target
+    → BringCaused known r p (c target) → Causes t link target r a c
+own_caused t link target known (Ok x) p a c is own same y = tt
+own_caused t link target known (Err (errors.FromRestore e)) p a c is own same y = absurd own
+own_caused t link target known (Err errors.TargetLost) p a c is own same y = tt
+own_caused t link target known (Err errors.TargetFault) p a c is own same y = subst (λ (q : Peer). Rose q.faults (c target).faults) same y
+own_caused t link target known (Err (errors.TargetDamaged place byte)) p a c is own same y = sym is ∙ y
+own_caused t link target known (Err (errors.TargetRotten named hash)) p a c is own same y = sym is ∙ y
+own_caused t link target known (Err (errors.TargetFull room used need limit)) p a c is own same y = tt
+own_caused t link target known (Err (errors.TargetLacking place)) p a c is own same y = tt
+own_caused t link target known (Err errors.TargetNoMemory) p a c is own same y = absurd y
+own_caused t link target known (Err (errors.TargetStrange kind)) p a c is own same y = absurd y
+own_caused t link target known (Err errors.NoMemory) p a c is own same y = tt
+
+-- the target alone had turns
+pub own_holds : {L B : Type 0} (t : LinkTelling L) (link : L) (shape : Shape) (user : UserId) (target : ℕ) (known : Bool) (r : Result B RebuildErr) (turns : List (Turn Peer)) (p : Peer) (a c : ℕ → Peer) → known ≡ t.told link target → OfTarget r
+    → p ≡ a target → BringHolds known (OwnLanes shape user target) r turns p (c target) → Holds t link shape user target r turns a c
+own_holds t link shape user target known r turns p a c is own same x = record { caused = own_caused t link target known r p a c is own same x.caused; said = x.said; own = x.own }
+
+-- a cloud that is read stopped it
+pub stopped_holds : {L : Type 0} (B : Type 0) (t : LinkTelling L) (link : L) (shape : Shape) (user : UserId) (target : ℕ) (e : RestoreErr) (a b : ℕ → Peer) → ReadCaused t link e a b
+    → Holds {L = L} {A = B} t link shape user target (Err (stopped_as e)) [] a b
+stopped_holds B t link shape user target e a b x = record {
+  caused = stopped_caused B t link target e a b x;
+  said = said_stopped B e [];
+  own = lanes_none shape user target;
+}
 
 pub up_to_in : (at : ℕ) (clouds : List ℕ) (cloud : ℕ) → Contains (up_to at clouds) cloud → Contains clouds cloud
 up_to_in at [] cloud has = has
@@ -386,10 +407,10 @@ module _ (shape : Shape) (target : ℕ) (serve : List Command → Request → Ou
 -- ---- what was found, at the target
 
 -- the target isn't asked
-pub skipped_leads : {L : Type 0} (t : LinkTelling L) (talk : L → ℕ → Talk → Type 0) (target : ℕ) (link : L) (shape : Shape) (serve : List Command → Request → Outcome) (key : Tag × Version) (why : SkipWhy)
-    → Leads {L = L} {A = Option SkipWhy} t talk target [] link link (Ok (Some why)) (λ before after. BringCaused {A = Option SkipWhy} (Ok (Some why)) (before target) (after target))
+pub skipped_leads : {L : Type 0} (t : LinkTelling L) (talk : L → ℕ → Talk → Type 0) (target : ℕ) (link : L) (known : Bool) (shape : Shape) (user : UserId) (serve : List Command → Request → Outcome) (key : Tag × Version) (why : SkipWhy)
+    → Leads {L = L} {A = Option SkipWhy} t talk target [] link link (Ok (Some why)) (λ turns before after. BringHolds {A = Option SkipWhy} known (OwnLanes shape user target) (Ok (Some why)) turns (before target) (after target))
     (λ turns before at after. EntryBrought shape target serve key (Err why) (Ok (Some why)) turns (before target) at (after target))
-skipped_leads t talk target link shape serve key why these all before peers = (
+skipped_leads t talk target link known shape user serve key why these all before peers = (
   before,
   [],
   link,
@@ -398,7 +419,7 @@ skipped_leads t talk target link shape serve key why these all before peers = (
   record { read = λ c ne. may_stay (before c); others = λ c ne out. refl; counts = (may_stay (before target)).1 },
   (([], refl), peers target (all target (contains_here target [])), refl),
   (refl, refl),
-  tt,
+  record { caused = tt; said = tt; own = lanes_none shape user target },
   λ told r. (refl, refl, refl),
 )
 

@@ -1,7 +1,8 @@
 -- A lane brought to its end at the target.
 use Rattle.std.proofs.Common.{◌≡◌, ◌⊎◌, ℕ, ◌<◌, ◌+◌, zero, suc, Bool, true, false, cond, List, [], ◌∷◌, ◌++◌, length, map, Option, Some, None, Result, Ok, Err, refl, sym, ap, ◌∙◌, subst, inl, inr, arith, eqb, eq-eqb, append-nil}
 use Rattle.std.specs.Prelude.{IsTrue, MatchOption, ◌==◌}
-use Rattle.std.specs.List.{range_with_len}
+use Rattle.std.specs.List.{count_by, range_with_len}
+use Rattle.std.proofs.lemmas.Option.{same_Some}
 use Rattle.std.proofs.lemmas.Bool.{cases_eq, ne_eqb}
 use Rattle.std.proofs.lemmas.List.{length-map}
 use Rattle.std.proofs.lemmas.List.FromFn.{length-range_with_len}
@@ -17,8 +18,8 @@ use Rattle.user_dedup.specs.Link.{LinkTelling, Talk, Does, LosesAsk, LeavesOther
 use Rattle.user_dedup.proofs.Owned.{contains_here}
 use Rattle.upload_job.specs.declared.news.LaneNews.{LaneNews}
 use Rattle.upload_job.specs.declared.news.LaneNews.TheVariants as news
-use Rattle.upload_job.specs.Upload.{FileVersion, work_of}
-use Rattle.upload_job.specs.Lane.{LaneState, Asking, Sending, Committing, Done, Refused, news_of}
+use Rattle.upload_job.specs.Upload.{FileVersion, Work, work_of}
+use Rattle.upload_job.specs.Lane.{LaneState, Asking, Sending, Committing, Done, Refused, lane_request, news_of, unflagged}
 use Rattle.upload_job.specs.Lanes.{LaneView, begun, idle, lane_begun, with_state}
 use Rattle.lane_requests.specs.Runs.{Turn, Progress, starting, request_of, progress_after, LaneRun, LaneAlong, Tell, lane_at}
 use Rattle.lane_steps.specs.declared.error.StepErr.{StepErr}
@@ -33,9 +34,11 @@ use Rattle.rebuild.specs.declared.error.RebuildErr.TheVariants as errors
 use Rattle.rebuild.specs.Found.{Finding}
 use Rattle.rebuild.specs.Rebuilding.{Progressed, lane_ended, lane_of, last_said, BringsOne, BringsAll, StopsAs}
 use Rattle.rebuild.specs.Over.{Leads, TargetAlong, ThenLost}
-use Rattle.rebuild.specs.Filling.{BringsTold, BringCaused, EndsBy, GoesOn, LaneCut, failed_as, last_of}
+use Rattle.rebuild.specs.Filling.{BringsTold, BringCaused, BringHolds, EndsBy, GoesOn, LaneCut, failed_as, last_of}
+use Rattle.rebuild.specs.Turns.{LaneGoes, SaidLast}
+use Rattle.rebuild.proofs.Telling.{goes_along}
 use Rattle.rebuild.proofs.Cutting.{first_request, goes_on, same_counts, with_fault, with_first}
-use Rattle.rebuild.proofs.Turning.{Alike, BringEnds, fault_rose, peer_turns, EndsAll, GoesFurther, HasEnded, PeerTurns, expected, follows, last_turn}
+use Rattle.rebuild.proofs.Turning.{Alike, BringEnds, fault_rose, peer_turns, EndsAll, GoesFurther, HasEnded, PeerTurns, expected, follows, last_turn, untold_by, no_memory, never_damaged, never_rotten}
 
 -- ---- one cloud of the link
 
@@ -50,7 +53,7 @@ put_other peers cloud q x ne = ap (λ (b : Bool). cond b q (peers x)) (ne_eqb x 
 
 -- where the target went by its turns
 pub record Moved {L A : Type 0} (t : LinkTelling L) (talk : L → ℕ → Talk → Type 0) (target : ℕ) (from : List ℕ) (old new : L) (result : Result A RebuildErr)
-    (Always : Peer → Peer → Type 0) (Related : List (Turn Peer) → Peer → Peer → Peer → Type 0) (p : Peer) : Type 0 where
+    (Always : List (Turn Peer) → Peer → Peer → Type 0) (Related : List (Turn Peer) → Peer → Peer → Peer → Type 0) (p : Peer) : Type 0 where
   pub end : Peer
   pub turns : List (Turn Peer)
   pub last : L
@@ -59,13 +62,13 @@ pub record Moved {L A : Type 0} (t : LinkTelling L) (talk : L → ℕ → Talk �
   pub counts : CountsOn p end
   pub along : TargetAlong t talk target from old p turns last at
   pub then : ThenLost t target last at result new end
-  pub always : Always p end
+  pub always : Always turns p end
   pub told : IsTrue (t.told old target) → Related turns p at end
 
 pub target_leads : {L A : Type 0} (t : LinkTelling L) (talk : L → ℕ → Talk → Type 0) (target : ℕ) (from : List ℕ) (old new : L) (result : Result A RebuildErr)
-    (Always : Peer → Peer → Type 0) (Related : List (Turn Peer) → Peer → Peer → Peer → Type 0) → LeavesOthers t target old new
+    (Always : List (Turn Peer) → Peer → Peer → Type 0) (Related : List (Turn Peer) → Peer → Peer → Peer → Type 0) → LeavesOthers t target old new
     → ((p : Peer) → t.stands old target p → Moved t talk target from old new result Always Related p)
-    → Leads t talk target from old new result (λ before after. Always (before target) (after target)) (λ turns before at after. Related turns (before target) at (after target))
+    → Leads t talk target from old new result (λ turns before after. Always turns (before target) (after target)) (λ turns before at after. Related turns (before target) at (after target))
 target_leads {L} t talk target from old new result Always Related others moves these all before peers =
     let m = moves (before target) (peers target (all target (contains_here target from))) in
     let after : ℕ → Peer = put before target m.end in
@@ -82,7 +85,7 @@ target_leads {L} t talk target from old new result Always Related others moves t
       },
       m.along,
       subst (λ (q : Peer). ThenLost t target m.last m.at result new q) here m.then,
-      subst (λ (q : Peer). Always (before target) q) here m.always,
+      subst (λ (q : Peer). Always m.turns (before target) q) here m.always,
       λ told. subst (λ (q : Peer). Related m.turns (before target) m.at q) here (m.told (told target (contains_here target from))),
     )
   where
@@ -240,104 +243,163 @@ run_along Goes p last old new (t ∷ turns) run =
     let r = run_along Goes (progress_after p t.reply) last run.3.0 new turns run.3.2 in
     ((run.0, run.1, run.2, (run.3.0, run.3.1, r.0)), r.1)
 
-pub news_fault : (state : LaneState) (reply : Reply) → news_of state reply ≡ Some news.Fault → reply ≡ replies.Fault
-news_fault (Asking batch rest) (replies.Hello n k own format) e = absurd cc
-news_fault (Asking batch rest) (replies.Known known) e = absurd cc
-news_fault (Asking batch rest) (replies.Stored new) e = absurd cc
-news_fault (Asking batch rest) replies.Committed e = absurd cc
-news_fault (Asking batch rest) replies.Exists e = absurd cc
-news_fault (Asking batch rest) (replies.Lacking place) e = absurd cc
-news_fault (Asking batch rest) (replies.Recipe bytes) e = absurd cc
-news_fault (Asking batch rest) replies.Missing e = absurd cc
-news_fault (Asking batch rest) (replies.Shares shares) e = absurd cc
-news_fault (Asking batch rest) (replies.NotYours place) e = absurd cc
-news_fault (Asking batch rest) (replies.Entries entries) e = absurd cc
-news_fault (Asking batch rest) (replies.Full room used need limit) e = absurd cc
-news_fault (Asking batch rest) replies.Fault e = refl
-news_fault (Asking batch rest) (replies.Damaged at byte) e = absurd cc
-news_fault (Asking batch rest) (replies.Rotten named hash) e = absurd cc
-news_fault (Asking batch rest) (replies.Malformed at) e = absurd cc
-news_fault (Asking batch rest) replies.NoMemory e = absurd cc
-news_fault (Sending batch marks rest) (replies.Hello n k own format) e = absurd cc
-news_fault (Sending batch marks rest) (replies.Known known) e = absurd cc
-news_fault (Sending batch marks rest) (replies.Stored new) e = absurd cc
-news_fault (Sending batch marks rest) replies.Committed e = absurd cc
-news_fault (Sending batch marks rest) replies.Exists e = absurd cc
-news_fault (Sending batch marks rest) (replies.Lacking place) e = absurd cc
-news_fault (Sending batch marks rest) (replies.Recipe bytes) e = absurd cc
-news_fault (Sending batch marks rest) replies.Missing e = absurd cc
-news_fault (Sending batch marks rest) (replies.Shares shares) e = absurd cc
-news_fault (Sending batch marks rest) (replies.NotYours place) e = absurd cc
-news_fault (Sending batch marks rest) (replies.Entries entries) e = absurd cc
-news_fault (Sending batch marks rest) (replies.Full room used need limit) e = absurd cc
-news_fault (Sending batch marks rest) replies.Fault e = refl
-news_fault (Sending batch marks rest) (replies.Damaged at byte) e = absurd cc
-news_fault (Sending batch marks rest) (replies.Rotten named hash) e = absurd cc
-news_fault (Sending batch marks rest) (replies.Malformed at) e = absurd cc
-news_fault (Sending batch marks rest) replies.NoMemory e = absurd cc
-news_fault Committing (replies.Hello n k own format) e = absurd cc
-news_fault Committing (replies.Known known) e = absurd cc
-news_fault Committing (replies.Stored new) e = absurd cc
-news_fault Committing replies.Committed e = absurd cc
-news_fault Committing replies.Exists e = absurd cc
-news_fault Committing (replies.Lacking place) e = absurd cc
-news_fault Committing (replies.Recipe bytes) e = absurd cc
-news_fault Committing replies.Missing e = absurd cc
-news_fault Committing (replies.Shares shares) e = absurd cc
-news_fault Committing (replies.NotYours place) e = absurd cc
-news_fault Committing (replies.Entries entries) e = absurd cc
-news_fault Committing (replies.Full room used need limit) e = absurd cc
-news_fault Committing replies.Fault e = refl
-news_fault Committing (replies.Damaged at byte) e = absurd cc
-news_fault Committing (replies.Rotten named hash) e = absurd cc
-news_fault Committing (replies.Malformed at) e = absurd cc
-news_fault Committing replies.NoMemory e = absurd cc
-news_fault Done (replies.Hello n k own format) e = absurd cc
-news_fault Done (replies.Known known) e = absurd cc
-news_fault Done (replies.Stored new) e = absurd cc
-news_fault Done replies.Committed e = absurd cc
-news_fault Done replies.Exists e = absurd cc
-news_fault Done (replies.Lacking place) e = absurd cc
-news_fault Done (replies.Recipe bytes) e = absurd cc
-news_fault Done replies.Missing e = absurd cc
-news_fault Done (replies.Shares shares) e = absurd cc
-news_fault Done (replies.NotYours place) e = absurd cc
-news_fault Done (replies.Entries entries) e = absurd cc
-news_fault Done (replies.Full room used need limit) e = absurd cc
-news_fault Done replies.Fault e = refl
-news_fault Done (replies.Damaged at byte) e = absurd cc
-news_fault Done (replies.Rotten named hash) e = absurd cc
-news_fault Done (replies.Malformed at) e = absurd cc
-news_fault Done replies.NoMemory e = absurd cc
-news_fault Refused (replies.Hello n k own format) e = absurd cc
-news_fault Refused (replies.Known known) e = absurd cc
-news_fault Refused (replies.Stored new) e = absurd cc
-news_fault Refused replies.Committed e = absurd cc
-news_fault Refused replies.Exists e = absurd cc
-news_fault Refused (replies.Lacking place) e = absurd cc
-news_fault Refused (replies.Recipe bytes) e = absurd cc
-news_fault Refused replies.Missing e = absurd cc
-news_fault Refused (replies.Shares shares) e = absurd cc
-news_fault Refused (replies.NotYours place) e = absurd cc
-news_fault Refused (replies.Entries entries) e = absurd cc
-news_fault Refused (replies.Full room used need limit) e = absurd cc
-news_fault Refused replies.Fault e = refl
-news_fault Refused (replies.Damaged at byte) e = absurd cc
-news_fault Refused (replies.Rotten named hash) e = absurd cc
-news_fault Refused (replies.Malformed at) e = absurd cc
-news_fault Refused replies.NoMemory e = absurd cc
+-- the reply that such news tell
+abbrev pub Tells : LaneNews → Reply → Type 0
+Tells news.Fault reply = reply ≡ replies.Fault
+Tells (news.Damaged at byte) reply = reply ≡ replies.Damaged at byte
+Tells (news.Rotten named hash) reply = reply ≡ replies.Rotten named hash
+Tells (news.Full room used need limit) reply = reply ≡ replies.Full room used need limit
+Tells (news.Lacking place) reply = reply ≡ replies.Lacking place
+Tells news.NoMemory reply = reply ≡ replies.NoMemory
+Tells told reply = Unit {0}
 
-caused_end : (tells : LaneNews) (r : Result Bool RebuildErr) (p q : Peer) → EndsBy (Some tells) r → (tells ≡ news.Fault → Rose p.faults q.faults) → BringCaused r p q
-caused_end news.Committed r p q is rose = subst (λ (x : Result Bool RebuildErr). BringCaused x p q) (sym is) tt
-caused_end news.Exists r p q is rose = subst (λ (x : Result Bool RebuildErr). BringCaused x p q) (sym is) tt
-caused_end (news.Full room used need limit) r p q is rose = subst (λ (x : Result Bool RebuildErr). BringCaused x p q) (sym is) tt
-caused_end (news.Lacking place) r p q is rose = subst (λ (x : Result Bool RebuildErr). BringCaused x p q) (sym is) tt
-caused_end news.Fault r p q is rose = subst (λ (x : Result Bool RebuildErr). BringCaused x p q) (sym is) (rose refl)
-caused_end (news.Damaged at byte) r p q is rose = subst (λ (x : Result Bool RebuildErr). BringCaused x p q) (sym is) tt
-caused_end (news.Rotten named hash) r p q is rose = subst (λ (x : Result Bool RebuildErr). BringCaused x p q) (sym is) tt
-caused_end news.NoMemory r p q is rose = subst (λ (x : Result Bool RebuildErr). BringCaused x p q) (sym is) tt
-caused_end (news.Known known asked) r p q is rose = subst (λ (x : Result Bool RebuildErr). BringCaused x p q) (sym is) tt
-caused_end (news.Stored new sent) r p q is rose = subst (λ (x : Result Bool RebuildErr). BringCaused x p q) (sym is) tt
+tells_as : (one told : LaneNews) (reply : Reply) → Some one ≡ Some told → Tells one reply → Tells told reply
+tells_as one told reply e x = subst (λ (n : LaneNews). Tells n reply) (same_Some one told e) x
+
+none_told : (told : LaneNews) → None ≡ Some told → ⊥
+none_told told e = cc
+
+pub news_tells : (state : LaneState) (reply : Reply) (told : LaneNews) → news_of state reply ≡ Some told → Tells told reply
+news_tells (Asking batch rest) (replies.Hello n k own format) told e = absurd (none_told told e)
+news_tells (Asking batch rest) (replies.Known known) told e = tells_as (news.Known (count_by (λ flag. flag == 1) known) (length batch)) told (replies.Known known) e tt
+news_tells (Asking batch rest) (replies.Stored new) told e = absurd (none_told told e)
+news_tells (Asking batch rest) replies.Committed told e = tells_as news.Committed told replies.Committed e tt
+news_tells (Asking batch rest) replies.Exists told e = tells_as news.Exists told replies.Exists e tt
+news_tells (Asking batch rest) (replies.Lacking place) told e = tells_as (news.Lacking place) told (replies.Lacking place) e refl
+news_tells (Asking batch rest) (replies.Recipe bytes) told e = absurd (none_told told e)
+news_tells (Asking batch rest) replies.Missing told e = absurd (none_told told e)
+news_tells (Asking batch rest) (replies.Shares shares) told e = absurd (none_told told e)
+news_tells (Asking batch rest) (replies.NotYours place) told e = absurd (none_told told e)
+news_tells (Asking batch rest) (replies.Entries entries) told e = absurd (none_told told e)
+news_tells (Asking batch rest) (replies.Full room used need limit) told e = tells_as (news.Full room used need limit) told (replies.Full room used need limit) e refl
+news_tells (Asking batch rest) replies.Fault told e = tells_as news.Fault told replies.Fault e refl
+news_tells (Asking batch rest) (replies.Damaged at byte) told e = tells_as (news.Damaged at byte) told (replies.Damaged at byte) e refl
+news_tells (Asking batch rest) (replies.Rotten named hash) told e = tells_as (news.Rotten named hash) told (replies.Rotten named hash) e refl
+news_tells (Asking batch rest) (replies.Malformed at) told e = absurd (none_told told e)
+news_tells (Asking batch rest) replies.NoMemory told e = tells_as news.NoMemory told replies.NoMemory e refl
+news_tells (Sending batch marks rest) (replies.Hello n k own format) told e = absurd (none_told told e)
+news_tells (Sending batch marks rest) (replies.Known known) told e = absurd (none_told told e)
+news_tells (Sending batch marks rest) (replies.Stored new) told e = tells_as (news.Stored new (length (unflagged batch marks))) told (replies.Stored new) e tt
+news_tells (Sending batch marks rest) replies.Committed told e = tells_as news.Committed told replies.Committed e tt
+news_tells (Sending batch marks rest) replies.Exists told e = tells_as news.Exists told replies.Exists e tt
+news_tells (Sending batch marks rest) (replies.Lacking place) told e = tells_as (news.Lacking place) told (replies.Lacking place) e refl
+news_tells (Sending batch marks rest) (replies.Recipe bytes) told e = absurd (none_told told e)
+news_tells (Sending batch marks rest) replies.Missing told e = absurd (none_told told e)
+news_tells (Sending batch marks rest) (replies.Shares shares) told e = absurd (none_told told e)
+news_tells (Sending batch marks rest) (replies.NotYours place) told e = absurd (none_told told e)
+news_tells (Sending batch marks rest) (replies.Entries entries) told e = absurd (none_told told e)
+news_tells (Sending batch marks rest) (replies.Full room used need limit) told e = tells_as (news.Full room used need limit) told (replies.Full room used need limit) e refl
+news_tells (Sending batch marks rest) replies.Fault told e = tells_as news.Fault told replies.Fault e refl
+news_tells (Sending batch marks rest) (replies.Damaged at byte) told e = tells_as (news.Damaged at byte) told (replies.Damaged at byte) e refl
+news_tells (Sending batch marks rest) (replies.Rotten named hash) told e = tells_as (news.Rotten named hash) told (replies.Rotten named hash) e refl
+news_tells (Sending batch marks rest) (replies.Malformed at) told e = absurd (none_told told e)
+news_tells (Sending batch marks rest) replies.NoMemory told e = tells_as news.NoMemory told replies.NoMemory e refl
+news_tells Committing (replies.Hello n k own format) told e = absurd (none_told told e)
+news_tells Committing (replies.Known known) told e = absurd (none_told told e)
+news_tells Committing (replies.Stored new) told e = absurd (none_told told e)
+news_tells Committing replies.Committed told e = tells_as news.Committed told replies.Committed e tt
+news_tells Committing replies.Exists told e = tells_as news.Exists told replies.Exists e tt
+news_tells Committing (replies.Lacking place) told e = tells_as (news.Lacking place) told (replies.Lacking place) e refl
+news_tells Committing (replies.Recipe bytes) told e = absurd (none_told told e)
+news_tells Committing replies.Missing told e = absurd (none_told told e)
+news_tells Committing (replies.Shares shares) told e = absurd (none_told told e)
+news_tells Committing (replies.NotYours place) told e = absurd (none_told told e)
+news_tells Committing (replies.Entries entries) told e = absurd (none_told told e)
+news_tells Committing (replies.Full room used need limit) told e = tells_as (news.Full room used need limit) told (replies.Full room used need limit) e refl
+news_tells Committing replies.Fault told e = tells_as news.Fault told replies.Fault e refl
+news_tells Committing (replies.Damaged at byte) told e = tells_as (news.Damaged at byte) told (replies.Damaged at byte) e refl
+news_tells Committing (replies.Rotten named hash) told e = tells_as (news.Rotten named hash) told (replies.Rotten named hash) e refl
+news_tells Committing (replies.Malformed at) told e = absurd (none_told told e)
+news_tells Committing replies.NoMemory told e = tells_as news.NoMemory told replies.NoMemory e refl
+news_tells Done (replies.Hello n k own format) told e = absurd (none_told told e)
+news_tells Done (replies.Known known) told e = absurd (none_told told e)
+news_tells Done (replies.Stored new) told e = absurd (none_told told e)
+news_tells Done replies.Committed told e = tells_as news.Committed told replies.Committed e tt
+news_tells Done replies.Exists told e = tells_as news.Exists told replies.Exists e tt
+news_tells Done (replies.Lacking place) told e = tells_as (news.Lacking place) told (replies.Lacking place) e refl
+news_tells Done (replies.Recipe bytes) told e = absurd (none_told told e)
+news_tells Done replies.Missing told e = absurd (none_told told e)
+news_tells Done (replies.Shares shares) told e = absurd (none_told told e)
+news_tells Done (replies.NotYours place) told e = absurd (none_told told e)
+news_tells Done (replies.Entries entries) told e = absurd (none_told told e)
+news_tells Done (replies.Full room used need limit) told e = tells_as (news.Full room used need limit) told (replies.Full room used need limit) e refl
+news_tells Done replies.Fault told e = tells_as news.Fault told replies.Fault e refl
+news_tells Done (replies.Damaged at byte) told e = tells_as (news.Damaged at byte) told (replies.Damaged at byte) e refl
+news_tells Done (replies.Rotten named hash) told e = tells_as (news.Rotten named hash) told (replies.Rotten named hash) e refl
+news_tells Done (replies.Malformed at) told e = absurd (none_told told e)
+news_tells Done replies.NoMemory told e = tells_as news.NoMemory told replies.NoMemory e refl
+news_tells Refused (replies.Hello n k own format) told e = absurd (none_told told e)
+news_tells Refused (replies.Known known) told e = absurd (none_told told e)
+news_tells Refused (replies.Stored new) told e = absurd (none_told told e)
+news_tells Refused replies.Committed told e = tells_as news.Committed told replies.Committed e tt
+news_tells Refused replies.Exists told e = tells_as news.Exists told replies.Exists e tt
+news_tells Refused (replies.Lacking place) told e = tells_as (news.Lacking place) told (replies.Lacking place) e refl
+news_tells Refused (replies.Recipe bytes) told e = absurd (none_told told e)
+news_tells Refused replies.Missing told e = absurd (none_told told e)
+news_tells Refused (replies.Shares shares) told e = absurd (none_told told e)
+news_tells Refused (replies.NotYours place) told e = absurd (none_told told e)
+news_tells Refused (replies.Entries entries) told e = absurd (none_told told e)
+news_tells Refused (replies.Full room used need limit) told e = tells_as (news.Full room used need limit) told (replies.Full room used need limit) e refl
+news_tells Refused replies.Fault told e = tells_as news.Fault told replies.Fault e refl
+news_tells Refused (replies.Damaged at byte) told e = tells_as (news.Damaged at byte) told (replies.Damaged at byte) e refl
+news_tells Refused (replies.Rotten named hash) told e = tells_as (news.Rotten named hash) told (replies.Rotten named hash) e refl
+news_tells Refused (replies.Malformed at) told e = absurd (none_told told e)
+news_tells Refused replies.NoMemory told e = tells_as news.NoMemory told replies.NoMemory e refl
+
+pub news_fault : (state : LaneState) (reply : Reply) → news_of state reply ≡ Some news.Fault → reply ≡ replies.Fault
+news_fault state reply e = news_tells state reply news.Fault e
+
+-- what such news say of the target that told them
+abbrev CausedBy : Bool → LaneNews → Peer → Peer → Type 0
+CausedBy known news.Fault p q = Rose p.faults q.faults
+CausedBy known (news.Damaged at byte) p q = known ≡ false
+CausedBy known (news.Rotten named hash) p q = known ≡ false
+CausedBy known news.NoMemory p q = ⊥
+CausedBy known told p q = Unit {0}
+
+caused_end : (known : Bool) (tells : LaneNews) (r : Result Bool RebuildErr) (p q : Peer) → EndsBy (Some tells) r → CausedBy known tells p q → BringCaused known r p q
+caused_end known news.Committed r p q is by = subst (λ (x : Result Bool RebuildErr). BringCaused known x p q) (sym is) tt
+caused_end known news.Exists r p q is by = subst (λ (x : Result Bool RebuildErr). BringCaused known x p q) (sym is) tt
+caused_end known (news.Full room used need limit) r p q is by = subst (λ (x : Result Bool RebuildErr). BringCaused known x p q) (sym is) tt
+caused_end known (news.Lacking place) r p q is by = subst (λ (x : Result Bool RebuildErr). BringCaused known x p q) (sym is) tt
+caused_end known news.Fault r p q is by = subst (λ (x : Result Bool RebuildErr). BringCaused known x p q) (sym is) by
+caused_end known (news.Damaged at byte) r p q is by = subst (λ (x : Result Bool RebuildErr). BringCaused known x p q) (sym is) by
+caused_end known (news.Rotten named hash) r p q is by = subst (λ (x : Result Bool RebuildErr). BringCaused known x p q) (sym is) by
+caused_end known news.NoMemory r p q is by = subst (λ (x : Result Bool RebuildErr). BringCaused known x p q) (sym is) (absurd by)
+caused_end known (news.Known marks asked) r p q is by = subst (λ (x : Result Bool RebuildErr). BringCaused known x p q) (sym is) tt
+caused_end known (news.Stored new sent) r p q is by = subst (λ (x : Result Bool RebuildErr). BringCaused known x p q) (sym is) tt
+
+said_end : (tells : LaneNews) (r : Result Bool RebuildErr) (reply : Reply) (turns : List (Turn Peer)) → EndsBy (Some tells) r → last_said turns ≡ Some reply → Tells tells reply → SaidLast r turns
+said_end news.Committed r reply turns is said so = subst (λ (x : Result Bool RebuildErr). SaidLast x turns) (sym is) tt
+said_end news.Exists r reply turns is said so = subst (λ (x : Result Bool RebuildErr). SaidLast x turns) (sym is) tt
+said_end (news.Full room used need limit) r reply turns is said so = subst (λ (x : Result Bool RebuildErr). SaidLast x turns) (sym is) (said ∙ ap (λ (x : Reply). Some x) so)
+said_end (news.Lacking place) r reply turns is said so = subst (λ (x : Result Bool RebuildErr). SaidLast x turns) (sym is) (said ∙ ap (λ (x : Reply). Some x) so)
+said_end news.Fault r reply turns is said so = subst (λ (x : Result Bool RebuildErr). SaidLast x turns) (sym is) (said ∙ ap (λ (x : Reply). Some x) so)
+said_end (news.Damaged at byte) r reply turns is said so = subst (λ (x : Result Bool RebuildErr). SaidLast x turns) (sym is) (said ∙ ap (λ (x : Reply). Some x) so)
+said_end (news.Rotten named hash) r reply turns is said so = subst (λ (x : Result Bool RebuildErr). SaidLast x turns) (sym is) (said ∙ ap (λ (x : Reply). Some x) so)
+said_end news.NoMemory r reply turns is said so = subst (λ (x : Result Bool RebuildErr). SaidLast x turns) (sym is) (said ∙ ap (λ (x : Reply). Some x) so)
+said_end (news.Known known asked) r reply turns is said so = subst (λ (x : Result Bool RebuildErr). SaidLast x turns) (sym is) tt
+said_end (news.Stored new sent) r reply turns is said so = subst (λ (x : Result Bool RebuildErr). SaidLast x turns) (sym is) tt
+
+-- what an executed request says of the target, by the news of its reply
+caused_news : (shape : Shape) (target : ℕ) (full : List Command → Command → Option FullRoom) (known : Bool) (w : Work) (state : LaneState) (request : Request) (reply : Reply) (tells : LaneNews) (p mid q : Peer) → CountsOn p mid
+    → lane_request w state ≡ Some request → Exec shape known (served shape target full) mid request reply q → Tells tells reply → CausedBy known tells p q
+caused_news shape target full known w state request reply news.Committed p mid q counts asks goes so = tt
+caused_news shape target full known w state request reply news.Exists p mid q counts asks goes so = tt
+caused_news shape target full known w state request reply (news.Full room used need limit) p mid q counts asks goes so = tt
+caused_news shape target full known w state request reply (news.Lacking place) p mid q counts asks goes so = tt
+caused_news shape target full known w state request reply news.Fault p mid q counts asks goes so =
+    rose_on p.faults mid.faults q.faults counts.faults (fault_rose shape target full known w state request reply mid q asks goes so)
+caused_news shape target full known w state request reply (news.Damaged at byte) p mid q counts asks goes so =
+    untold_by shape target full known w state request (replies.Damaged at byte) mid q asks (subst (λ (x : Reply). Exec shape known (served shape target full) mid request x q) so goes) (never_damaged at byte)
+    (λ e. let f : replies.Damaged at byte ≡ replies.Fault = e in cc)
+caused_news shape target full known w state request reply (news.Rotten named hash) p mid q counts asks goes so =
+    untold_by shape target full known w state request (replies.Rotten named hash) mid q asks (subst (λ (x : Reply). Exec shape known (served shape target full) mid request x q) so goes) (never_rotten named hash)
+    (λ e. let f : replies.Rotten named hash ≡ replies.Fault = e in cc)
+caused_news shape target full known w state request reply news.NoMemory p mid q counts asks goes so =
+    no_memory shape target full known w state request mid q asks (subst (λ (x : Reply). Exec shape known (served shape target full) mid request x q) so goes)
+caused_news shape target full known w state request reply (news.Known marks asked) p mid q counts asks goes so = tt
+caused_news shape target full known w state request reply (news.Stored new sent) p mid q counts asks goes so = tt
 
 then_none : {L : Type 0} (t : LinkTelling L) (target : ℕ) (link : L) (q : Peer) (o : Option LaneNews) (r : Result Bool RebuildErr) → EndsBy o r → ThenLost t target link q r link q
 then_none t target link q None r is = subst (λ (x : Result Bool RebuildErr). ThenLost t target link q x link q) (sym is) (refl, refl)
@@ -387,7 +449,7 @@ lanes_long shape v target = length-map (range_with_len 0 shape.n) (alone_in shap
 
 module _ {L : Type 0} (t : LinkTelling L) (talk : L → ℕ → Talk → Type 0) (shape : Shape) (target : ℕ) (from : List ℕ) (v : FileVersion) (old : L) (same : t.shape old ≡ shape) where
   abbrev Brought : L → Result Bool RebuildErr → Peer → Type 0
-  Brought new r p = Moved t talk target from old new r (BringCaused r) (BringsTold shape target (serves t old target) v r) p
+  Brought new r p = Moved t talk target from old new r (BringHolds (t.told old target) (LaneGoes (lane_of shape target v)) r) (BringsTold shape target (serves t old target) v r) p
 
   alike : Alike t old old
   alike = record { shape = refl; told = refl; full = refl }
@@ -411,16 +473,28 @@ module _ {L : Type 0} (t : LinkTelling L) (talk : L → ℕ → Talk → Type 0)
   does_counts : (p q : Peer) (request : Request) (reply : Reply) → Does t target old p request reply q → CountsOn p q
   does_counts p q request reply x = x.counts
 
-  caused_by : (last : Progress) (p q : Peer) (turns : List (Turn Peer)) (told : List LaneNews) (r : Result Bool RebuildErr) → LaneAlong (Does t target old) (lane_of shape target v) p turns last q → Tell (lane_of shape target v).lane turns told → EndsBy (last_of told) r
-      → BringCaused r p q
-  caused_by last p q [] told r along tell ends =
-      subst (λ (x : Result Bool RebuildErr). BringCaused x p q) (sym (subst (λ (l : List LaneNews). EndsBy (last_of l) r) tell ends)) tt
-  caused_by last p q (u ∷ turns) told r along tell ends =
+  goes_by_turns : (last : Progress) (p q : Peer) (turns : List (Turn Peer)) → LaneAlong (Does t target old) (lane_of shape target v) p turns last q → LaneGoes (lane_of shape target v) turns
+  goes_by_turns last p q turns along = goes_along (Does t target old) (lane_of shape target v) last p q turns along
+
+  holds_by : (last : Progress) (p q : Peer) (turns : List (Turn Peer)) (told : List LaneNews) (r : Result Bool RebuildErr) → LaneAlong (Does t target old) (lane_of shape target v) p turns last q → Tell (lane_of shape target v).lane turns told → EndsBy (last_of told) r
+      → BringHolds (t.told old target) (LaneGoes (lane_of shape target v)) r turns p q
+  holds_by last p q [] told r along tell ends =
+      let is : r ≡ Err errors.NoMemory = subst (λ (l : List LaneNews). EndsBy (last_of l) r) tell ends in
+      record {
+        caused = subst (λ (x : Result Bool RebuildErr). BringCaused (t.told old target) x p q) (sym is) tt;
+        said = subst (λ (x : Result Bool RebuildErr). SaidLast x []) (sym is) tt;
+        own = tt;
+      }
+  holds_by last p q (u ∷ turns) told r along tell ends =
       let lt = last_turn (Does t target old) does_counts (lane_of shape target v) last p q u turns told along tell in
-      caused_end lt.tells r p q (subst (λ (o : Option LaneNews). EndsBy o r) lt.says ends)
-      (λ fault. rose_on p.faults lt.before.faults q.faults lt.counts.faults
-      (fault_rose (t.shape old) target (t.full old target) (t.told old target) lt.work lt.state lt.request lt.reply lt.before q lt.asks lt.goes
-      (news_fault lt.state lt.reply (lt.told_is ∙ ap (λ (x : LaneNews). Some x) fault))))
+      let is = subst (λ (o : Option LaneNews). EndsBy o r) lt.says ends in
+      let so = news_tells lt.state lt.reply lt.tells lt.told_is in
+      record {
+        caused = caused_end (t.told old target) lt.tells r p q is
+            (caused_news (t.shape old) target (t.full old target) (t.told old target) lt.work lt.state lt.request lt.reply lt.tells p lt.before q lt.counts lt.asks lt.goes so);
+        said = said_end lt.tells r lt.reply (u ∷ turns) is lt.said so;
+        own = goes_by_turns last p q (u ∷ turns) along;
+      }
 
   pub ended_moves : (new : L) (lane last : Progress) (turns : List (Turn L)) (told : List LaneNews) (r : Result Bool RebuildErr) (p : Peer) → lane ≡ lane_of shape target v → LaneRun (Heard t talk target) lane old turns last new → Tell lane.lane turns told
       → EndsBy (last_of told) r → t.stands old target p → Brought new r p
@@ -436,7 +510,7 @@ module _ {L : Type 0} (t : LinkTelling L) (talk : L → ℕ → Talk → Type 0)
         counts = w.counts;
         along = w.along;
         then = then_none t target new w.end (last_of told) r ends;
-        always = caused_by last p w.end w.turns told r w.runs w.tells ends;
+        always = holds_by last p w.end w.turns told r w.runs w.tells ends;
         told = λ is_told. subst (λ (s : Shape). BringsTold shape target (served s target (t.full old target)) v r w.turns p w.end w.end) (sym same)
             (brought_told shape target (t.full old target) v last p w.end w.end w.turns told r (as_told last p w.end w.turns is_told w.runs) along.1 w.tells ends);
       }
@@ -461,7 +535,7 @@ module _ {L : Type 0} (t : LinkTelling L) (talk : L → ℕ → Talk → Type 0)
         counts = w.counts;
         along = w.along;
         then = (refl, refl);
-        always = tt;
+        always = record { caused = tt; said = tt; own = goes_by_turns last p w.end w.turns w.runs };
         told = λ is_told. cut_told last p w.end w.turns told is_told w.runs w.tells;
       }
 
@@ -479,7 +553,7 @@ module _ {L : Type 0} (t : LinkTelling L) (talk : L → ℕ → Talk → Type 0)
         counts = counts_on p w.end g.0 w.counts (loses_counts t target mid w.end g.0 request g.2);
         along = w.along;
         then = (request, lost, g.2);
-        always = tt;
+        always = record { caused = tt; said = tt; own = goes_by_turns last p w.end w.turns w.runs };
         told = λ is_told. cut_told last p w.end w.turns told is_told w.runs w.tells;
       }
 

@@ -8,6 +8,7 @@ pub mod Bringing
 pub mod Paging
 pub mod Cutting
 pub mod Turning
+pub mod Telling
 pub mod Landing
 pub mod Stable
 pub mod Joining

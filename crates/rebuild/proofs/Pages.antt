@@ -28,16 +28,17 @@ use Rattle.rebuild.specs.declared.error.RebuildErr.TheVariants as errors
 use Rattle.rebuild.specs.declared.skips.Rebuilt.{Rebuilt}
 use Rattle.rebuild.specs.Entering.{stopped_as}
 use Rattle.rebuild.specs.Found.{first_of, keys_above, keys_in}
-use Rattle.rebuild.specs.Over.{Asked, BringsOwn, Causes, HandsOn, Leads, is_lost}
+use Rattle.rebuild.specs.Over.{Asked, BringsOwn, HandsOn, Holds, Leads, is_lost}
 use Rattle.rebuild.specs.Rebuilding.{IsFront, LeavesBut, Progressed, RunsTo, nothing_yet}
 use Rattle.rebuild.specs.Several.{KeysBrought, KeysCut, KeysTold, progress_of, whole}
 use Rattle.rebuild.specs.Steps.{PageTold, ReadCauses, ReadEnds}
 use Rattle.rebuild.proofs.Bringing.{first_in}
-use Rattle.rebuild.proofs.Going.{KeysLeads, causes_before, cut_none, faults_grow, leads_then, not_begun, leads_still, keys_none}
+use Rattle.rebuild.proofs.Going.{KeysLeads, holds_before, holds_on, cut_none, faults_grow, leads_then, not_begun, leads_still, keys_none}
 use Rattle.rebuild.proofs.Joined.{along_counts, only_cloud, page_then, pages_step}
-use Rattle.rebuild.proofs.Joining.{Between, ByTurns, read_stops, serves_same, stopped_caused, then_stopped}
+use Rattle.rebuild.proofs.Joining.{Between, ByTurns, read_stops, serves_same, stopped_holds, then_stopped}
 use Rattle.rebuild.proofs.Paging.{from_start, last_page, next_page}
 use Rattle.rebuild.proofs.Passing.{asked_as, asked_none, asked_on, asked_reads, own_none, own_on, own_reads}
+use Rattle.rebuild.proofs.Telling.{lanes_none}
 use Rattle.rebuild.proofs.Whole.{ReadBy, told_runs}
 
 abbrev Key : Type 0
@@ -338,7 +339,7 @@ ends_wider cloud from refusals.NoMemory a b here y = y
 
 -- The pages so far over a link, and the key above which the next one begins.
 pub record Paged {L : Type 0} (t : LinkTelling L) (talk : L → ℕ → Talk → Type 0) (target : ℕ) (from : List ℕ) (shape : Shape) (user : UserId) (first : ℕ) (old link : L) (above : Option Key) (r : Progressed) : Type 0 where
-  pub leads : Leads t talk target from old link (Ok (tt {0})) (Causes {A = Unit {0}} t old target (Ok (tt {0}))) (PagesTold shape user target (serves t old target) from first above r)
+  pub leads : Leads t talk target from old link (Ok (tt {0})) (Holds {A = Unit {0}} t old shape user target (Ok (tt {0}))) (PagesTold shape user target (serves t old target) from first above r)
   pub asked : Asked t target from old link false
   pub lanes : BringsOwn t shape user target from old link
 
@@ -351,13 +352,13 @@ module _ {L : Type 0} (t : LinkTelling L) (talk : L → ℕ → Talk → Type 0)
 
   pub paged_none : (link : L) → So link link None nothing_yet
   paged_none link = record {
-    leads = leads_still t talk target from link (tt {0}) _ _ (λ a. tt {0}) (λ a. pages_none shape user target (serves t link target) from apart cloud.0 here a);
+    leads = leads_still t talk target from link (tt {0}) _ _ (λ a. record { caused = tt {0}; said = tt {0}; own = lanes_none shape user target }) (λ a. pages_none shape user target (serves t link target) from apart cloud.0 here a);
     asked = asked_none t target from link;
     lanes = own_none t shape user target from link;
   }
 
   abbrev pub AllLeads : L → L → Progressed → Result (Unit {0}) RebuildErr → Type 0
-  AllLeads old new next result = Leads t talk target from old new result (Causes t old target result) (AllTold shape user target (serves t old target) from cloud.0 next result)
+  AllLeads old new next result = Leads t talk target from old new result (Holds t old shape user target result) (AllTold shape user target (serves t old target) from cloud.0 next result)
 
   page_asked : (mid new : L) (loss : Bool) → ReadAsked t (cloud.0 ∷ []) mid new loss → ReadAsked t from mid new loss
   page_asked mid new loss asked = asked_at t cloud.0 from mid new loss here asked
@@ -367,13 +368,13 @@ module _ {L : Type 0} (t : LinkTelling L) (talk : L → ℕ → Talk → Type 0)
       → ReadLeads t (cloud.0 ∷ []) mid new (ReadCauses {A = List Key} t mid (Err e)) (PageTold shape user cloud above (Err e)) → AllLeads old new r (Err (stopped_as e))
   paged_unread old mid new above r e loss none paged asked leads =
       let wide = page_asked mid new loss asked in
-      leads_then t talk target from old mid new (tt {0}) (stopped (stopped_as e)) _ (Causes t mid target (stopped (stopped_as e))) (Causes t old target (stopped (stopped_as e)))
+      leads_then t talk target from old mid new (tt {0}) (stopped (stopped_as e)) _ (Holds t mid shape user target (stopped (stopped_as e))) (Holds t old shape user target (stopped (stopped_as e)))
       _ (NoPage target from e) (AllTold shape user target (serves t old target) from cloud.0 r (stopped (stopped_as e))) paged.leads paged.asked.told
-      (read_stops t talk target from mid new (stopped (stopped_as e)) (ReadCauses {A = List Key} t mid (Err e)) (Causes t mid target (stopped (stopped_as e))) (PageTold shape user cloud above (Err e)) (NoPage target from e) apart (wide.asks, wide.passed)
+      (read_stops t talk target from mid new (stopped (stopped_as e)) (ReadCauses {A = List Key} t mid (Err e)) (Holds t mid shape user target (stopped (stopped_as e))) (PageTold shape user cloud above (Err e)) (NoPage target from e) apart (wide.asks, wide.passed)
       (read_wider t cloud.0 from mid new (ReadCauses {A = List Key} t mid (Err e)) (PageTold shape user cloud above (Err e)) here leads) (λ p q same. then_stopped (Unit {0}) t target new p q e same)
-      (λ a b one x. stopped_caused (Unit {0}) t mid target e a b x)
+      (λ a b one x. stopped_holds (Unit {0}) t mid shape user target e a b x)
       (λ a b one x. record { none = refl; at_is = refl; same = one.others target apart; ends = ends_wider cloud.0 from e a b here x }))
-      (λ a b c one two x y. causes_before t old mid target (stopped (stopped_as e)) a b c paged.asked.told (faults_grow from target a b one) y)
+      (λ us vs a b c one two x y. holds_on t old mid shape user target (tt {0}) (stopped (stopped_as e)) us vs a b c paged.asked.told (faults_grow from target a b one) x y)
       (λ us vs a b at c one two x y. pages_unread shape user target (serves t old target) from apart cloud.0 here above e r us vs a b at c none one two x y)
 
   pub unread_asked : (old mid new : L) (above : Option Key) (r : Progressed) (e : RestoreErr) (loss : Bool) → loss ≡ is_lost (stopped (stopped_as e)) → So old mid above r → ReadAsked t (cloud.0 ∷ []) mid new loss
@@ -386,18 +387,18 @@ module _ {L : Type 0} (t : LinkTelling L) (talk : L → ℕ → Talk → Type 0)
       → ReadLeads t (cloud.0 ∷ []) mid read (ReadCauses {A = List Key} t mid (Ok page)) (PageTold shape user cloud above (Ok page)) → KeysLeads t talk target from shape user apart (serves t read target) read new page r next result
       → ((us vs : List (Turn Peer)) (a b : ℕ → Peer) (at : Peer) (c : ℕ → Peer) → LeavesBut from target a b → LeavesBut from target b c → PagesTold shape user target (serves t old target) from cloud.0 above r us a (b target) b
       → PageKeys shape user target (serves t old target) from cloud.0 above page r next result vs b at c → T (us ++ vs) a at c)
-      → Leads t talk target from old new result (Causes t old target result) T
+      → Leads t talk target from old new result (Holds t old shape user target result) T
   page_leads old mid read new above page r next result T none paged asked leads keys both =
       let wide = page_asked mid read false asked in
       let serve : List Command → Request → Outcome = serves t old target in
       let same = serves_same t target mid read asked.shape asked.full ∙ serves_same t target old mid paged.asked.shape paged.asked.full in
-      leads_then t talk target from old mid new (tt {0}) result _ (Causes t mid target result) (Causes t old target result) _ (PageKeys shape user target serve from cloud.0 above page r next result) T paged.leads paged.asked.told
-      (page_then t talk target from cloud.0 mid read new result _ (Causes t read target result) (Causes t mid target result) _ (KeysTold shape user target serve from page r next result)
+      leads_then t talk target from old mid new (tt {0}) result _ (Holds t mid shape user target result) (Holds t old shape user target result) _ (PageKeys shape user target serve from cloud.0 above page r next result) T paged.leads paged.asked.told
+      (page_then t talk target from cloud.0 mid read new result _ (Holds t read shape user target result) (Holds t mid shape user target result) _ (KeysTold shape user target serve from page r next result)
       (PageKeys shape user target serve from cloud.0 above page r next result) apart here (wide.asks, wide.passed) asked.told leads
       (subst (λ (s : List Command → Request → Outcome). KeysLeads t talk target from shape user apart s read new page r next result) same keys)
-      (λ a b c one two x y. causes_before t mid read target result a b c asked.told (λ c. (one.read c).1.faults) y)
+      (λ vs a b c one two x y. holds_before t mid read shape user target result vs a b c asked.told (λ c. (one.read c).1.faults) y)
       (λ vs a b at c one two x y. page_keys shape user target serve from apart cloud.0 here cloud above page r next result vs a b at c refl none one two x y))
-      (λ a b c one two x y. causes_before t old mid target result a b c paged.asked.told (faults_grow from target a b one) y)
+      (λ us vs a b c one two x y. holds_on t old mid shape user target (tt {0}) result us vs a b c paged.asked.told (faults_grow from target a b one) x y)
       both
 
   pub paged_stopped : (old mid read new : L) (above : Option Key) (page : List Key) (r next : Progressed) (e : RebuildErr) → r.stop ≡ None → So old mid above r → ReadAsked t (cloud.0 ∷ []) mid read false
@@ -436,7 +437,7 @@ module _ {L : Type 0} (t : LinkTelling L) (talk : L → ℕ → Talk → Type 0)
 
   -- the whole rebuild
   pub all_leads : (old new : L) (rebuilt : Rebuilt) (result : Result (Unit {0}) RebuildErr) → cloud.0 ≡ first_of from → HandsOn from result → AllLeads old new (progress_of rebuilt) result
-      → Leads t talk target from old new result (Causes t old target result) (λ turns a at b. RunsTo shape user target (serves t old target) from (whole rebuilt result) turns a at b)
+      → Leads t talk target from old new result (Holds t old shape user target result) (λ turns a at b. RunsTo shape user target (serves t old target) from (whole rebuilt result) turns a at b)
   all_leads old new rebuilt result is hands leads these all before peers =
       let x = leads these all before peers in (
         x.0,

@@ -6,6 +6,7 @@ use Rattle.std.specs.List.{list_all}
 use Rattle.cd_edges.specs.Causes.{Rose}
 use Rattle.cd_base.specs.declared.rooms.Room.{Room}
 use Rattle.user_dedup.specs.Cloud.{fingerprint}
+use Rattle.cd_base.specs.declared.ids.Fp.{Fp}
 use Rattle.cd_base.specs.declared.ids.Tag.{Tag}
 use Rattle.cd_base.specs.declared.ids.UserId.{UserId}
 use Rattle.cd_base.specs.declared.ids.Version.{Version}
@@ -115,6 +116,46 @@ module _ (shape : Shape) (cloud : ℕ) (full : List Command → Command → Opti
       by_told true (inl a) = absurd (no_fault w state request a.before asks (sym a.served ∙ is))
       by_told true (inr f) = f.rose
       by_told false u = u.fault is
+
+  -- one that gives a reply which no told target gives isn't told
+  pub untold_by : (told : Bool) (w : Work) (state : LaneState) (request : Request) (said : Reply) (p q : Peer) → lane_request w state ≡ Some request → Exec shape told (served shape cloud full) p request said q
+      → ((at : LaneState) → Answered at said → ⊥) → (said ≡ replies.Fault → ⊥) → told ≡ false
+  untold_by true w state request said p q asks x none not =
+      elim (expected w state request said p q asks x) [
+        | inl answered ↦ absurd (none state answered)
+        | inr fault ↦ absurd (not fault)
+      ]
+  untold_by false w state request said p q asks x none not = refl
+
+  -- none answers that its memory ran out
+  pub no_memory : (told : Bool) (w : Work) (state : LaneState) (request : Request) (p q : Peer) → lane_request w state ≡ Some request → Exec shape told (served shape cloud full) p request replies.NoMemory q → ⊥
+  no_memory true w state request p q asks x =
+      elim (expected w state request replies.NoMemory p q asks x) [
+        | inl answered ↦ never_memory state answered
+        | inr fault ↦ (let f : replies.NoMemory ≡ replies.Fault = fault in cc)
+      ]
+    where
+      never_memory : (at : LaneState) → Answered at replies.NoMemory → ⊥
+      never_memory (Asking batch rest) a = a
+      never_memory (Sending batch marks rest) a = a
+      never_memory Committing a = a
+      never_memory Done a = a
+      never_memory Refused a = a
+  no_memory false w state request p q asks x = let u : ExecUntold shape p request replies.NoMemory q = x.does in u.memory refl
+
+pub never_damaged : (place byte : ℕ) (at : LaneState) → Answered at (replies.Damaged place byte) → ⊥
+never_damaged place byte (Asking batch rest) a = a
+never_damaged place byte (Sending batch marks rest) a = a
+never_damaged place byte Committing a = a
+never_damaged place byte Done a = a
+never_damaged place byte Refused a = a
+
+pub never_rotten : (named hash : Fp) (at : LaneState) → Answered at (replies.Rotten named hash) → ⊥
+never_rotten named hash (Asking batch rest) a = a
+never_rotten named hash (Sending batch marks rest) a = a
+never_rotten named hash Committing a = a
+never_rotten named hash Done a = a
+never_rotten named hash Refused a = a
 
 -- ---- a lane behind such a reply
 

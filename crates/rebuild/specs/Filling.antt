@@ -21,6 +21,7 @@ use Rattle.rebuild.specs.declared.error.RebuildErr.{RebuildErr}
 use Rattle.rebuild.specs.declared.error.RebuildErr.TheVariants as errors
 use Rattle.rebuild.specs.Found.{Finding}
 use Rattle.rebuild.specs.Rebuilding.{Progressed, lane_ended, lane_of, last_said, BringsAll, ComesBefore, StopsAs}
+use Rattle.rebuild.specs.Turns.{SaidLast}
 
 -- the last of some news
 abbrev pub last_of : List LaneNews → Option LaneNews
@@ -89,11 +90,21 @@ BringsTold shape target serve v (Err errors.NoMemory) turns start at end = LaneC
 BringsTold shape target serve v (Err errors.TargetLost) turns start at end = LaneCut shape target serve v start turns at
 BringsTold shape target serve v (Err e) turns start at end = LaneEnds shape target serve v start turns end (StopsBy e)
 
--- told or not, its count rose where it failed, and it answers nothing strange
-abbrev pub BringCaused : {A : Type 0} → Result A RebuildErr → Peer → Peer → Type 0
-BringCaused (Err errors.TargetFault) start end = Rose start.faults end.faults
-BringCaused (Err (errors.TargetStrange kind)) start end = ⊥
-BringCaused result start end = Unit {0}
+-- Told or not, its count rose where it failed; it is damaged or rotten only where it isn't told; and it answers nothing strange, nor
+-- that its memory ran out.
+abbrev pub BringCaused : {A : Type 0} → Bool → Result A RebuildErr → Peer → Peer → Type 0
+BringCaused told (Err errors.TargetFault) start end = Rose start.faults end.faults
+BringCaused told (Err (errors.TargetDamaged at byte)) start end = told ≡ false
+BringCaused told (Err (errors.TargetRotten named found)) start end = told ≡ false
+BringCaused told (Err errors.TargetNoMemory) start end = ⊥
+BringCaused told (Err (errors.TargetStrange kind)) start end = ⊥
+BringCaused told result start end = Unit {0}
+
+-- What holds, told or not: a result has its cause, and says what the target said last, if that made it; and its turns are so.
+pub record BringHolds {A : Type 0} (told : Bool) (Own : List (Turn Peer) → Type 0) (result : Result A RebuildErr) (turns : List (Turn Peer)) (start end : Peer) : Type 0 where
+  pub caused : BringCaused told result start end
+  pub said : SaidLast result turns
+  pub own : Own turns
 
 -- it is none that a cloud which is read made
 abbrev pub OfTarget : {A : Type 0} → Result A RebuildErr → Type 0

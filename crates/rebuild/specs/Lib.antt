@@ -1,6 +1,7 @@
 pub mod Standing
 pub mod Found
 pub mod Rebuilding
+pub mod Turns
 pub mod Over
 pub mod Kept
 pub mod Steps

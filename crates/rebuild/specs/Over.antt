@@ -19,6 +19,7 @@ use Rattle.restore_job.specs.declared.error.RestoreErr.TheVariants as refusals
 use Rattle.rebuild.specs.declared.error.RebuildErr.{RebuildErr}
 use Rattle.rebuild.specs.declared.error.RebuildErr.TheVariants as errors
 use Rattle.rebuild.specs.Rebuilding.{LeavesBut}
+use Rattle.rebuild.specs.Turns.{OwnLanes, SaidLast}
 
 -- ---- the clouds
 
@@ -41,17 +42,17 @@ ThenLost t target old p (Err errors.TargetLost) new q = (request : Request) × L
 ThenLost t target old p result new q = (new ≡ old) × (q ≡ p)
 
 -- From all peers that some clouds stood for, the target and the clouds that are read among them, they went on to others
--- that they stand for now. The target had turns, between which the clouds were read, and was then at some state. The peers before and
--- after are always so related, and further so, with the turns and that state, where the target and the clouds that are read are told.
+-- that they stand for now. The target had turns, between which the clouds were read, and was then at some state. The turns and the peers
+-- before and after are always so related, and further so, with that state, where the target and the clouds that are read are told.
 abbrev pub Leads : {L A : Type 0} → LinkTelling L → Talks L → ℕ → List ℕ → L → L → Result A RebuildErr
-    → ((ℕ → Peer) → (ℕ → Peer) → Type 0) → (List (Turn Peer) → (ℕ → Peer) → Peer → (ℕ → Peer) → Type 0) → Type 0
+    → (List (Turn Peer) → (ℕ → Peer) → (ℕ → Peer) → Type 0) → (List (Turn Peer) → (ℕ → Peer) → Peer → (ℕ → Peer) → Type 0) → Type 0
 Leads {L} t talk target from old new result Always Related =
     (these : ℕ → Bool) → ((cloud : ℕ) → Contains (target ∷ from) cloud → IsTrue (these cloud))
     → (before : ℕ → Peer) → PeersOf t old these before
     → (after : ℕ → Peer) × (turns : List (Turn Peer)) × (last : L) × (at : Peer)
     × PeersOf t new these after × LeavesBut from target before after
     × TargetAlong t talk target from old (before target) turns last at × ThenLost t target last at result new (after target)
-    × Always before after
+    × Always turns before after
     × (TellsAll t old (target ∷ from) → Related turns before at after)
 
 -- ---- the asks
@@ -123,10 +124,21 @@ ReadCaused t link (refusals.Strange c kind) before after = t.told link c.0 ≡ f
 ReadCaused t link (refusals.BadShare c secret named found) before after = t.told link c.0 ≡ false
 ReadCaused t link e before after = Unit {0}
 
--- What a result says, told or not: of a cloud that is read as above; the target's count rose where it failed; and a target
--- that stands for a peer never answers what no server gives.
+-- What a result says, told or not: of a cloud that is read as above; the target's count rose where it failed; only one that isn't
+-- told is damaged or rotten; and a target that stands for a peer never answers what no server gives, nor that its memory ran out.
 abbrev pub Causes : {L A : Type 0} → LinkTelling L → L → ℕ → Result A RebuildErr → (ℕ → Peer) → (ℕ → Peer) → Type 0
 Causes t link target (Err (errors.FromRestore e)) before after = ReadCaused t link e before after
 Causes t link target (Err errors.TargetFault) before after = Rose (before target).faults (after target).faults
+Causes t link target (Err (errors.TargetDamaged at byte)) before after = t.told link target ≡ false
+Causes t link target (Err (errors.TargetRotten named found)) before after = t.told link target ≡ false
+Causes t link target (Err errors.TargetNoMemory) before after = ⊥
 Causes t link target (Err (errors.TargetStrange kind)) before after = ⊥
 Causes t link target result before after = Unit {0}
+
+-- What holds, told or not: a result has its cause, and says what the target said last, if that made it; and the target's turns are
+-- those of the lanes of some versions of this user, one after another.
+pub record Holds {L A : Type 0} (t : LinkTelling L) (link : L) (shape : Shape) (user : UserId) (target : ℕ) (result : Result A RebuildErr)
+    (turns : List (Turn Peer)) (before after : ℕ → Peer) : Type 0 where
+  pub caused : Causes t link target result before after
+  pub said : SaidLast result turns
+  pub own : OwnLanes shape user target turns

@@ -6,9 +6,10 @@ ghost use Rattle.cd_base.specs.Numbers.{numbers_of};
 ghost use Rattle.reed_solomon.specs.Dispersal.{AreChoice};
 ghost use Rattle.user_dedup.specs.Link.{serves};
 ghost use Rattle.rebuild.specs.Entering.{EntryBrought, EntryTold, entered_as, stopped_as};
-ghost use Rattle.rebuild.specs.Filling.{BringCaused, OfTarget};
-ghost use Rattle.rebuild.specs.Over.{Asked, BringsOwn, Causes, HandsOn, Leads, is_lost};
+ghost use Rattle.rebuild.specs.Filling.{BringHolds, OfTarget};
+ghost use Rattle.rebuild.specs.Over.{Asked, BringsOwn, HandsOn, Holds, Leads, is_lost};
 ghost use Rattle.rebuild.specs.Steps.{VersionFits, found_of};
+ghost use Rattle.rebuild.specs.Turns.{OwnLanes};
 
 use crate::{Found, RebuildErr, SkipWhy, bring, find_version};
 use cd_base::{Bytes, CloudNo, Shape, Tag, UserId, Version};
@@ -68,7 +69,8 @@ fn bring_found<L: Link>(
     requires within { target.0 < shape.n }
     requires fit { VersionFits found.now }
     ensures brings { (tag : Tag) → Leads L.tells L.talk target.0 [] link.old link.new result
-        (λ before after. BringCaused result (before target.0) (after target.0))
+        (λ turns before after. BringHolds (L.tells.told link.old target.0) (OwnLanes shape user target.0)
+        result turns (before target.0) (after target.0))
         (λ turns before at after. EntryBrought shape target.0 (serves L.tells link.old target.0) (tag, version)
         (found_of user (tag, version) found.now) result turns (before target.0) at (after target.0)) }
     ensures own { OfTarget result }
@@ -124,7 +126,7 @@ pub fn rebuild_entry<L: Link>(
     requires within { target.0 < shape.n }
     requires apart { ¬ Contains (numbers_of clouds.now) target.0 }
     ensures rebuilt { Leads L.tells L.talk target.0 (numbers_of clouds.now) link.old link.new result
-        (Causes L.tells link.old target.0 result)
+        (Holds L.tells link.old shape user target.0 result)
         (EntryTold shape user target.0 (serves L.tells link.old target.0) (numbers_of clouds.now) (tag, version) result) }
     ensures hands_on { HandsOn (numbers_of clouds.now) result }
     ensures asked { Asked L.tells target.0 (numbers_of clouds.now) link.old link.new (is_lost result) }

@@ -6,7 +6,7 @@ ghost use Rattle.cd_base.specs.Numbers.{numbers_of};
 ghost use Rattle.reed_solomon.specs.Dispersal.{AreChoice};
 ghost use Rattle.user_dedup.specs.Link.{serves};
 ghost use Rattle.rebuild.specs.Entering.{noted};
-ghost use Rattle.rebuild.specs.Over.{Asked, BringsOwn, Causes, HandsOn, Leads, is_lost};
+ghost use Rattle.rebuild.specs.Over.{Asked, BringsOwn, HandsOn, Holds, Leads, is_lost};
 ghost use Rattle.rebuild.specs.Several.{KeysTold, progress_of};
 
 use crate::{RebuildErr, Rebuilt, Skip, SkipWhy, rebuild_entry};
@@ -81,7 +81,7 @@ pub fn rebuild_keys<L: Link>(
     requires within { target.0 < shape.n }
     requires apart { ¬ Contains (numbers_of clouds.now) target.0 }
     ensures rebuilt { Leads L.tells L.talk target.0 (numbers_of clouds.now) link.old link.new result
-        (Causes L.tells link.old target.0 result)
+        (Holds L.tells link.old shape user target.0 result)
         (KeysTold shape user target.0 (serves L.tells link.old target.0) (numbers_of clouds.now) keys.now
         (progress_of rebuilt.old) (progress_of rebuilt.new) result) }
     ensures hands_on { HandsOn (numbers_of clouds.now) result }

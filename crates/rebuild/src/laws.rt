@@ -17,6 +17,10 @@ ghost use Rattle.user_dedup.specs.Dedup.{FullRoom};
 ghost use Rattle.user_dedup.specs.Exec.{Peer, served};
 ghost use Rattle.lane_requests.specs.Runs.{Turn};
 ghost use Rattle.rebuild.specs.Found.{keys_above, version_under};
+ghost use Rattle.messages.specs.Requests.{request_bytes};
+ghost use Rattle.user_dedup.specs.Requests.{asker};
+ghost use Rattle.rebuild.specs.Over.{IsOfLane};
+ghost use Rattle.rebuild.specs.Turns.{OwnLanes};
 ghost use Rattle.rebuild.specs.Rebuilding.{Rebuilds};
 ghost use Rattle.rebuild.specs.Kept.{RefillsKept, SkipsCaused};
 ghost use Rattle.rebuild.specs.declared.skips.Rebuilt.{Rebuilt};
@@ -35,6 +39,13 @@ pub fn law_of_refills()
     ensures { (shape : Shape) (user : UserId) (target : ℕ) (full : List Command → Command → Option FullRoom) (from : List ℕ) (turns : List (Turn Peer)) (rebuilt : Rebuilt) (before after : ℕ → Peer)
         → AreChoice shape from → Rebuilds shape user target (served shape target full) from turns (Ok rebuilt) before after
         → RefillsKept shape target from user after rebuilt × SkipsCaused shape target from user after rebuilt }
+{}
+
+/// What a target is asked in the lanes of a user's versions it is asked for that user, by requests that such lanes have.
+pub fn law_of_own_lanes()
+    ensures { (shape : Shape) (user : UserId) (target : ℕ) (turns : List (Turn Peer)) (turn : Turn Peer)
+        → OwnLanes shape user target turns → Contains turns turn
+        → (asker turn.request ≡ user) × IsOfLane shape user target (request_bytes turn.request) }
 {}
 
 /// A user's keys are their pages, one after another: a page of fewer than 256 keys has all that are left, and behind any other page

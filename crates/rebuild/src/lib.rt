@@ -16,7 +16,7 @@ mod versions;
 pub use entries::rebuild_entry;
 pub use error::{RebuildErr, SkipWhy};
 pub use keys::rebuild_keys;
-pub use laws::{law_of_found_versions, law_of_pages, law_of_refills};
+pub use laws::{law_of_found_versions, law_of_own_lanes, law_of_pages, law_of_refills};
 pub use listing::fetch_page;
 pub use rebuilding::rebuild;
 pub use skips::{Rebuilt, Skip, Skips};

@@ -10,7 +10,7 @@ ghost use Rattle.user_dedup.specs.Exec.{Peer};
 ghost use Rattle.user_dedup.specs.Link.{serves};
 ghost use Rattle.rebuild.specs.Found.{first_of as first_in};
 ghost use Rattle.rebuild.specs.Rebuilding.{RunsTo, nothing_yet};
-ghost use Rattle.rebuild.specs.Over.{Asked, BringsOwn, Causes, HandsOn, Leads, is_lost};
+ghost use Rattle.rebuild.specs.Over.{Asked, BringsOwn, HandsOn, Holds, Leads, is_lost};
 ghost use Rattle.rebuild.specs.Kept.{Refills};
 ghost use Rattle.rebuild.specs.Several.{progress_of, whole};
 
@@ -79,7 +79,7 @@ fn rebuild_pages<L: Link>(
     requires apart { ¬ Contains (numbers_of clouds.now) target.0 }
     requires fresh { progress_of rebuilt.old ≡ nothing_yet }
     ensures rebuilt { Leads L.tells L.talk target.0 (numbers_of clouds.now) link.old link.new result
-        (Causes L.tells link.old target.0 result)
+        (Holds L.tells link.old shape user target.0 result)
         (λ turns before at after. RunsTo shape user target.0 (serves L.tells link.old target.0) (numbers_of clouds.now)
         (whole rebuilt.new result) turns before at after) }
     ensures asked { Asked L.tells target.0 (numbers_of clouds.now) link.old link.new (is_lost result) }
@@ -150,7 +150,7 @@ pub fn rebuild<L: Link>(
     // not, only the clouds that are read and the target are asked, the former for what adds nothing, and between the
     // target's turns; and an error has its cause. After want of memory it is the front of one that would go on.
     ensures rebuilt { Leads L.tells L.talk target.0 from.now link.old link.new result
-        (Causes L.tells link.old target.0 result)
+        (Holds L.tells link.old shape user target.0 result)
         (λ turns before at after.
         RunsTo shape user target.0 (serves L.tells link.old target.0) from.now result turns before at after
         × Refills shape target.0 from.now user after result) }

@@ -5,8 +5,10 @@ ghost use Rattle.std.specs.List.{Contains};
 ghost use Rattle.cd_base.specs.Limits.{IsPath};
 ghost use Rattle.recipe.specs.Spelling.{file_limit};
 ghost use Rattle.user_dedup.specs.Link.{serves};
-ghost use Rattle.rebuild.specs.Filling.{BringCaused, BringsTold, EndsBy, OfTarget, failed_as, last_of};
+ghost use Rattle.rebuild.specs.Filling.{BringHolds, BringsTold, EndsBy, OfTarget, failed_as, last_of};
 ghost use Rattle.rebuild.specs.Over.{Asked, BringsOwn, Leads, is_lost};
+ghost use Rattle.rebuild.specs.Rebuilding.{lane_of};
+ghost use Rattle.rebuild.specs.Turns.{LaneGoes};
 
 use crate::RebuildErr;
 use cd_base::{Bytes, CloudNo, NoMemory, Shape, UserId, Version};
@@ -95,7 +97,9 @@ pub fn bring<L: Link>(
     requires path { IsPath path.now }
     requires few { length file.now ≤ file_limit }
     ensures brings { (from : List ℕ) → ¬ Contains from target.0 → Leads L.tells L.talk target.0 from link.old link.new result
-        (λ before after. BringCaused result (before target.0) (after target.0))
+        (λ turns before after. BringHolds (L.tells.told link.old target.0)
+        (LaneGoes (lane_of shape target.0 (record { user = user; path = path.now; number = version; file = file.now })))
+        result turns (before target.0) (after target.0))
         (λ turns before at after. BringsTold shape target.0 (serves L.tells link.old target.0)
         (record { user = user; path = path.now; number = version; file = file.now }) result turns (before target.0) at (after target.0)) }
     ensures own { OfTarget result }

@@ -1,4 +1,4 @@
-use Rattle.std.proofs.Common.{[], List, Option, Result, Err, sym, ap, ◌∙◌, subst}
+use Rattle.std.proofs.Common.{ℕ, Bool, [], List, Option, Result, Err, sym, ap, ◌∙◌, subst}
 use Rattle.cd_base.specs.Numbers.{numbers_of}
 use Rattle.cd_base.specs.declared.ids.Tag.{Tag}
 use Rattle.cd_base.specs.declared.ids.Version.{Version}
@@ -10,10 +10,11 @@ use Rattle.user_dedup.specs.declared.command.Command.{Command}
 use Rattle.rebuild.specs.declared.error.RebuildErr.{RebuildErr}
 use Rattle.rebuild.specs.declared.error.SkipWhy.{SkipWhy}
 use Rattle.rebuild.specs.Entering.{EntryBrought, EntryTold, stopped_as}
-use Rattle.rebuild.specs.Filling.{BringCaused}
-use Rattle.rebuild.specs.Over.{Causes, Leads, is_lost}
+use Rattle.rebuild.specs.Filling.{BringHolds}
+use Rattle.rebuild.specs.Turns.{OwnLanes}
+use Rattle.rebuild.specs.Over.{Holds, Leads, is_lost}
 use Rattle.rebuild.specs.Steps.{found_of}
-use Rattle.rebuild.proofs.Joining.{read_then, read_stops, then_stopped, stopped_caused, stopped_told, own_caused, found_brought, serves_same}
+use Rattle.rebuild.proofs.Joining.{read_then, read_stops, then_stopped, stopped_holds, stopped_told, own_holds, found_brought, serves_same}
 use Rattle.rebuild.proofs.Joining.{stopped_lost}
 use Rattle.rebuild.proofs.Passing.{asked_as, asked_on, asked_reads, asked_wider, own_on, own_reads, own_wider}
 use Rattle.rebuild.proofs.entries.rebuild_entry.Goals as goal
@@ -38,11 +39,11 @@ returns-in-Ok-clause-rebuilt g c =
     let asked = c.in-Ok.ensures.asked in
     let own = c.bring_found.ensures.own in
     let apart = c.requires.apart in
-    let second = subst (λ (serve : List Command → Request → Outcome). Leads t talk target [] mid new r (λ before after. BringCaused r (before target) (after target))
+    let second = subst (λ (serve : List Command → Request → Outcome). Leads t talk target [] mid new r (λ turns before after. BringHolds (t.told mid target) (OwnLanes c.args.shape c.args.user target) r turns (before target) (after target))
     (λ turns before at after. EntryBrought c.args.shape target serve key (found_of c.args.user key c.in-Ok.found) r turns (before target) at (after target))) (serves_same t target old mid asked.shape asked.full)
     (c.bring_found.ensures.brings c.args.tag) in
     read_then t talk target from old mid new r _ _ _ _ _ _ apart (asked.asks, asked.passed) asked.told c.in-Ok.ensures.told second
-    (λ a b d one leaves x y. own_caused t old target r (b target) a d own (one.others target apart) y)
+    (λ turns a b d one leaves x y. own_holds t old c.args.shape c.args.user target (t.told mid target) r turns (b target) a d (ap (λ (f : ℕ → Bool). f target) asked.told) own (one.others target apart) y)
     (λ turns a b at d one leaves x y. found_brought c.args.shape c.args.user target (serves t old target) from key c.in-Ok.found r turns a b at d apart own one leaves x y)
 
 pub returns-in-Err-clause-rebuilt : goal.returns-in-Err-clause-rebuilt
@@ -58,9 +59,9 @@ returns-in-Err-clause-rebuilt g c =
     let e = c.in-Err.e in
     let asked = c.in-Err.ensures.asked in
     let apart = c.requires.apart in
-    subst (λ (x : RebuildErr). Leads t talk target from old new (bad x) (Causes t old target (bad x)) (EntryTold c.args.shape c.args.user target serve from key (bad x))) (sym c.stopped.ensures)
+    subst (λ (x : RebuildErr). Leads t talk target from old new (bad x) (Holds t old c.args.shape c.args.user target (bad x)) (EntryTold c.args.shape c.args.user target serve from key (bad x))) (sym c.stopped.ensures)
     (read_stops t talk target from old new (bad (stopped_as e)) _ _ _ _ apart (asked.asks, asked.passed) c.in-Err.ensures.told (λ p q same. then_stopped (Option SkipWhy) t target new p q e same)
-    (λ a b one x. stopped_caused (Option SkipWhy) t old target e a b x) (λ a b one x. stopped_told c.args.shape c.args.user target serve from key e a b (one.others target apart) x))
+    (λ a b one x. stopped_holds (Option SkipWhy) t old c.args.shape c.args.user target e a b x) (λ a b one x. stopped_told c.args.shape c.args.user target serve from key e a b (one.others target apart) x))
 
 pub returns-in-Ok-clause-asked : goal.returns-in-Ok-clause-asked
 returns-in-Ok-clause-asked g c =
