@@ -28,7 +28,8 @@ use Rattle.rebuild.specs.declared.error.RebuildErr.{RebuildErr}
 use Rattle.rebuild.specs.declared.error.RebuildErr.TheVariants as errors
 use Rattle.rebuild.specs.declared.skips.Rebuilt.{Rebuilt}
 use Rattle.rebuild.specs.Rebuilding.{LeavesBut, RunsTo, IsCut}
-use Rattle.rebuild.specs.Over.{Asked, Causes, HandsOn, Leads, TargetAlong, ThenLost, is_lost}
+use Rattle.rebuild.specs.Over.{Asked, Causes, HandsOn, Holds, Leads, TargetAlong, ThenLost, is_lost}
+use Rattle.rebuild.specs.Turns.{OwnLanes, SaidLast}
 use Rattle.rebuild.specs.Kept.{Refills}
 use Rattle.session.specs.Spelling.{AreClouds}
 use Rattle.session.specs.declared.event.Event.TheVariants as events
@@ -121,7 +122,7 @@ module _ {V : Type 0} (clouds : V → ℕ → Cloud) (talk : LocalLink V → ℕ
   -- what becomes of the clouds, of which some are told
   abbrev pub Brings : Shape → Type 0
   Brings shape = Leads (telling clouds) talk target.0 from old new result
-      (Causes (telling clouds) old target.0 result)
+      (Holds (telling clouds) old shape user target.0 result)
       (λ turns before at after.
       RunsTo shape user target.0 (serves (telling clouds) old target.0) from result turns before at after
       × Refills shape target.0 from user after result)
@@ -165,6 +166,8 @@ module _ {V : Type 0} (clouds : V → ℕ → Cloud) (talk : LocalLink V → ℕ
       pub leaves : LeavesBut from target.0 v.peers after
       pub along : TargetAlong (telling clouds) talk target.0 from old (v.peers target.0) turns new (after target.0)
       pub caused : Causes (telling clouds) old target.0 result v.peers after
+      pub said : SaidLast result turns
+      pub own : OwnLanes s.shape user target.0 turns
       pub told : AllTold s (target.0 ∷ from) → RunsTo s.shape user target.0 (served_at s target.0) from result turns v.peers (after target.0) after × Refills s.shape target.0 from user after result
 
     told_of : (after : ℕ → Peer) (turns : List (Turn Peer)) (at : Peer) → after target.0 ≡ at
@@ -188,7 +191,9 @@ module _ {V : Type 0} (clouds : V → ℕ → Cloud) (talk : LocalLink V → ℕ
           leaves = x.5;
           along = subst (λ (l : LocalLink V). TargetAlong (telling clouds) talk target.0 from old (v.peers target.0) x.1 l (x.0 target.0)) (sym then.0)
               (subst (λ (p : Peer). TargetAlong (telling clouds) talk target.0 from old (v.peers target.0) x.1 x.2 p) (sym then.1) x.6);
-          caused = x.8;
+          caused = x.8.caused;
+          said = x.8.said;
+          own = subst (λ (sh : Shape). OwnLanes sh user target.0 x.1) is.shape x.8.own;
           told = told_of x.0 x.1 x.3 then.1 x.9;
         }
 
@@ -243,11 +248,11 @@ module _ {V : Type 0} (clouds : V → ℕ → Cloud) (talk : LocalLink V → ℕ
         by_result (Err (errors.FromRestore restore_errors.NoMemory)) x = tt
         by_result (Err errors.TargetLost) x = tt
         by_result (Err errors.TargetFault) x = x
-        by_result (Err (errors.TargetDamaged at byte)) x = tt
-        by_result (Err (errors.TargetRotten named found)) x = tt
+        by_result (Err (errors.TargetDamaged at byte)) x = sym (is.told target.0) ∙ x
+        by_result (Err (errors.TargetRotten named found)) x = sym (is.told target.0) ∙ x
         by_result (Err (errors.TargetFull room used need limit)) x = tt
         by_result (Err (errors.TargetLacking place)) x = tt
-        by_result (Err errors.TargetNoMemory) x = tt
+        by_result (Err errors.TargetNoMemory) x = absurd x
         by_result (Err (errors.TargetStrange kind)) x = absurd x
         by_result (Err errors.NoMemory) x = tt
 
@@ -279,6 +284,8 @@ module _ {V : Type 0} (clouds : V → ℕ → Cloud) (talk : LocalLink V → ℕ
               leaves = w.leaves;
               named = came.named;
               caused = known_told v.peers w.after w.caused;
+              said = w.said;
+              own = w.own;
               told = w.told;
             },
             refl,
@@ -290,7 +297,7 @@ module _ {V : Type 0} (clouds : V → ℕ → Cloud) (talk : LocalLink V → ℕ
     -- ---- cut
 
     abbrev pub IsPart : Type 0
-    IsPart = (turns : List (Turn Peer)) (at : Peer) → AreClouds s.shape from → (Contains from target.0 → ⊥) → ExecutesAll s target.0 (v.peers target.0) turns at
+    IsPart = (turns : List (Turn Peer)) (at : Peer) → AreClouds s.shape from → (Contains from target.0 → ⊥) → ExecutesAll s target.0 (v.peers target.0) turns at → OwnLanes s.shape user target.0 turns
         → (AllTold s (target.0 ∷ from) → (after : ℕ → Peer) × IsCut s.shape user target.0 (served_at s target.0) from turns v.peers at after)
         → IsPartOf s v (record { event = events.Rebuild user target from; moments = quiet v.peers ++ map (turn_moment v.peers target.0) turns }) (with_peer v.peers target.0 at)
 
@@ -338,7 +345,7 @@ module _ {V : Type 0} (clouds : V → ℕ → Cloud) (talk : LocalLink V → ℕ
         record {
           moments = quiet v.peers ++ map (turn_moment v.peers target.0) w.turns;
           last = with_peer v.peers target.0 (w.after target.0);
-          part = part w.turns (w.after target.0) (subst (λ (sh : Shape). AreClouds sh from) is.shape are) apart (executes w) (λ all. (w.after, is_cut w all));
+          part = part w.turns (w.after target.0) (subst (λ (sh : Shape). AreClouds sh from) is.shape are) apart (executes w) w.own (λ all. (w.after, is_cut w all));
           left = left_by w;
           images = images_by w (map (turn_moment v.peers target.0) w.turns) (with_peer v.peers target.0 (w.after target.0)) (with_here v.peers target.0 (w.after target.0))
               (λ t has. contains_later (record { peers = v.peers; event = None }) (map (turn_moment v.peers target.0) w.turns) (turn_moment v.peers target.0 t) (turns_mapped v.peers target.0 w.turns t has));

@@ -1,5 +1,5 @@
 -- An answer says that a device failed only where that cloud's count of faults rose.
-use Rattle.std.proofs.Common.{◌≡◌, ℕ, zero, suc, ◌+◌, ◌-◌, ◌^◌, ◌<◌, ◌≤◌, Bool, true, false, not, ◌&&◌, List, [], ◌∷◌, ◌++◌, length, map, Option, Some, None, Result, Ok, Err, refl, sym, ap, ◌∙◌, subst, inl, inr, ◌⊎◌, arith}
+use Rattle.std.proofs.Common.{◌≡◌, ℕ, zero, suc, ◌+◌, ◌-◌, ◌^◌, ◌<◌, ◌≤◌, Bool, true, false, List, [], ◌∷◌, ◌++◌, length, map, Option, Some, None, Result, Ok, Err, refl, sym, ap, ◌∙◌, subst, inl, inr, arith}
 use Rattle.std.specs.Prelude.{slice_get, if◌then◌else◌}
 use Rattle.std.specs.Bool.{MatchBool}
 use Rattle.std.specs.List.{Contains, range_with_len}
@@ -20,7 +20,7 @@ use Rattle.messages.specs.declared.reply.Reply.{Reply}
 use Rattle.messages.specs.declared.reply.Reply.TheVariants as replies
 use Rattle.user_dedup.specs.Cloud.{user_view}
 use Rattle.user_dedup.specs.Pages.{page_of}
-use Rattle.user_dedup.specs.Exec.{Peer, Exec, ExecTold, ExecUntold}
+use Rattle.user_dedup.specs.Exec.{Peer, ExecTold, ExecUntold}
 use Rattle.user_dedup.proofs.Owned.{contains_cases, contains_nothing}
 use Rattle.cloud_store.specs.Space.{full_for}
 use Rattle.share_server.specs.Serving.{ReopensAs}
@@ -29,13 +29,12 @@ use Rattle.upload_job.specs.declared.news.LaneNews.TheVariants as lane_news
 use Rattle.upload_job.specs.Lane.{lane_request}
 use Rattle.upload_job.specs.Lanes.{LaneView}
 use Rattle.upload_job.specs.Lanes as lanes
-use Rattle.lane_requests.specs.Runs.{Turn, Progress, LaneRun, Tell, lane_at, moved, progress_after, starting}
+use Rattle.lane_requests.specs.Runs.{Turn, Progress, LaneRun, Tell, lane_at, progress_after, starting}
 use Rattle.restore_job.specs.Refusals.{Causes}
 use Rattle.restore_job.specs.declared.error.RestoreErr.{RestoreErr}
 use Rattle.restore_job.specs.declared.error.RestoreErr.TheVariants as restore_errors
 use Rattle.rebuild.specs.declared.error.RebuildErr.{RebuildErr}
 use Rattle.rebuild.specs.declared.error.RebuildErr.TheVariants as rebuild_errors
-use Rattle.rebuild.specs.declared.skips.Skip.{Skip}
 use Rattle.rebuild.specs.declared.skips.Rebuilt.{Rebuilt}
 use Rattle.rebuild.specs.Over.{ReadCaused}
 use Rattle.rebuild.specs.Over as rebuilding
@@ -52,7 +51,7 @@ use Rattle.transcript.specs.declared.refusal.TargetWhy.TheVariants as target_why
 use Rattle.transcript.specs.declared.line.Line.{Line}
 use Rattle.transcript.specs.declared.line.Line.TheVariants as lines
 use Rattle.vault.specs.Vault.{Setting, Vault, Executes, served_at, lanes_of, opening}
-use Rattle.vault.specs.Steps.{Moment, moment_of, cloud_no, step_line, stored_line, no_step, LaneStep, DropStep, FinishLanes, IsGetLine, GetStep, list_refusal, behind_page, EndsListing, ListRun, entry_line, list_lines, told_so, IsRestartLine, RestartStep, ReopensUntold, IsReplaceLine, skip_line, rebuild_refusal, AreRebuildLines, RebuildStep, lose_lines, asked_by, VStep}
+use Rattle.vault.specs.Steps.{Moment, cloud_no, step_line, stored_line, LaneStep, DropStep, FinishLanes, IsGetLine, GetStep, behind_page, EndsListing, ListRun, entry_line, list_lines, told_so, IsRestartLine, RestartStep, ReopensUntold, IsReplaceLine, skip_line, rebuild_refusal, AreRebuildLines, RebuildStep, lose_lines, asked_by, VStep}
 use Rattle.vault.specs.Run.{Answered, Turns}
 use Rattle.vault.specs.Headline.{Session, IsRun}
 use Rattle.vault.specs.Faults.{IsTarget, SaysFault, FaultsRose}

@@ -10,6 +10,7 @@ pub mod Refilled
 pub mod Acknowledged
 pub mod Parts
 pub mod Unmoved
+pub mod Filled
 pub mod Stopped
 pub mod Counts
 pub mod Faults

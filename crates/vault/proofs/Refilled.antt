@@ -142,7 +142,7 @@ ended_by key Refused (replies.Malformed at) r e = absurd cc
 ended_by key Refused replies.NoMemory r e = absurd cc
 
 -- one that stopped it stopped by what was said last
-stopped_by : (key : Tag × Version) (lane : LaneState) (said x : Reply) (r : Progressed) → (lane_ended key lane said r).stop ≡ Some x → said ≡ x
+pub stopped_by : (key : Tag × Version) (lane : LaneState) (said x : Reply) (r : Progressed) → (lane_ended key lane said r).stop ≡ Some x → said ≡ x
 stopped_by key (Asking batch rest) said x r e = same_Some said x e
 stopped_by key (Sending batch flags rest) said x r e = same_Some said x e
 stopped_by key Committing said x r e = same_Some said x e

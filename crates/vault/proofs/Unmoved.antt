@@ -20,6 +20,7 @@ use Rattle.restore_job.specs.declared.error.RestoreErr.TheVariants as restore_er
 use Rattle.rebuild.specs.declared.error.RebuildErr.TheVariants as rebuild_errors
 use Rattle.rebuild.specs.Found.{findings}
 use Rattle.rebuild.specs.Rebuilding.{nothing_yet}
+use Rattle.rebuild.proofs.Telling.{lanes_none}
 use Rattle.upload_job.specs.declared.news.LaneNews.TheVariants as lane_news
 use Rattle.upload_job.specs.Lanes.{with_state}
 use Rattle.lane_requests.specs.Runs.{moved, lane_at}
@@ -245,6 +246,8 @@ module _ (s : Setting) (old : Vault) where
         };
         named = (tt, contains_here cloud from);
         caused = rose;
+        said = tt;
+        own = lanes_none s.shape user target.0;
         told = λ told. (
           record {
             found = [];

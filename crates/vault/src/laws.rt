@@ -13,6 +13,7 @@ ghost use Rattle.user_dedup.specs.Requests.{asker};
 ghost use Rattle.user_dedup.specs.Exec.{Peer};
 ghost use Rattle.lane_requests.specs.Runs.{Turn};
 ghost use Rattle.rebuild.specs.Rebuilding.{IsCut};
+ghost use Rattle.rebuild.specs.Turns.{OwnLanes};
 ghost use Rattle.session.specs.Spelling.{AreClouds, AreSources, Fits};
 ghost use Rattle.session.specs.declared.event.Event.{Event};
 ghost use Rattle.session.specs.declared.event.Event.TheVariants as events;
@@ -70,6 +71,7 @@ pub fn law_of_parts()
         → IsPartOf s old (record { event = events.Get user path version clouds; moments = [] }) old.peers }
     ensures rebuild { (s : Setting) (old : Vault) (user : UserId) (target : CloudNo) (from : List ℕ) (turns : List (Turn Peer)) (at : Peer)
         → AreClouds s.shape from → ¬ Contains from target.0 → ExecutesAll s target.0 (old.peers target.0) turns at
+        → OwnLanes s.shape user target.0 turns
         → (AllTold s (target.0 ∷ from) → (after : ℕ → Peer)
         × IsCut s.shape user target.0 (served_at s target.0) from turns old.peers at after)
         → IsPartOf s old (record {

@@ -28,7 +28,7 @@ returns-clause-cut g c =
     let came = came_by clouds (λ link cloud t. ⊥) old new c.args.user c.args.target named c.rebuild-came.result c.shape-shape.result c.shape-shape.ensures e.rebuilt e.asked e.hands_on in
     on_err c.put_rebuilt.result _ (λ s v is.
     rebuild_cut clouds (λ link cloud t. ⊥) old new c.args.user c.args.target named c.rebuild-came.result s v is.link_at c.requires.below c.requires.clouds c.requires.apart came c.args.jobs.now is.jobs_are
-    (λ turns at are apart executes cut. c.law_of_parts.ensures.rebuild s v c.args.user c.args.target named turns at are apart executes cut))
+    (λ turns at are apart executes own cut. c.law_of_parts.ensures.rebuild s v c.args.user c.args.target named turns at are apart executes own cut))
 
 pub returns-clause-leaves : goal.returns-clause-leaves
 returns-clause-leaves g c =

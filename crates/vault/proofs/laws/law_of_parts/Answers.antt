@@ -10,7 +10,7 @@ pub returns-clause-get : goal.returns-clause-get
 returns-clause-get c s old user path version clouds are = part_of_get s old user path version clouds are
 
 pub returns-clause-rebuild : goal.returns-clause-rebuild
-returns-clause-rebuild c s old user target from turns at are apart executes cut = part_of_rebuild s old user target from are apart turns at executes cut
+returns-clause-rebuild c s old user target from turns at are apart executes own cut = part_of_rebuild s old user target from are apart turns at executes own cut
 
 pub returns-clause-unmoved : goal.returns-clause-unmoved
 returns-clause-unmoved c = unmoved
