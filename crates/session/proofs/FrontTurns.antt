@@ -1,7 +1,7 @@
 -- Where the next line ends, by the front that is held and what is ahead.
-use Rattle.std.proofs.Common.{◌≡◌, ◌≢◌, ℕ, ◌+◌, ◌-◌, ◌<◌, ◌≤◌, List, [], ◌++◌, length, take, drop, get_or, Option, Some, Result, Ok, sym, refl, ap, ◌∙◌, append_assoc, arith, inl, inr}
+use Rattle.std.proofs.Common.{◌≡◌, ◌≢◌, ℕ, ◌+◌, ◌-◌, ◌<◌, ◌≤◌, List, [], ◌++◌, length, take, drop, get_or, Option, Some, Ok, sym, refl, ap, ◌∙◌, append_assoc, arith, inl, inr}
 use Rattle.std.proofs.lemmas.Bool.{cases_lt}
-use Rattle.std.proofs.lemmas.List.{length-append, length-take, length-drop, take-append-drop, append-nil, get_or-append-add}
+use Rattle.std.proofs.lemmas.List.{length-append, length-take, length-drop, take-append-drop, get_or-append-add}
 use Rattle.std.proofs.Math.Seq.{take-append-add, drop-append-add, get_or-append_right}
 use Rattle.session.specs.Front.{Moved}
 use Rattle.session.specs.Held.{Follows}

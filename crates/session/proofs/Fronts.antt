@@ -1,19 +1,17 @@
 -- The front of a long line, and what the whole line says.
-use Rattle.std.proofs.Common.{◌≡◌, ℕ, ◌+◌, ◌-◌, ◌<◌, ◌≤◌, ◌^◌, Bool, true, false, List, [], ◌∷◌, ◌++◌, length, take, Option, Some, Result, Ok, Err, zero, suc, refl, sym, ap, subst, ◌∙◌, append_assoc, arith}
+use Rattle.std.proofs.Common.{◌≡◌, ℕ, ◌+◌, ◌-◌, ◌<◌, ◌≤◌, ◌^◌, Bool, false, List, [], ◌∷◌, ◌++◌, length, take, Some, Result, Ok, Err, zero, suc, refl, sym, ap, subst, ◌∙◌, append_assoc, arith}
 use Rattle.std.specs.Prelude.{IfOk, IsTrue, codes, decimal}
-use Rattle.std.specs.List.{join_with_byte, position_or_len, slice_get}
+use Rattle.std.specs.List.{position_or_len, slice_get}
 use Rattle.std.specs.Str.{bytes_eq}
 use Rattle.std.proofs.lemmas.List.{append-nil, append_cancel_right, length-append}
 use Rattle.std.proofs.lemmas.List.Elements.{All-append, All-from_recursion}
 use Rattle.cd_base.specs.declared.ids.UserId.{UserId}
 use Rattle.cd_base.specs.declared.ids.Version.{Version}
 use Rattle.cd_base.specs.declared.shape.Shape.{Shape}
-use Rattle.cd_base.specs.declared.rooms.Rooms.{Rooms}
 use Rattle.grammar.specs.Words.{cut, word_at, is_blank}
 use Rattle.grammar.specs.Hexadecimal.{hex, unhex}
 use Rattle.grammar.proofs.HexadecimalLaws.{unhex_takes, hex_append}
 use Rattle.transcript.specs.Words.{bytes_text}
-use Rattle.session.specs.Fault.{Fault}
 use Rattle.session.specs.Front.{Begins, IsUploading, Names}
 use Rattle.session.specs.Spelling.{AreBytes, Fits, IsLine, spelling, file_limit}
 use Rattle.session.specs.Reading.{Reads, literal, header_left, header_at, placed, event_at}

@@ -4,7 +4,6 @@ use Rattle.cd_base.specs.declared.ids.UserId.{UserId}
 use Rattle.cd_base.specs.declared.ids.Version.{Version}
 use Rattle.cd_base.specs.declared.shape.Shape.{Shape}
 use Rattle.session.specs.Spelling.{IsLine}
-use Rattle.session.specs.declared.event.Event.{Event}
 use Rattle.session.specs.declared.event.Event.TheVariants as events
 
 -- nothing, or a front that begins as an upload does

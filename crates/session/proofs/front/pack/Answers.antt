@@ -1,4 +1,4 @@
-use Rattle.std.proofs.Common.{ℕ, List, ◌≡◌, ◌++◌, take, Some, ap, sym, ◌∙◌}
+use Rattle.std.proofs.Common.{ℕ, List, ◌++◌, ap, sym, ◌∙◌}
 use Rattle.grammar.specs.Hexadecimal.{unhex}
 use Rattle.session.proofs.Fronts.{packed_more, bytes_more}
 use Rattle.session.proofs.front.pack.Goals as goal
