@@ -5,15 +5,11 @@ use Rattle.std.specs.Io.KnownBytes.{Appends}
 use Rattle.cd_base.specs.Limits.{greatest_rooms}
 use Rattle.cd_base.specs.declared.rooms.Rooms.{Rooms}
 use Rattle.cd_base.specs.declared.shape.Shape.{Shape}
-use Rattle.cd_edges.specs.declared.area.Area.TheVariants.{Journal}
 use Rattle.cd_edges.specs.Causes.{Rose}
 use Rattle.cd_edges.specs.Disk.{Cloud, Image, IsImage}
 use Rattle.cd_edges.proofs.Moments.{left_alone, each_since}
-use Rattle.commit_journal.specs.declared.header.Header.{Header}
-use Rattle.commit_journal.specs.Records.{is_begun}
-use Rattle.user_dedup.specs.Dedup.{Begun}
 use Rattle.cloud_store.specs.Standing.{StandsForSome}
-use Rattle.cloud_store.specs.Store.{StandsFor}
+use Rattle.share_server.proofs.NoCommands.{empty_stands}
 use Rattle.local_link.specs.Calls.{header_of}
 use Rattle.session.specs.Fault.{Fault}
 use Rattle.session.specs.Lines.{next_line}
@@ -70,10 +66,6 @@ no_line : {A : Type 0} (earlier later : List Answered) (a : Answered) → [] ≡
 no_line [] later a e = absurd (let f : [] ≡ a ∷ later = e in cc)
 no_line (b ∷ earlier) later a e = absurd (let f : [] ≡ b ∷ (earlier ++ a ∷ later) = e in cc)
 
-stands_unbegun : (image : Image) (header : Header) → image Journal ≡ [] → StandsFor image header []
-unfolding StandsFor
-stands_unbegun image header empty = (Begun, inr (ap is_begun empty, refl))
-
 module _ (call : Call) (same : (cloud : ℕ) → call.new cloud ≡ call.old cloud) where
   abbrev run : Session
   run = session_of call
@@ -84,8 +76,8 @@ module _ (call : Call) (same : (cloud : ℕ) → call.new cloud ≡ call.old clo
   disks : BeginsEmpty call.old → DisksStand run call.old call.new
   disks empty cloud lt told =
       let here : (image : Image) → IsImage (call.old cloud).now image → StandsForSome (header_of run.setting.shape cloud) (λ list. list ≡ []) image =
-      λ image now. ([], refl, stands_unbegun image (header_of run.setting.shape cloud) (empty cloud image Journal told now)) in record {
-        now = λ image now. ([], inl refl, stands_unbegun image (header_of run.setting.shape cloud) (empty cloud image Journal told (subst (λ (c : Cloud). IsImage c.now image) (same cloud) now)));
+      λ image now. ([], refl, empty_stands image (header_of run.setting.shape cloud) (λ area. empty cloud image area told now)) in record {
+        now = λ image now. ([], inl refl, empty_stands image (header_of run.setting.shape cloud) (λ area. empty cloud image area told (subst (λ (c : Cloud). IsImage c.now image) (same cloud) now)));
         each = λ image since.
             let some = each_since (call.old cloud) (call.new cloud) (StandsForSome (header_of run.setting.shape cloud) (λ list. list ≡ []))
             (left_alone (call.old cloud) (call.new cloud) _ (same cloud) here) image since in
