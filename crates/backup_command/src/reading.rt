@@ -4,7 +4,7 @@ ghost use Rattle.std.specs.Prelude.{◌≤◌, length, IfOk};
 ghost use Rattle.recipe.specs.Spelling.{file_limit};
 ghost use Rattle.backup_command.specs.Reading.{Reads, input_of};
 
-use cd_base::{Bytes, NoMemory};
+use cd_base::{Bytes, FILE_LIMIT, NoMemory};
 use cd_edges::{Failed, Source};
 use std::alloc::Global;
 
@@ -18,9 +18,6 @@ pub enum ReadErr {
     /// Memory ran out.
     NoMemory,
 }
-
-/// The most bytes of a file.
-pub const LIMIT: usize = 67_108_864;
 
 // How many bytes are read at a time.
 const PIECE: usize = 4096;
@@ -39,7 +36,7 @@ pub fn read_file<S: Source>(alloc: Global, source: &mut S) -> Result<Bytes, Read
         if count == 0 {
             return Ok(file);
         }
-        let room = LIMIT - file.len();
+        let room = FILE_LIMIT - file.len();
         if room < count {
             return Err(ReadErr::TooLong { byte: piece[room] });
         }

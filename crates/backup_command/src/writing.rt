@@ -7,8 +7,7 @@ ghost use Rattle.transcript.specs.Endings.{ending_text};
 ghost use Rattle.hellos.specs.Refusals.{refused_text};
 ghost use Rattle.backup_command.specs.Writing.{Writes, output_of};
 
-use crate::reading::LIMIT;
-use cd_base::{Bytes, NoMemory};
+use cd_base::{Bytes, FILE_LIMIT, NoMemory};
 use cd_edges::{Sink, write_all};
 use hellos::{Refused, write_refused};
 use std::alloc::Global;
@@ -44,7 +43,7 @@ pub fn write_too_long<K: Sink>(alloc: Global, sink: &mut K, byte: u8) -> u8
 {
     let ending = Ending::Script {
         line: 1,
-        at: LIMIT as u64,
+        at: FILE_LIMIT as u64,
         found: Some(byte),
     };
     let mut line = Bytes::new(alloc);

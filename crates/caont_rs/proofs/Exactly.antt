@@ -4,6 +4,7 @@ use Rattle.std.specs.Cmp.Lexicographic.{pointwise, bytes_decides}
 use Rattle.std.proofs.lemmas.List.{length-take, take-append-drop}
 use Rattle.cd_base.specs.declared.shape.Shape.{Shape}
 use Rattle.cd_base.specs.Lengths.{share_len_of}
+use Rattle.cd_base.specs.Reading.{AreBytes}
 use Rattle.sha2.specs.Sha256.{sha256}
 use Rattle.sha2.proofs.Facts256.{length-sha256}
 use Rattle.aes256.specs.Cipher.{added}
@@ -16,7 +17,7 @@ use Rattle.caont_rs.specs.declared.opening.RecoverErr.TheVariants.{BadSecret}
 use Rattle.caont_rs.specs.Package.{padded, pad_len, body_of, tail_of, package_of, share}
 use Rattle.caont_rs.specs.Opening.{package_at, body_in, key_in, text_in, fp, without_pad, opened_package, opened_text, opened}
 use Rattle.caont_rs.proofs.Openings.{package_at_shares, length-package_at}
-use Rattle.caont_rs.proofs.Opened.{AreBytes, pad_fits, position_some, length-added, gives_back}
+use Rattle.caont_rs.proofs.Opened.{pad_fits, position_some, length-added, gives_back}
 
 -- ---- a result that is Ok
 

@@ -13,6 +13,7 @@ use Rattle.std.proofs.lemmas.Nat.{xor_lt}
 use Rattle.std.proofs.lemmas.Simd.{length-zip2}
 use Rattle.cd_base.specs.declared.shape.Shape.{Shape}
 use Rattle.cd_base.specs.Lengths.{share_len_of}
+use Rattle.cd_base.specs.Reading.{AreBytes}
 use Rattle.sha2.specs.Sha256.{sha256, digest_bytes}
 use Rattle.sha2.proofs.Facts256.{length-sha256}
 use Rattle.aes256.specs.Cipher.{added}
@@ -70,10 +71,7 @@ length-share s j text = length-share_of s (package_of s text) j
     ∙ (whole_rows s.k (share_len_of s.k (length text)) (length (package_of s text)) (omega (arith, s.several)) (length-package_of s text)).0
 
 -- ---- bytes
-abbrev pub AreBytes : List ℕ → Type 0
-AreBytes xs = (i : ℕ) → slice_index xs i < 256
-
-AreBytes-append : (xs ys : List ℕ) → AreBytes xs → AreBytes ys → AreBytes (xs ++ ys)
+pub AreBytes-append : (xs ys : List ℕ) → AreBytes xs → AreBytes ys → AreBytes (xs ++ ys)
 AreBytes-append xs ys f g i = elim (cases_lt i (length xs)) [
   | inl b ↦ subst (λ (v : ℕ). v < 256) (sym (get_or-append xs ys 0 i b)) (f i)
   | inr h ↦ subst (λ (v : ℕ). v < 256) (sym (get_or-append_right xs ys i 0 h)) (g (i - length xs))

@@ -2,6 +2,7 @@
 
 ghost use Rattle.std.specs.Prelude.{◌≡◌, ℕ, List, ◌+◌, ◌-◌, ◌*◌, ◌/◌, ◌<◌, ◌≤◌, ◌^◌, ◌++◌, ◌≢◌, ◌==◌, not, length, take, drop, position, OnOk, OnErr, IfErr, IfSome};
 ghost use Rattle.cd_base.specs.Lengths.{share_len_of};
+ghost use Rattle.cd_base.specs.Limits.{secret_limit};
 ghost use Rattle.sha2.specs.Sha256.{sha256 as sha256_of};
 ghost use Rattle.aes256.specs.Cipher.{added};
 ghost use Rattle.reed_solomon.specs.Dispersal.{AreChoice};
@@ -108,7 +109,7 @@ fn recover_into(
     shares: &[u8],
     sealed: &mut [u8],
 ) -> Result<(), RecoverErr>
-    requires few { secret_len ≤ 16384 }
+    requires few { secret_len ≤ secret_limit }
     requires choice { AreChoice shape points.now }
     requires whole { length shares.now ≡ shape.k * share_len_of shape.k secret_len }
     requires room { length sealed.old ≡ length shares.now }
@@ -131,7 +132,7 @@ pub fn recover(
     out: &mut Bytes,
 ) -> Result<(), RecoverErr>
     requires some { 1 ≤ secret_len }
-    requires few { secret_len ≤ 16384 }
+    requires few { secret_len ≤ secret_limit }
     requires choice { AreChoice shape points.now }
     requires whole { length shares.now ≡ shape.k * share_len_of shape.k secret_len }
     ensures ok { OnOk result ((text : List ℕ) × (opened shape secret_len points.now shares.now ≡ Ok text) × (out.new ≡ out.old ++ text)) }

@@ -2,6 +2,7 @@
 
 ghost use Rattle.std.specs.Prelude.{◌≡◌, ℕ, ◌+◌, ◌-◌, ◌*◌, ◌/◌, ◌<◌, ◌≤◌, ◌++◌, length, replicate, take, drop, OnOk, OnErr};
 ghost use Rattle.cd_base.specs.Lengths.{share_len_of};
+ghost use Rattle.cd_base.specs.Limits.{secret_limit};
 ghost use Rattle.sha2.specs.Sha256.{sha256 as sha256_of};
 ghost use Rattle.aes256.specs.Cipher.{added};
 ghost use Rattle.reed_solomon.specs.Dispersal.{row};
@@ -66,7 +67,7 @@ fn disperse_into(shape: Shape, secret: &[u8], width: usize, buffer: &mut [u8])
 /// The shares are a function of the shape and the secret alone. For want of memory `out` is as before.
 pub fn disperse(shape: Shape, secret: &[u8], out: &mut Bytes) -> Result<(), NoMemory>
     requires some { 1 ≤ length secret.now }
-    requires few { length secret.now ≤ 16384 }
+    requires few { length secret.now ≤ secret_limit }
     ensures whole { OnOk result (length out.new ≡ shape.n * share_len_of shape.k (length secret.now)) }
     ensures shares { OnOk result ((j : ℕ) → j < shape.n → row (share_len_of shape.k (length secret.now)) j out.new ≡ share shape j secret.now) }
     ensures err { OnErr result (out.new ≡ out.old) }

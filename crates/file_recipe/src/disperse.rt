@@ -15,7 +15,7 @@ use crate::{CloudFile, CloudFiles};
 use caont_rs::disperse;
 use cd_base::{Bytes, CloudNo, Ends, NoMemory, Shape, share_len};
 use rabin_chunker::Chunker;
-use recipe::{Items, Recipe};
+use recipe::{ITEM_LIMIT, Items, Recipe};
 use std::alloc::Global;
 
 // The ends of a file's secrets.
@@ -37,7 +37,7 @@ fn room_of(shape: Shape, file_len: usize, count: usize) -> usize
     ensures { result ≡ (file_len + min count item_limit * (31 + shape.k)) / shape.k }
 {
     let k = shape.k as usize;
-    (file_len + count.min(32_768) * (31 + k)) / k
+    (file_len + count.min(ITEM_LIMIT) * (31 + k)) / k
 }
 
 // What a cloud has before the first secret, with room for as many.

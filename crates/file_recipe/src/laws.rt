@@ -5,7 +5,7 @@ ghost use Rattle.std.specs.Prelude.{◌≡◌, ℕ, List, ◌<◌, ◌≤◌, �
 ghost use Rattle.std.specs.List.{concat, sum_by, flat_map};
 ghost use Rattle.cd_base.specs.declared.shape.Shape.{Shape};
 ghost use Rattle.cd_base.specs.Lengths.{share_len_of};
-ghost use Rattle.cd_base.specs.Limits.{IsPath};
+ghost use Rattle.cd_base.specs.Limits.{IsPath, secret_limit};
 ghost use Rattle.caont_rs.specs.Package.{share};
 ghost use Rattle.recipe.specs.Spelling.{Fits, file_limit, item_limit};
 ghost use Rattle.recipe.specs.Reading.{recipe_at};
@@ -17,7 +17,7 @@ pub fn secret_laws()
     ensures joined { (file : List ℕ) → concat (secrets file) ≡ file }
     // none is empty or longer than 16,384 bytes
     ensures some { (file : List ℕ) (i : ℕ) → i < length (secrets file) → 1 ≤ length (slice_index_or (secrets file) i []) }
-    ensures longest { (file : List ℕ) (i : ℕ) → length (slice_index_or (secrets file) i []) ≤ 16384 }
+    ensures longest { (file : List ℕ) (i : ℕ) → length (slice_index_or (secrets file) i []) ≤ secret_limit }
     // and none but the last is shorter than 2,048
     ensures shortest { (file : List ℕ) (i : ℕ) → i + 1 < length (secrets file) → 2048 ≤ length (slice_index_or (secrets file) i []) }
     // so a file within the limit has at most as many secrets as a recipe may name

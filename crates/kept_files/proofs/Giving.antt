@@ -10,6 +10,7 @@ use Rattle.std.proofs.lemmas.List.Elements.{All-get_or}
 use Rattle.std.proofs.lemmas.List.Concat.{flat_map-cons}
 use Rattle.cd_base.specs.Lengths.{share_len_of}
 use Rattle.cd_base.specs.Limits.{IsPath}
+use Rattle.cd_base.specs.Reading.{AreBytes}
 use Rattle.cd_base.specs.declared.ids.Fp.{Fp}
 use Rattle.cd_base.specs.declared.ids.Tag.{Tag}
 use Rattle.cd_base.specs.declared.ids.UserId.{UserId}
@@ -21,7 +22,7 @@ use Rattle.reed_solomon.specs.Interpolation.{combine, interpolant}
 use Rattle.reed_solomon.specs.Dispersal.{AreChoice, row, share_byte, share_of}
 use Rattle.caont_rs.specs.Opening.{opened}
 use Rattle.caont_rs.specs.Package.{share, package_of}
-use Rattle.caont_rs.proofs.Opened.{gives_back, length-share}
+use Rattle.caont_rs.proofs.Opened.{AreBytes-append, gives_back, length-share}
 use Rattle.recipe.specs.declared.items.Item.{Item}
 use Rattle.recipe.specs.declared.recipe.Recipe.{Recipe}
 use Rattle.recipe.specs.Reading.{recipe_at}
@@ -91,18 +92,10 @@ row_is f w (c ∷ clouds) (suc t) long lt =
 
 -- ---- bytes
 
-abbrev pub AreBytes : List ℕ → Type 0
-AreBytes xs = (i : ℕ) → slice_index xs i < 256
-
 map_bytes : (f : ℕ → ℕ) (xs : List ℕ) → ((x : ℕ) → f x < 256) → AreBytes (map f xs)
 map_bytes f [] all i = omega arith
 map_bytes f (x ∷ xs) all zero = all x
 map_bytes f (x ∷ xs) all (suc i) = map_bytes f xs all i
-
-append_bytes : (xs ys : List ℕ) → AreBytes xs → AreBytes ys → AreBytes (xs ++ ys)
-append_bytes [] ys a b i = b i
-append_bytes (x ∷ xs) ys a b zero = a 0
-append_bytes (x ∷ xs) ys a b (suc i) = append_bytes xs ys (λ k. a (suc k)) b i
 
 front_bytes : (xs ys : List ℕ) → AreBytes (xs ++ ys) → AreBytes xs
 front_bytes [] ys all i = omega arith
@@ -129,7 +122,7 @@ share_bytes s j text = map_bytes (share_byte s (package_of s text) j) (range_wit
 
 pub flat_bytes : (f : ℕ → List ℕ) (clouds : List ℕ) → ((c : ℕ) → AreBytes (f c)) → AreBytes (flat_map f clouds)
 flat_bytes f [] all i = omega arith
-flat_bytes f (c ∷ clouds) all i = (subst AreBytes (sym (flat_map-cons f c clouds)) (append_bytes (f c) (flat_map f clouds) (all c) (λ k. flat_bytes f clouds all k))) i
+flat_bytes f (c ∷ clouds) all i = (subst AreBytes (sym (flat_map-cons f c clouds)) (AreBytes-append (f c) (flat_map f clouds) (all c) (λ k. flat_bytes f clouds all k))) i
 
 -- ---- secrets in a row
 

@@ -1,6 +1,7 @@
 -- What is answered by a list.
 use Rattle.std.specs.Prelude.{◌≡◌, ℕ, ◌≤◌, List, length, Result, MatchResult}
 use Rattle.cd_base.specs.declared.shape.Shape.{Shape}
+use Rattle.frames.specs.Frames.{frame_limit}
 use Rattle.messages.specs.declared.request.Request.{Request}
 use Rattle.messages.specs.declared.request.Request.TheVariants as requests
 use Rattle.messages.specs.declared.reply.Reply.TheVariants as replies
@@ -21,7 +22,7 @@ abbrev pub HasFewBytes : Request → Type 0
 HasFewBytes requests.Hello = Unit {0}
 HasFewBytes (requests.Query user fps) = Unit {0}
 HasFewBytes (requests.Put user shares) = Unit {0}
-HasFewBytes (requests.Commit user tag version recipe) = length recipe ≤ 4194304
+HasFewBytes (requests.Commit user tag version recipe) = length recipe ≤ frame_limit
 HasFewBytes (requests.GetRecipe user tag version) = Unit {0}
 HasFewBytes (requests.GetShares user fps) = Unit {0}
 HasFewBytes (requests.List user after) = Unit {0}

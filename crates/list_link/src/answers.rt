@@ -2,6 +2,8 @@
 
 ghost use Rattle.std.specs.Prelude.{◌≡◌, ◌≤◌, ◌<◌, ◌^◌, length, map, unwrap_or, [], IfOk, Ok};
 ghost use Rattle.cd_base.specs.declared.shape.Shape.{Shape};
+ghost use Rattle.frames.specs.Frames.{frame_limit};
+ghost use Rattle.message_fields.specs.Fingerprints.{batch_limit};
 ghost use Rattle.messages.specs.declared.reply.Reply.TheVariants.{Known, Entries as EntriesReply};
 ghost use Rattle.messages.specs.declared.request.Request.TheVariants.{Commit as CommitRequest};
 ghost use Rattle.messages.specs.Requests.{FitsRequest};
@@ -47,7 +49,7 @@ fn query(alloc: Global, view: &View, fps: &Fps) -> Result<Served, NoMemory>
 }
 
 fn put(alloc: Global, view: &View, user: UserId, shares: &ShareList) -> Result<Served, NoMemory>
-    requires { length shares.now ≤ 256 }
+    requires { length shares.now ≤ batch_limit }
     ensures { IfOk result (λ s. outcome_of s ≡ put_outcome user (new_strings view.now.own shares.now)) }
 {
     let new = new_shares(alloc, view.own.as_slice(), shares.as_slice())?;
@@ -107,7 +109,7 @@ fn get_recipe(alloc: Global, view: &View, tag: &Tag, version: Version) -> Result
 }
 
 fn get_shares(alloc: Global, list: &[Command], view: &View, fps: &Fps) -> Result<Served, NoMemory>
-    requires { length fps.now ≤ 256 }
+    requires { length fps.now ≤ batch_limit }
     ensures { IfOk result (λ s. outcome_of s ≡ only_reply (shares_reply (first_lacking view.now.own fps.now) (map (λ fp. unwrap_or (held_string list.now fp) []) fps.now))) }
 {
     match lacking_place(view.own.as_slice(), fps.as_slice()) {
@@ -141,7 +143,7 @@ fn commit_read(
     version: Version,
     bytes: &Bytes,
 ) -> Result<Served, NoMemory>
-    requires { length bytes.now ≤ 4194304 }
+    requires { length bytes.now ≤ frame_limit }
     ensures { IfOk result (IsAnswer shape cloud list.now (recipe_read (CommitRequest user tag version bytes.now) (recipe_at shape bytes.now))) }
 {
     match Recipe::read(alloc, shape, bytes.as_slice()) {

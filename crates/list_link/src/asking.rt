@@ -2,6 +2,7 @@
 
 ghost use Rattle.std.specs.Prelude.{◌≤◌, length, IfOk};
 ghost use Rattle.cd_base.specs.declared.shape.Shape.{Shape};
+ghost use Rattle.frames.specs.Frames.{frame_limit};
 ghost use Rattle.user_dedup.specs.Requests.{asked_at};
 ghost use Rattle.list_link.specs.Serving.{IsAnswer};
 
@@ -19,7 +20,7 @@ pub fn answered(
     list: &[Command],
     content: &[u8],
 ) -> Result<Served, NoMemory>
-    requires { length content.now ≤ 4194304 }
+    requires { length content.now ≤ frame_limit }
     ensures { IfOk result (IsAnswer shape cloud list.now (asked_at shape content.now)) }
 {
     match Request::read(alloc, content) {

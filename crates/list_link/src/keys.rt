@@ -7,7 +7,7 @@ ghost use Rattle.message_fields.specs.Keys.{key_cmp, is_above, key_limit};
 ghost use Rattle.user_dedup.specs.Pages.{key_of, is_at, entry_at, with_key, sorted_keys, page_of};
 
 use cd_base::{NoMemory, Tag, Version};
-use message_fields::{Entries, is_key_above};
+use message_fields::{Entries, KEY_LIMIT, is_key_above};
 use std::alloc::Global;
 use std::cmp::Ordering;
 use user_dedup::FileEntry;
@@ -63,7 +63,7 @@ pub fn page(
     let keys = sorted(alloc, files)?;
     let mut entries = Entries::new(alloc);
     for key in &keys {
-        if entries.len() < 256 && is_key_above(after, key) {
+        if entries.len() < KEY_LIMIT && is_key_above(after, key) {
             entries.push(*key)?;
         }
     }

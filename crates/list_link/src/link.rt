@@ -1,6 +1,7 @@
 //! Asking the clouds of the link.
 
 ghost use Rattle.std.specs.Prelude.{◌≡◌, ◌<◌, ◌≤◌, [], length, replicate, IfOk, OnOk, OnErr};
+ghost use Rattle.frames.specs.Frames.{frame_limit};
 ghost use Rattle.list_link.specs.Tells.{Takes, list_of, telling};
 ghost use Rattle.list_link.specs.Sounds.{tells_sound};
 
@@ -56,7 +57,7 @@ impl ListLink {
     // never, nothing changes.
     fn take(&mut self, cloud: u8, content: &[u8], reply: &mut ReplyBuf) -> Result<(), Lost>
         requires reached { cloud < length self.old.lists.items }
-        requires framed { length content.now ≤ 4194304 }
+        requires framed { length content.now ≤ frame_limit }
         ensures ok { OnOk result (Takes self.old self.new cloud content.now reply.new) }
         ensures err { OnErr result ((self.new.lists.items ≡ self.old.lists.items) × (self.new.shape ≡ self.old.shape)) }
         ensures losses { self.new.losses ≡ self.old.losses }

@@ -3,7 +3,7 @@
 ghost use Rattle.std.specs.Prelude.{◌≡◌, ◌+◌, ◌-◌, ◌≤◌, ◌<◌, [], ◌++◌, length, take, min, IsTrue, IsFalse, IfOk, OnErr};
 ghost use Rattle.std.specs.Int.{w32, to_be_bytes};
 ghost use Rattle.cd_edges.specs.Causes.{HasCause};
-ghost use Rattle.frames.specs.Frames.{IsContent, IsLength, frame};
+ghost use Rattle.frames.specs.Frames.{IsContent, IsLength, frame, frame_limit};
 ghost use Rattle.cd_edges.specs.Ports.{OthersStay, Received, Sent, SentPart};
 ghost use Rattle.ports_link.specs.Exchange.{Broke, Came, CameNone, Cut, Replied, Whole};
 
@@ -44,7 +44,7 @@ fn take_piece<P: Ports>(
     left: usize,
     reply: &mut ReplyBuf,
 ) -> Result<usize, Failed>
-    requires room { length reply.old + left ≤ 4194304 }
+    requires room { length reply.old + left ≤ frame_limit }
     requires some { 0 < left }
     ensures bound { IfOk result (λ count. count ≤ left) }
     ensures long { IfOk result (λ count. length reply.new ≡ length reply.old + count) }
@@ -74,7 +74,7 @@ fn take_content<P: Ports>(
     reply: &mut ReplyBuf,
 ) -> Result<bool, Failed>
     requires empty { reply.old ≡ [] }
-    requires room { count ≤ 4194304 }
+    requires room { count ≤ frame_limit }
     ensures whole { IsTrue (P.tells ports.old).told
         → IfOk result (λ all. IsTrue all → Whole (P.tells ports.old) (P.tells ports.new) port count reply.new) }
     ensures cut { IsTrue (P.tells ports.old).told

@@ -1,107 +1,22 @@
 -- A proper beginning of a body is too short: the first field that fails lacks bytes.
-use Rattle.std.proofs.Common.{◌≡◌, ◌⊎◌, ℕ, suc, ◌^◌, ◌<◌, Bool, true, false, ltb, List, [], ◌∷◌, ◌++◌, length, Result, Err, IsTrue, refl, sym, ap, ◌∙◌, arith, inl, inr}
-use Rattle.std.specs.Prelude.{All}
-use Rattle.std.specs.List.{flat_map}
-use Rattle.std.specs.Int.{Width, w32, w64, byte_len, to_be_bytes}
-use Rattle.std.proofs.lemmas.Bool.{lt-ltb}
-use Rattle.std.proofs.lemmas.List.{length-append}
-use Rattle.std.proofs.lemmas.List.Concat.{flat_map-cons}
-use Rattle.std.proofs.lemmas.List.Elements.{All-head, All-tail}
-use Rattle.grammar.specs.Readers.{◌▷◌, ◌▷▷◌}
-use Rattle.grammar.specs.Fields.{number_at, bytes_at, checked}
-use Rattle.grammar.proofs.FieldLaws.{LawfulBytes, IsWide, lawful_bytes, lawful_checked, wide16, wide32, wide64}
-use Rattle.message_fields.specs.Parts.{made, times}
+use Rattle.std.proofs.Common.{◌≡◌, ℕ, ◌^◌, ◌<◌, true, false, List, [], ◌∷◌, ◌++◌, length, Err, IsTrue, refl, sym, ap, ◌∙◌}
+use Rattle.std.specs.Int.{w32, w64, to_be_bytes}
+use Rattle.grammar.specs.Fields.{number_at}
+use Rattle.grammar.proofs.FieldLaws.{lawful_bytes, lawful_checked, wide16, wide32, wide64}
 use Rattle.message_fields.specs.Fingerprints.{is_batch}
-use Rattle.message_fields.specs.Shares.{is_share_len}
 use Rattle.message_fields.proofs.PartLaws.{lawful_u32, lawful_u64}
 use Rattle.message_fields.proofs.FpLaws.{batch_to, small_batch}
 use Rattle.record_body.specs.declared.body.BodyErr.TheVariants as errors
-use Rattle.record_body.specs.Spelling.{place_bytes, FitsPlace}
 use Rattle.record_body.specs.Spelling as first
-use Rattle.record_body.specs.Reading.{place_at}
 use Rattle.record_body.specs.Reading as first_reading
-use Rattle.record_body.proofs.Cuts.{Cuts}
+use Rattle.record_body.proofs.Cuts.{Cuts, peeled, cut_bytes, cut_number, cut_checked, cut_made, cut_given, cut_then, cut_times, cut_place}
 use Rattle.record_body.proofs.Cuts as first_cuts
-use Rattle.record_body.proofs.ItemLaws.{share_to}
 use Rattle.record_bodies.specs.Spelling.{Body, Put, Commit, Delete, Kept, Spent, kept_bytes, kept_fields, body_bytes, FitsKept, FitsBody}
 use Rattle.record_bodies.specs.Reading.{item_at, items_at, delete_at, kept_at, spent_at, fields_at, front_at, judged, is_later, lifted_answer, body_at}
 use Rattle.record_bodies.proofs.ItemLaws.{lawful_item, AreItems}
 use Rattle.record_bodies.proofs.BodyLaws.{read_delete, spell_delete, FitsDeleteFields, delete_of, delete_parts, delete_back, read_spent, spell_spent, FitsSpentFields, spent_of, spent_parts, spent_back, made_of, IsLater, later_at, first_at}
 
--- ---- two ways to part one list
-
-peeled : (x y : ℕ) (xs ys : List ℕ) → x ∷ xs ≡ y ∷ ys → (x ≡ y) × (xs ≡ ys)
-peeled x y xs ys e = (cc, cc)
-
-nothing_cut : (front : List ℕ) (b : ℕ) (rest : List ℕ) → [] ≡ front ++ b ∷ rest → ⊥
-nothing_cut front b rest e = omega (arith, ap length e, length-append front (b ∷ rest))
-
-parted : (s t front : List ℕ) (b : ℕ) (rest : List ℕ) → s ++ t ≡ front ++ b ∷ rest
-    → ((c : ℕ) × (u : List ℕ) × (s ≡ front ++ c ∷ u)) ⊎ ((m : List ℕ) × (front ≡ s ++ m) × (t ≡ m ++ b ∷ rest))
-parted [] t front b rest e = inr (front, refl, e)
-parted (x ∷ s) t [] b rest e = inl (x, s, refl)
-parted (x ∷ s) t (y ∷ front) b rest e =
-    let p = peeled x y (s ++ t) (front ++ b ∷ rest) e in
-    elim (parted s t front b rest p.1) [
-      | inl h ↦ inl (h.0, h.1, let same = p.0 in let more = h.2 in cc)
-      | inr h ↦ inr (h.0, let same = p.0 in let more = h.1 in cc, h.2)
-    ]
-
--- ---- readers
-
-is_less : (x front : List ℕ) (b : ℕ) (rest : List ℕ) (n : ℕ) → length x ≡ n → x ≡ front ++ b ∷ rest → ltb (length front) n ≡ true
-is_less x front b rest n len e = lt-ltb _ _ (omega (arith, ap length e, length-append front (b ∷ rest)))
-
-cut_bytes : (n : ℕ) → Cuts (bytes_at n) (λ x. x) (λ x. length x ≡ n)
-cut_bytes n = record { cut = λ x front b rest len e. rw (is_less x front b rest n len e) refl }
-
-cut_number : {w : Width} {limit : ℕ} → IsWide w limit → (Fits : ℕ → Type 0) → Cuts (number_at w) (λ n. to_be_bytes w n) Fits
-cut_number {w} wide Fits = record { cut = λ n front b rest fits e. rw (is_less (to_be_bytes w n) front b rest (byte_len w) (wide.len n) e) refl }
-
-cut_checked : (ok : ℕ → Bool) {f : List ℕ → Result (ℕ × List ℕ) ℕ} {spell : ℕ → List ℕ} {Fits : ℕ → Type 0} → Cuts f spell Fits → Cuts (checked ok f) spell Fits
-cut_checked ok cuts = record { cut = λ x front b rest fits e. rw (cuts.cut x front b rest fits e) refl }
-
-cut_made : {A B : Type 0} {f : List ℕ → Result (A × List ℕ) ℕ} {spell : A → List ℕ} {Fits : A → Type 0} → Cuts f spell Fits → (make : A → B) (unmake : B → A) (MadeFits : B → Type 0) → ((y : B) → MadeFits y → Fits (unmake y))
-    → Cuts (made make f) (λ y. spell (unmake y)) MadeFits
-cut_made cuts make unmake MadeFits here = record { cut = λ y front b rest fits e. rw (cuts.cut (unmake y) front b rest (here y fits) e) refl }
-
-given_cut : {A B : Type 0} (f : List ℕ → Result (A × List ℕ) ℕ) (sf : A → List ℕ) (Ff : A → Type 0) (g : A → List ℕ → Result (B × List ℕ) ℕ) (sg : B → List ℕ) (Fg : A → B → Type 0) → LawfulBytes f sf Ff → Cuts f sf Ff → ((a : A) → Cuts (g a) sg (Fg a))
-    → (x : A × B) (front : List ℕ) (b : ℕ) (rest : List ℕ) → Ff x.0 × Fg x.0 x.1 → sf x.0 ++ sg x.1 ≡ front ++ b ∷ rest → (f ▷▷ g) front ≡ Err 0
-given_cut f sf Ff g sg Fg laws first second x front b rest fits e =
-    elim (parted (sf x.0) (sg x.1) front b rest e) [
-      | inl h ↦ rw (first.cut x.0 front h.0 h.1 fits.0 h.2) refl
-      | inr h ↦ ap (f ▷▷ g) h.1 ∙ rw (laws.again x.0 h.0 fits.0 tt, (second x.0).cut x.1 h.0 b rest fits.1 h.2) refl
-    ]
-
-cut_given : {A B : Type 0} {f : List ℕ → Result (A × List ℕ) ℕ} {sf : A → List ℕ} {Ff : A → Type 0} {g : A → List ℕ → Result (B × List ℕ) ℕ} {sg : B → List ℕ} {Fg : A → B → Type 0} → LawfulBytes f sf Ff → Cuts f sf Ff → ((a : A) → Cuts (g a) sg (Fg a))
-    → Cuts (f ▷▷ g) (λ x. sf x.0 ++ sg x.1) (λ x. Ff x.0 × Fg x.0 x.1)
-cut_given {A} {B} {f} {sf} {Ff} {g} {sg} {Fg} laws first second = record { cut = given_cut f sf Ff g sg Fg laws first second }
-
-cut_then : {A B : Type 0} {f : List ℕ → Result (A × List ℕ) ℕ} {sf : A → List ℕ} {Ff : A → Type 0} {g : List ℕ → Result (B × List ℕ) ℕ} {sg : B → List ℕ} {Fg : B → Type 0} → LawfulBytes f sf Ff → Cuts f sf Ff → Cuts g sg Fg
-    → Cuts (f ▷ g) (λ x. sf x.0 ++ sg x.1) (λ x. Ff x.0 × Fg x.1)
-cut_then {A} {B} {f} {sf} {Ff} {g} {sg} {Fg} laws first second = cut_given {f = f} {g = λ _. g} {Fg = λ _. Fg} laws first (λ _. second)
-
-each_cut : {A : Type 0} (f : List ℕ → Result (A × List ℕ) ℕ) (spell : A → List ℕ) (Fits : A → Type 0) → LawfulBytes f spell Fits → Cuts f spell Fits
-    → (xs : List A) (front : List ℕ) (b : ℕ) (rest : List ℕ) → All Fits xs → flat_map spell xs ≡ front ++ b ∷ rest → times f (length xs) front ≡ Err 0
-unfolding times
-each_cut f spell Fits laws cuts [] front b rest all e = absurd (nothing_cut front b rest e)
-each_cut f spell Fits laws cuts (x ∷ xs) front b rest all e =
-    elim (parted (spell x) (flat_map spell xs) front b rest (sym (flat_map-cons spell x xs) ∙ e)) [
-      | inl h ↦ rw (cuts.cut x front h.0 h.1 (All-head Fits x xs all) h.2) refl
-      | inr h ↦ ap (times f (suc (length xs))) h.1 ∙ rw (laws.again x h.0 (All-head Fits x xs all) tt, each_cut f spell Fits laws cuts xs h.0 b rest (All-tail Fits x xs all) h.2) refl
-    ]
-
-cut_times : {A : Type 0} {f : List ℕ → Result (A × List ℕ) ℕ} {spell : A → List ℕ} {Fits : A → Type 0} → LawfulBytes f spell Fits → Cuts f spell Fits → (n : ℕ)
-    → Cuts (times f n) (λ xs. flat_map spell xs) (λ xs. (length xs ≡ n) × All Fits xs)
-cut_times {A} {f} {spell} {Fits} laws cuts n = record { cut = λ xs front b rest fits e. ap (λ (m : ℕ). times f m front) (sym fits.0) ∙ each_cut f spell Fits laws cuts xs front b rest fits.1 e }
-
 -- ---- items
-
-cut_place : Cuts place_at place_bytes FitsPlace
-unfolding place_at
-cut_place =
-    cut_made (cut_then lawful_u64 (cut_number wide64 (λ n. n < 2 ^ 64)) (cut_checked is_share_len (cut_number wide32 (λ n. IsTrue (is_share_len n))))) (λ x. record { at = x.0; len = x.1 }) (λ p. (p.at, p.len)) FitsPlace
-    (λ p fits. (fits.0, share_to p.len fits.1.0 fits.1.1))
 
 cut_item : Cuts item_at kept_bytes FitsKept
 unfolding item_at

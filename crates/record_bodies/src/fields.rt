@@ -1,30 +1,15 @@
 //! Reading the fields of a Delete, a Kept and a Spent, from left to right.
 
-ghost use Rattle.std.specs.Int.{w32};
-ghost use Rattle.grammar.specs.Fields.{number_at, checked};
 ghost use Rattle.message_fields.specs.Parts.{times, behind};
 ghost use Rattle.message_fields.specs.Readings.{IsReading};
-ghost use Rattle.message_fields.specs.Shares.{is_share_len};
 ghost use Rattle.record_body.specs.Reading.{place_at};
 ghost use Rattle.record_bodies.specs.Reading.{item_at, delete_at, spent_at};
 ghost use Rattle.record_bodies.specs.Spelling.{Delete, Spent};
 
 use crate::{DeleteBody, KeptItem, SpentBody};
 use cd_base::{Tag, Version};
-use message_fields::{Left, array_of, fp_of, u32_of, u64_of, user_of};
+use message_fields::{Left, array_of, fp_of, share_len_of, u32_of, u64_of, user_of};
 use share_index::Place;
-
-// The length of a share, 1 to 8,208.
-fn share_len_of(bytes: &[u8]) -> Result<(u32, &[u8]), Left>
-    ensures { IsReading (λ x. (x.0, x.1.now)) result (checked is_share_len (number_at w32) bytes.now) }
-{
-    let (len, rest) = u32_of(bytes)?;
-    if 1 <= len && len <= 8208 {
-        Ok((len, rest))
-    } else {
-        Err(Left(bytes.len()))
-    }
-}
 
 #[tactic(auto, unfolding(record_body::specs::Reading::place_at))]
 fn place_of(bytes: &[u8]) -> Result<(Place, &[u8]), Left>

@@ -24,7 +24,7 @@ use Rattle.record_body.proofs.BodyLaws.{make_put, commit_of, fields_of, commit_b
 
 -- ---- two ways to part one list
 
-peeled : (x y : ℕ) (xs ys : List ℕ) → x ∷ xs ≡ y ∷ ys → (x ≡ y) × (xs ≡ ys)
+pub peeled : (x y : ℕ) (xs ys : List ℕ) → x ∷ xs ≡ y ∷ ys → (x ≡ y) × (xs ≡ ys)
 peeled x y xs ys e = (cc, cc)
 
 nothing_cut : (front : List ℕ) (b : ℕ) (rest : List ℕ) → [] ≡ front ++ b ∷ rest → ⊥
@@ -50,16 +50,16 @@ pub record Cuts {A : Type 0} (f : List ℕ → Result (A × List ℕ) ℕ) (spel
 is_less : (x front : List ℕ) (b : ℕ) (rest : List ℕ) (n : ℕ) → length x ≡ n → x ≡ front ++ b ∷ rest → ltb (length front) n ≡ true
 is_less x front b rest n len e = lt-ltb _ _ (omega (arith, ap length e, length-append front (b ∷ rest)))
 
-cut_bytes : (n : ℕ) → Cuts (bytes_at n) (λ x. x) (λ x. length x ≡ n)
+pub cut_bytes : (n : ℕ) → Cuts (bytes_at n) (λ x. x) (λ x. length x ≡ n)
 cut_bytes n = record { cut = λ x front b rest len e. rw (is_less x front b rest n len e) refl }
 
-cut_number : {w : Width} {limit : ℕ} → IsWide w limit → (Fits : ℕ → Type 0) → Cuts (number_at w) (λ n. to_be_bytes w n) Fits
+pub cut_number : {w : Width} {limit : ℕ} → IsWide w limit → (Fits : ℕ → Type 0) → Cuts (number_at w) (λ n. to_be_bytes w n) Fits
 cut_number {w} wide Fits = record { cut = λ n front b rest fits e. rw (is_less (to_be_bytes w n) front b rest (byte_len w) (wide.len n) e) refl }
 
-cut_checked : (ok : ℕ → Bool) {f : List ℕ → Result (ℕ × List ℕ) ℕ} {spell : ℕ → List ℕ} {Fits : ℕ → Type 0} → Cuts f spell Fits → Cuts (checked ok f) spell Fits
+pub cut_checked : (ok : ℕ → Bool) {f : List ℕ → Result (ℕ × List ℕ) ℕ} {spell : ℕ → List ℕ} {Fits : ℕ → Type 0} → Cuts f spell Fits → Cuts (checked ok f) spell Fits
 cut_checked ok cuts = record { cut = λ x front b rest fits e. rw (cuts.cut x front b rest fits e) refl }
 
-cut_made : {A B : Type 0} {f : List ℕ → Result (A × List ℕ) ℕ} {spell : A → List ℕ} {Fits : A → Type 0} → Cuts f spell Fits → (make : A → B) (unmake : B → A) (MadeFits : B → Type 0) → ((y : B) → MadeFits y → Fits (unmake y))
+pub cut_made : {A B : Type 0} {f : List ℕ → Result (A × List ℕ) ℕ} {spell : A → List ℕ} {Fits : A → Type 0} → Cuts f spell Fits → (make : A → B) (unmake : B → A) (MadeFits : B → Type 0) → ((y : B) → MadeFits y → Fits (unmake y))
     → Cuts (made make f) (λ y. spell (unmake y)) MadeFits
 cut_made cuts make unmake MadeFits here = record { cut = λ y front b rest fits e. rw (cuts.cut (unmake y) front b rest (here y fits) e) refl }
 
@@ -71,11 +71,11 @@ given_cut f sf Ff g sg Fg laws first second x front b rest fits e =
       | inr h ↦ ap (f ▷▷ g) h.1 ∙ rw (laws.again x.0 h.0 fits.0 tt, (second x.0).cut x.1 h.0 b rest fits.1 h.2) refl
     ]
 
-cut_given : {A B : Type 0} {f : List ℕ → Result (A × List ℕ) ℕ} {sf : A → List ℕ} {Ff : A → Type 0} {g : A → List ℕ → Result (B × List ℕ) ℕ} {sg : B → List ℕ} {Fg : A → B → Type 0} → LawfulBytes f sf Ff → Cuts f sf Ff → ((a : A) → Cuts (g a) sg (Fg a))
+pub cut_given : {A B : Type 0} {f : List ℕ → Result (A × List ℕ) ℕ} {sf : A → List ℕ} {Ff : A → Type 0} {g : A → List ℕ → Result (B × List ℕ) ℕ} {sg : B → List ℕ} {Fg : A → B → Type 0} → LawfulBytes f sf Ff → Cuts f sf Ff → ((a : A) → Cuts (g a) sg (Fg a))
     → Cuts (f ▷▷ g) (λ x. sf x.0 ++ sg x.1) (λ x. Ff x.0 × Fg x.0 x.1)
 cut_given {A} {B} {f} {sf} {Ff} {g} {sg} {Fg} laws first second = record { cut = given_cut f sf Ff g sg Fg laws first second }
 
-cut_then : {A B : Type 0} {f : List ℕ → Result (A × List ℕ) ℕ} {sf : A → List ℕ} {Ff : A → Type 0} {g : List ℕ → Result (B × List ℕ) ℕ} {sg : B → List ℕ} {Fg : B → Type 0} → LawfulBytes f sf Ff → Cuts f sf Ff → Cuts g sg Fg
+pub cut_then : {A B : Type 0} {f : List ℕ → Result (A × List ℕ) ℕ} {sf : A → List ℕ} {Ff : A → Type 0} {g : List ℕ → Result (B × List ℕ) ℕ} {sg : B → List ℕ} {Fg : B → Type 0} → LawfulBytes f sf Ff → Cuts f sf Ff → Cuts g sg Fg
     → Cuts (f ▷ g) (λ x. sf x.0 ++ sg x.1) (λ x. Ff x.0 × Fg x.1)
 cut_then {A} {B} {f} {sf} {Ff} {g} {sg} {Fg} laws first second = cut_given {f = f} {g = λ _. g} {Fg = λ _. Fg} laws first (λ _. second)
 
@@ -89,13 +89,13 @@ each_cut f spell Fits laws cuts (x ∷ xs) front b rest all e =
       | inr h ↦ ap (times f (suc (length xs))) h.1 ∙ rw (laws.again x h.0 (All-head Fits x xs all) tt, each_cut f spell Fits laws cuts xs h.0 b rest (All-tail Fits x xs all) h.2) refl
     ]
 
-cut_times : {A : Type 0} {f : List ℕ → Result (A × List ℕ) ℕ} {spell : A → List ℕ} {Fits : A → Type 0} → LawfulBytes f spell Fits → Cuts f spell Fits → (n : ℕ)
+pub cut_times : {A : Type 0} {f : List ℕ → Result (A × List ℕ) ℕ} {spell : A → List ℕ} {Fits : A → Type 0} → LawfulBytes f spell Fits → Cuts f spell Fits → (n : ℕ)
     → Cuts (times f n) (λ xs. flat_map spell xs) (λ xs. (length xs ≡ n) × All Fits xs)
 cut_times {A} {f} {spell} {Fits} laws cuts n = record { cut = λ xs front b rest fits e. ap (λ (m : ℕ). times f m front) (sym fits.0) ∙ each_cut f spell Fits laws cuts xs front b rest fits.1 e }
 
 -- ---- items
 
-cut_place : Cuts place_at place_bytes FitsPlace
+pub cut_place : Cuts place_at place_bytes FitsPlace
 unfolding place_at
 cut_place =
     cut_made (cut_then lawful_u64 (cut_number wide64 (λ n. n < 2 ^ 64)) (cut_checked is_share_len (cut_number wide32 (λ n. IsTrue (is_share_len n))))) (λ x. record { at = x.0; len = x.1 }) (λ p. (p.at, p.len)) FitsPlace

@@ -2,6 +2,7 @@
 use Rattle.std.specs.Prelude.{◌≡◌, ◌↔◌, ℕ, ◌+◌, ◌-◌, ◌≤◌, Bool, List, length, slice_index, is_some, IsSome, IfSome, None}
 use Rattle.std.specs.FinMap.{get}
 use Rattle.std.specs.Int.{w32, to_be_bytes}
+use Rattle.cd_base.specs.Limits.{recipe_limit}
 use Rattle.cd_base.specs.declared.ids.Fp.{Fp}
 use Rattle.cd_base.specs.declared.ids.UserId.{UserId}
 use Rattle.container_log.specs.Places.{LiesInOne}
@@ -69,17 +70,13 @@ pub data IsItemFault (area : ℕ) (index : CloudIndex) (user : UserId) (found : 
 
 -- ---- a Commit
 
--- the most bytes of a recipe
-abbrev pub longest_recipe : ℕ
-longest_recipe = 1180190
-
 -- the version has an entry
 abbrev pub IsEntered : CloudIndex → CommitBody → Type 0
 IsEntered index c = IsSome (get index.files.files (key_of c.user.0 c.tag.0 c.version.0))
 
 -- the recipe is no longer than one may be, and lies behind the end of the recipes
 abbrev pub RecipeLies : ℕ → CloudIndex → CommitBody → Type 0
-RecipeLies area index c = (c.len ≤ longest_recipe) × Lies index.recipes_end area c.at c.len
+RecipeLies area index c = (c.len ≤ recipe_limit) × Lies index.recipes_end area c.at c.len
 
 -- No check of the Commit fails.
 pub record IsRightCommit (area : ℕ) (index : CloudIndex) (c : CommitBody) : Type 0 where

@@ -4,15 +4,10 @@ ghost use Rattle.std.specs.Prelude.{◌↔◌, ◌≤◌, ◌+◌, IsTrue, Match
 ghost use Rattle.container_log.specs.Places.{LiesInOne};
 ghost use Rattle.record_replay.specs.Checks.{Lies, IsFlagged, LiesBehind, IsRightItem, IsItemFault, RecipeLies, IsRightCommit, IsCommitFault};
 
-use cd_base::UserId;
+use cd_base::{RECIPE_LIMIT, UserId};
 use cloud_index::CloudIndex;
+use container_log::CONTAINER;
 use record_body::{CommitBody, FoundItem, PutItem};
-
-// The bytes of a container. Container i takes the places from i times as many on.
-const CONTAINER: u64 = 4_194_304;
-
-// The most bytes of a recipe.
-const LONGEST: u32 = 1_180_190;
 
 // Where the tag and the place of a Commit stand in its body.
 const TAG: usize = 5;
@@ -85,7 +80,7 @@ pub(crate) fn item_fault(
 fn recipe_lies(index: &CloudIndex, area: u64, commit: &CommitBody) -> bool
     ensures { IsTrue result ↔ RecipeLies area index.now commit.now }
 {
-    commit.len <= LONGEST && lies(index.recipes_end(), area, commit.at, commit.len)
+    commit.len <= RECIPE_LIMIT && lies(index.recipes_end(), area, commit.at, commit.len)
 }
 
 /// The place in the body of the field of a Commit at which a check fails, or None where none does.

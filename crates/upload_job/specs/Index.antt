@@ -2,6 +2,7 @@
 use Rattle.std.specs.Prelude.{◌≡◌, ◌≢◌, ℕ, ◌+◌, ◌<◌, ◌≤◌, Bool, true, false, List, [], ◌∷◌, ◌++◌, length, map, take, drop, slice_range, slice_index_or, All, Option, Some, None, Ok, Err}
 use Rattle.cd_base.specs.declared.shape.Shape.{Shape}
 use Rattle.cd_base.specs.Lengths.{share_len_of}
+use Rattle.cd_base.specs.Limits.{secret_limit}
 use Rattle.message_fields.specs.Fingerprints.{batch_limit}
 use Rattle.message_fields.specs.Shares.{share_limit}
 use Rattle.messages.specs.declared.reply.Reply.{Reply}
@@ -49,7 +50,7 @@ pieces k (i ∷ is) shares = take (share_len_of k i.secret_len) shares ∷ piece
 -- there are so many bytes, and each item names its share
 pub record IsNamed (k : ℕ) (i : Item) (shares : List ℕ) : Type 0 where
   pub some : 1 ≤ i.secret_len
-  pub few : i.secret_len ≤ 16384
+  pub few : i.secret_len ≤ secret_limit
   pub room : share_len_of k i.secret_len ≤ length shares
   pub named : i.fp ≡ fingerprint (take (share_len_of k i.secret_len) shares)
 

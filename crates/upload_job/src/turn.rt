@@ -9,6 +9,7 @@ ghost use Rattle.upload_job.specs.Index.{state_in, next_in, IsReplyRead, TurnsBy
 use crate::lane::{Lane, Stage, Step, step_of};
 use crate::{LaneErr, LaneNews};
 use cd_base::NoMemory;
+use frames::FRAME_LIMIT;
 use messages::{MsgErr, Reply};
 use std::alloc::Global;
 
@@ -24,7 +25,7 @@ fn read_reply(alloc: Global, content: &[u8]) -> Result<Option<Reply>, NoMemory>
     ensures read { IfOk result (IsReplyRead content.now) }
     ensures malformed { (at : ℕ) → reply_at content.now ≡ Err at → is_of_entries content.now ≡ false → IsOk result }
 {
-    if content.len() > 4_194_304 {
+    if content.len() > FRAME_LIMIT {
         return Ok(None);
     }
     match Reply::read(alloc, content) {

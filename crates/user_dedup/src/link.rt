@@ -2,6 +2,7 @@
 
 ghost use Rattle.std.specs.Prelude.{◌≡◌, ℕ, ◌≤◌, IsTrue, IsOk, OnErr, Ok, Err, length};
 ghost use Rattle.cd_edges.specs.Causes.{Rose};
+ghost use Rattle.frames.specs.Frames.{frame_limit};
 ghost use Rattle.messages.specs.declared.request.Request.{Request};
 ghost use Rattle.user_dedup.specs.Requests.{asked_at};
 ghost use Rattle.user_dedup.specs.Link.{LinkTelling, Talk, Asks, AsksNothing, TellsSound, LeavesOthers, Says, SaysNothingElse, exchange_of};
@@ -28,7 +29,7 @@ pub trait Link {
     fn ask(&mut self, cloud: CloudNo, request: &[u8], reply: &mut ReplyBuf) -> Result<(), Lost>
         requires reached { IsTrue (tells.reaches self.old cloud.0) }
         requires some { 1 ≤ length request.now }
-        requires framed { length request.now ≤ 4194304 }
+        requires framed { length request.now ≤ frame_limit }
         ensures lost { OnErr result (Rose (tells.losses self.old) (tells.losses self.new)) }
         ensures later { tells.losses self.old ≤ tells.losses self.new }
         ensures lossless { IsTrue (tells.lossless self.old) → IsOk result × IsTrue (tells.lossless self.new) }
