@@ -230,3 +230,11 @@ sync_opened header begin c0 c1 c2 after result run synced is =
       unbegun = λ none. is.unbegun (subst IsUnbegun (sym same) none);
       others = others_on result c0 c1 c2 synced.others is.others;
     }
+
+-- where some half is begun, an opening behind a sync leaves what is read
+pub reopened : (c0 c1 c2 : Cloud) (result : Result (Unit {0}) OpenErr) → c1.now Journal ≡ stable (c0.now Journal).read → (IsUnbegun (c0.now Journal).read → ⊥)
+    → ((IsUnbegun (c1.now Journal).read → ⊥) → Stays c1 c2) → OnOk result ((c2.now Journal).read ≡ (c0.now Journal).read)
+reopened c0 c1 c2 (Ok value) synced some stays =
+    let same : (c1.now Journal).read ≡ (c0.now Journal).read = ap (λ (s : Store). s.read) synced in
+    ap (λ (a : Areas). (a Journal).read) (stays (λ none. some (subst IsUnbegun same none))).now ∙ same
+reopened c0 c1 c2 (Err e) synced some stays = tt

@@ -53,6 +53,16 @@ took_is before after now store w true (Err e) is half read none = absurd none
 took_is before after now store w false (Ok true) is half read none = absurd none
 took_is before after now store w false (Err Failed) is half read none = absurd none
 
+-- what is counted of the checkpoint's records moves no gate
+pub step_is : (from : records.State) (before after : State) (more : Bool) (result : Result Bool JournalErr) → steps.StepIs from before.current (Ok more) → TookIs before after more result
+    → steps.StepIs from after.current result
+step_is from before after true (Ok true) step same = subst (λ (s : State). steps.StepIs from s.current (Ok true)) (sym same) step
+step_is from before after false (Ok false) step took = subst (λ (s : State). steps.StepIs from s.current (Ok false)) (sym took.1) step
+step_is from before after false (Err e) step took = tt
+step_is from before after true (Ok false) step none = absurd none
+step_is from before after true (Err e) step none = absurd none
+step_is from before after false (Ok true) step none = absurd none
+
 pub err_is : (before after : State) (now : records.State) (store : Store) (w : Where) (e : JournalErr) → steps.NextIs before.current now store (all_bodies w) (Err e) → NextIs before after store w (Err e)
 err_is before after now store w (Damaged at byte) damage = inl damage
 err_is before after now store w Failed damage = tt

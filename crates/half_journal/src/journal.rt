@@ -5,7 +5,7 @@ ghost use Rattle.cd_edges.specs.Shelf.{IsCall, HasFailed, KeepsCounts, Stays};
 ghost use Rattle.journal_halves.specs.Halves.{half_len};
 ghost use Rattle.journal_start.specs.Spelling.{commands_of, records_of, region_of};
 ghost use Rattle.checkpoint_writing.specs.Leaving.{OthersStay, IsLater};
-ghost use Rattle.half_records.specs.Outcomes.{OnFailed, IsHandled};
+ghost use Rattle.half_records.specs.Outcomes.{StepIs, OnFailed, IsHandled};
 
 use crate::starts::{no_start, records_place};
 use cd_base::{CloudNo, NoMemory};
@@ -149,6 +149,7 @@ impl Journal {
         requires { (state_of self.old).stage ≡ Stage.Reading }
 
         ensures reads { ReadsNext (state_of self.old) (state_of self.new) (V.cloud_at shelf.old cloud.0) result }
+        ensures step { StepIs (state_of self.old).current (state_of self.new).current result }
         ensures stage { (state_of self.new).stage ≡ stage_of result }
         ensures start { (state_of self.new).start ≡ (state_of self.old).start }
         ensures limit { (state_of self.new).limit ≡ (state_of self.old).limit }

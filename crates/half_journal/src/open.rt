@@ -70,7 +70,7 @@ impl Journal {
     /// which no half is begun yet or half 0 has this header and no more. NotBegun comes exactly where no half is begun and
     /// `begin` is false. OtherStore comes exactly where the current half begins with another header. Damaged comes exactly as
     /// for `find`. Fault comes only where the cloud's count of faults rose. After an Err only `reopen`, `open` and `find` may
-    /// be called.
+    /// be called. After Ok the journal reads as before where some half was begun.
     pub fn reopen<V: Shelf>(
         &mut self,
         shelf: &mut V,
@@ -83,6 +83,10 @@ impl Journal {
         ensures opens { IsTrue (V.cloud_at shelf.old cloud.0).told
             → IsOpening asked.now begin (V.cloud_at shelf.old cloud.0) (V.cloud_at shelf.new cloud.0)
             (state_of self.new) result }
+        ensures begun { IsTrue (V.cloud_at shelf.old cloud.0).told
+            → ¬ IsUnbegun ((V.cloud_at shelf.old cloud.0).now Area.Journal).read
+            → OnOk result (((V.cloud_at shelf.new cloud.0).now Area.Journal).read
+            ≡ ((V.cloud_at shelf.old cloud.0).now Area.Journal).read) }
         ensures stage { (state_of self.new).stage ≡ stage_after Stage.Reading result }
         ensures limit { (state_of self.new).limit ≡ (state_of self.old).limit }
         ensures call { IsCall (V.cloud_at shelf.old) (V.cloud_at shelf.new) cloud.0
