@@ -1,0 +1,5 @@
+//! Checkpoints over clouds in memory.
+#![tactic(auto)]
+
+#[cfg(test)]
+mod tests;
