@@ -9,6 +9,3 @@ mod serve;
 mod top;
 
 pub use top::run;
-
-#[cfg(test)]
-mod tests;
