@@ -14,8 +14,6 @@ mod damage;
 #[cfg(test)]
 mod greatest;
 #[cfg(test)]
-mod reads;
-#[cfg(test)]
 mod replies;
 #[cfg(test)]
 mod requests;

@@ -1,9 +1,7 @@
 //! How often a server reads an area of its cloud.
 
-use crate::answers::is_stored;
 use crate::asking::{Cloud, SMALL, TWO, WIDE};
-use crate::replies::ONE_NEW;
-use crate::requests::{fps_of, put_of, recipe_request};
+use crate::requests::{commit_of, fps_of, put_of, recipe_of, recipe_request};
 use cd_base::{Bytes, NoMemory, sha256};
 use cd_edges::{Area, Shelf};
 use std::alloc::Global;
@@ -15,7 +13,11 @@ const SECOND: &[u8] = b"other share";
 
 const THIRD: &[u8] = b"third share";
 
+const ONE_NEW: &[u8] = &[0x83, 0, 1];
+
 const THREE_NEW: &[u8] = &[0x83, 0, 3];
+
+const COMMITTED: &[u8] = &[0x84];
 
 /// The kinds of replies: Recipe, Shares, Rotten.
 const RECIPE: u8 = 0x87;
@@ -63,10 +65,18 @@ fn shares_of_one_container_are_read_once(rt: HostRuntime) -> Result<(), Fail> {
     Ok(())
 }
 
+// Whether a share and a recipe of it are stored.
+fn is_stored(alloc: Global, cloud: &mut Cloud) -> Result<bool, NoMemory> {
+    let recipe = recipe_of(alloc, 5, &[sha256(FIRST)])?;
+    let put = put_of(alloc, 7, &[FIRST])?;
+    let commit = commit_of(alloc, 7, 1, 1, recipe.as_slice())?;
+    Ok(cloud.answers(&[(put.as_slice(), ONE_NEW), (commit.as_slice(), COMMITTED)]))
+}
+
 // Whether a recipe is read by one call, and by none when it is asked again.
 fn is_read_once(alloc: Global, cloud: &mut Cloud) -> Result<bool, NoMemory> {
     let get = recipe_request(alloc, 7, 1, 1)?;
-    let well = is_stored(alloc, cloud, 7, FIRST)? && cloud.reopen(false) == Ok(2);
+    let well = is_stored(alloc, cloud)? && cloud.reopen(false) == Ok(2);
     let first = takes(cloud, get.as_slice(), RECIPE, Area::Recipes, 1);
     let second = takes(cloud, get.as_slice(), RECIPE, Area::Recipes, 0);
     Ok(well && first && second)

@@ -1,0 +1,9 @@
+//! How often a server reads an area of its cloud, whose containers it keeps.
+#![tactic(auto)]
+
+#[cfg(test)]
+mod asking;
+#[cfg(test)]
+mod reads;
+#[cfg(test)]
+mod requests;
