@@ -16,16 +16,21 @@ pub fn law_of_starts()
     // no two starts have one spelling
     ensures one { (half : ℕ) (a b : Start) → IsStart half a → IsStart half b → start_bytes a ≡ start_bytes b → a ≡ b }
     // bytes behind a checkpoint's start are refused at the first of them
-    ensures extra { (half : ℕ) (start : Start) (checkpoint : Checkpoint) (byte : ℕ) (rest : List ℕ) → IsStart half start → start.checkpoint ≡ Some checkpoint
+    ensures extra { (half : ℕ) (start : Start) (checkpoint : Checkpoint) (byte : ℕ) (rest : List ℕ)
+        → IsStart half start → start.checkpoint ≡ Some checkpoint
         → start_at half (start_bytes start ++ byte ∷ rest) ≡ Err (Wrong (length (start_bytes start)) byte) }
 {}
 
 /// How long a start is.
 pub fn law_of_lengths()
-    ensures plain_first { (half : ℕ) (start : Start) → IsStart half start → start.header.format ≡ 1 → start.checkpoint ≡ None → length (start_bytes start) ≡ 8 }
-    ensures first { (half : ℕ) (start : Start) (checkpoint : Checkpoint) → IsStart half start → start.header.format ≡ 1 → start.checkpoint ≡ Some checkpoint → length (start_bytes start) ≡ 36 }
-    ensures plain_second { (half : ℕ) (start : Start) → IsStart half start → start.header.format ≡ 2 → start.checkpoint ≡ None → length (start_bytes start) ≡ 36 }
-    ensures second { (half : ℕ) (start : Start) (checkpoint : Checkpoint) → IsStart half start → start.header.format ≡ 2 → start.checkpoint ≡ Some checkpoint → length (start_bytes start) ≡ 57 }
+    ensures plain_first { (half : ℕ) (start : Start) → IsStart half start → start.header.format ≡ 1
+        → start.checkpoint ≡ None → length (start_bytes start) ≡ 8 }
+    ensures first { (half : ℕ) (start : Start) (checkpoint : Checkpoint) → IsStart half start → start.header.format ≡ 1
+        → start.checkpoint ≡ Some checkpoint → length (start_bytes start) ≡ 36 }
+    ensures plain_second { (half : ℕ) (start : Start) → IsStart half start → start.header.format ≡ 2
+        → start.checkpoint ≡ None → length (start_bytes start) ≡ 36 }
+    ensures second { (half : ℕ) (start : Start) (checkpoint : Checkpoint) → IsStart half start → start.header.format ≡ 2
+        → start.checkpoint ≡ Some checkpoint → length (start_bytes start) ≡ 57 }
 {}
 
 /// Rooms are allowed exactly where none of them breaks its range or its product.

@@ -68,7 +68,8 @@ impl Start {
     /// whose region is 0 or 1.
     #[tactic(auto, unfolding(crate::specs::Reading::start_at))]
     pub fn read(half: u8, body: &[u8]) -> Result<Start, StartFault>
-        ensures reads { MatchResult result (λ start. start_at half body.now ≡ Ok (fields_of start)) (λ fault. start_at half body.now ≡ Err fault) }
+        ensures reads { MatchResult result (λ start. start_at half body.now ≡ Ok (fields_of start))
+            (λ fault. start_at half body.now ≡ Err fault) }
         // The bytes are read as the start that they are the spelling of, and no other bytes are read.
         ensures grammar { (start : Start) → (result ≡ Ok start) ↔ IsSpelled half body.now start }
         // The place of an error is one of the bytes.

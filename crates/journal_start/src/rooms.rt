@@ -64,8 +64,11 @@ impl Rooms {
         owners: u32,
         files: u32,
     ) -> Result<Rooms, RoomsField>
-        ensures { MatchResult result (λ rooms. (rooms ≡ record { users = users; shares = shares; recipes = recipes; owners = owners; files = files }) × AreRooms rooms)
-            (λ field. first_broken (record { users = users; shares = shares; recipes = recipes; owners = owners; files = files }) ≡ Some field) }
+        ensures { MatchResult result
+            (λ rooms. (rooms ≡ record { users = users; shares = shares; recipes = recipes; owners = owners; files = files })
+            × AreRooms rooms)
+            (λ field. first_broken (record { users = users; shares = shares; recipes = recipes; owners = owners; files = files })
+            ≡ Some field) }
     {
         if !are_users(users) {
             return Err(RoomsField::Users);
