@@ -1,0 +1,13 @@
+use Rattle.command_list.specs.Asking.{Begun, Added}
+use Rattle.command_list.proofs.Sound.{sound_before, was_there, keys_apart, entries_owned}
+use Rattle.command_list.proofs.laws.law_of_sound_lists.Goals as goal
+
+pub returns : goal.returns
+returns c = record {
+  begun = λ shape cloud. Begun;
+  added = λ shape cloud list ask command sound fits recipe adds. Added list ask command sound fits recipe adds;
+  before = sound_before;
+  there = was_there;
+  apart = keys_apart;
+  owned = entries_owned;
+}

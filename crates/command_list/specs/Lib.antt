@@ -1,0 +1,4 @@
+pub mod Commands
+pub mod Asking
+pub mod Spending
+pub mod Compact
