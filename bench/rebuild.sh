@@ -6,7 +6,8 @@
 #
 # The memory of the rebuild alone: a session is given its lines one after another, and when all that comes before the rebuild is answered
 # the greatest memory of its process so far is forgotten (clear_refs). What it then has at most, less what it had, is the rebuild's. What
-# is freed goes back to the system at once, so that no memory of the uploads is left to be used again unseen.
+# is freed goes back to the system at once, so that no memory of the uploads is left to be used again unseen; and each file is read once
+# from the three other clouds before, so that their servers have the containers that they keep.
 . "$(dirname "$0")/build.sh"
 programs
 python3 - "$hashes" "$cdstore" "$work" <<'PY'
@@ -54,6 +55,8 @@ def own_memory(files, long):
         for job in range(1, files + 1):
             asked(f"upload 7 {job:02x} 1 {os.urandom(long).hex()}\nfinish {job}\n", f"end {job} stored")
         asked("replace 3\n", "replaced 3")
+        for job in range(1, files + 1):
+            asked(f"get 7 {job:02x} 1 0,1,2\n", "got")
         with open(f"/proc/{process.pid}/clear_refs", "w") as greatest:
             greatest.write("5")
         before = memory(process, "VmRSS")
