@@ -22,7 +22,7 @@ enum Case {
 // Whether the clouds did as they should.
 fn tried(alloc: Global, case: Case, link: &mut LocalLink<'_, MemShelf>) -> Result<bool, Fail> {
     match case {
-        Case::Pages => fills::six_hundred(alloc, link),
+        Case::Pages => fills::two_thousand(alloc, link),
         Case::FullPage => fills::one_full_page(alloc, link),
         Case::Skips => skips::skips_have_their_reasons(alloc, link),
         Case::Cuts => stops::each_call_cut_once(alloc, link),
@@ -41,7 +41,7 @@ fn holds(alloc: Global, case: Case) -> Result<bool, Fail> {
 }
 
 #[test]
-fn six_hundred_files_in_three_pages(rt: HostRuntime) -> Result<(), Fail> {
+fn two_thousand_files_in_eight_pages(rt: HostRuntime) -> Result<(), Fail> {
     assert!(rt; holds(rt.alloc(), Case::Pages)?);
     Ok(())
 }

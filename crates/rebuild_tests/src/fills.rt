@@ -8,8 +8,9 @@ use std::alloc::Global;
 use std::test::Fail;
 
 // The digits of a number, which are a file's path and its content.
-fn digits(number: u16) -> [u8; 3] {
+fn digits(number: u16) -> [u8; 4] {
     [
+        48 + (number / 1000 % 10) as u8,
         48 + (number / 100 % 10) as u8,
         48 + (number / 10 % 10) as u8,
         48 + (number % 10) as u8,
@@ -36,11 +37,11 @@ fn file_comes_back(
     comes_back(alloc, link, &name, &name)
 }
 
-/// Six hundred files, in three pages.
-pub fn six_hundred(alloc: Global, link: &mut LocalLink<'_, MemShelf>) -> Result<bool, Fail> {
-    store_files(alloc, link, 600)?;
-    let mut held = filled(alloc, link, 7)? == End::whole(600, 0);
-    for number in [0, 1, 255, 256, 257, 511, 512, 599] {
+/// Two thousand files, in eight pages.
+pub fn two_thousand(alloc: Global, link: &mut LocalLink<'_, MemShelf>) -> Result<bool, Fail> {
+    store_files(alloc, link, 2000)?;
+    let mut held = filled(alloc, link, 7)? == End::whole(2000, 0);
+    for number in [0, 255, 256, 257, 511, 512, 1791, 1792, 1999] {
         held = file_comes_back(alloc, link, number)? && held;
     }
     Ok(held)

@@ -24,23 +24,23 @@ pub fn shape() -> Shape {
 /// The cloud that is filled.
 pub const TARGET: CloudNo = CloudNo(3);
 
-/// Rooms for some hundred files.
+/// Rooms for some thousand files.
 pub fn rooms() -> Rooms
     ensures { AreRooms result }
 {
     Rooms {
-        shares: 100_000,
-        recipes: 100_000,
-        journal: 200_000,
-        fps: 1000,
-        owners: 1000,
-        files: 1000,
+        shares: 300_000,
+        recipes: 300_000,
+        journal: 600_000,
+        fps: 3000,
+        owners: 3000,
+        files: 3000,
     }
 }
 
-/// Clouds that hold nothing, with memory for some hundred uploads of a few bytes.
+/// Clouds that hold nothing, with memory for some thousand uploads of a few bytes.
 pub fn shelf(alloc: Global) -> Result<MemShelf, NoMemory> {
-    MemShelf::of(alloc, 4, 400_000, 100_000, &[])
+    MemShelf::of(alloc, 4, 600_000, 300_000, &[])
 }
 
 /// A link over them.
