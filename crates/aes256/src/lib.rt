@@ -14,6 +14,3 @@ mod substitution;
 mod transposition;
 
 pub use cipher::{Key, block};
-
-#[cfg(test)]
-mod tests;

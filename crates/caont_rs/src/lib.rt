@@ -15,6 +15,3 @@ mod sealing;
 pub use names::{name_package, name_share, tag_of};
 pub use opening::{RecoverErr, recover};
 pub use sealing::disperse;
-
-#[cfg(test)]
-mod tests;

@@ -120,28 +120,3 @@ impl Bytes {
         self.items.clear();
     }
 }
-
-#[cfg(test)]
-mod tests {
-    use super::*;
-    use std::test::Fail;
-
-    #[test]
-    fn grows(rt: HostRuntime) -> Result<(), Fail> {
-        let mut bytes = Bytes::with_capacity(rt.alloc(), 1)?;
-        assert!(rt; bytes.is_empty());
-        bytes.push(1)?;
-        bytes.extend(&[2, 3])?;
-        assert_eq!(rt; bytes.as_slice(), [1, 2, 3].as_slice());
-        assert_eq!(rt; bytes.get(2).copied(), Some(3));
-        assert_eq!(rt; bytes.get(3).copied(), None);
-        bytes.as_mut_slice()[0] = 7;
-        bytes.resize(4, 9)?;
-        assert_eq!(rt; bytes.as_slice(), [7, 2, 3, 9].as_slice());
-        bytes.truncate(1);
-        assert_eq!(rt; bytes.as_slice(), [7].as_slice());
-        bytes.clear();
-        assert!(rt; bytes.is_empty());
-        Ok(())
-    }
-}

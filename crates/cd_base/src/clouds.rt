@@ -92,25 +92,3 @@ impl Clouds {
         self.items.clear();
     }
 }
-
-#[cfg(test)]
-mod tests {
-    use super::*;
-    use std::test::Fail;
-
-    #[test]
-    fn rises_by_itself(rt: HostRuntime) -> Result<(), Fail> {
-        let mut clouds = Clouds::new(rt.alloc());
-        for number in [0, 2, 2, 1, 5] {
-            if clouds.can_push(CloudNo(number)) {
-                clouds.push(CloudNo(number))?;
-            }
-        }
-        assert_eq!(rt; clouds.len(), 3);
-        assert_eq!(rt; clouds.get(1).copied(), Some(CloudNo(2)));
-        assert_eq!(rt; clouds.get(2).copied(), Some(CloudNo(5)));
-        clouds.clear();
-        assert_eq!(rt; clouds.get(0).copied(), None);
-        Ok(())
-    }
-}

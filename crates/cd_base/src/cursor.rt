@@ -108,25 +108,3 @@ impl<'a> Cursor<'a> {
         Some(BigEndian::read_u64(front))
     }
 }
-
-#[cfg(test)]
-mod tests {
-    use super::*;
-
-    #[test]
-    fn takes_from_front_to_back(rt: HostRuntime) {
-        let bytes = [7, 1, 2, 0, 64, 0, 1, 0, 0, 0, 1, 0, 0, 0, 9, 3, 5];
-        let mut cursor = Cursor::over(&bytes);
-        assert_eq!(rt; cursor.take_u8(), Some(7));
-        assert_eq!(rt; cursor.take_u16(), Some(258));
-        assert_eq!(rt; cursor.take_u32(), Some(4_194_305));
-        assert_eq!(rt; cursor.take_u64(), Some(4_294_967_305));
-        assert_eq!(rt; cursor.at(), 15);
-        assert_eq!(rt; cursor.left(), 2);
-        assert_eq!(rt; cursor.take_u32(), None);
-        assert_eq!(rt; cursor.take_bytes(3), None);
-        assert_eq!(rt; cursor.take_bytes(2), Some([3, 5].as_slice()));
-        assert_eq!(rt; cursor.take_u8(), None);
-        assert_eq!(rt; cursor.at(), 17);
-    }
-}

@@ -92,26 +92,3 @@ impl Fps {
         self.items.clear();
     }
 }
-
-#[cfg(test)]
-mod tests {
-    use super::*;
-    use std::test::Fail;
-
-    #[test]
-    fn grows(rt: HostRuntime) -> Result<(), Fail> {
-        let one = Fp([1; 32]);
-        let two = Fp([2; 32]);
-        let mut fps = Fps::new(rt.alloc());
-        fps.push(one)?;
-        fps.extend(&[two, one])?;
-        assert_eq!(rt; fps.as_slice(), [one, two, one].as_slice());
-        assert_eq!(rt; fps.get(1).copied(), Some(two));
-        assert_eq!(rt; fps.get(3).copied(), None);
-        fps.truncate(2);
-        assert_eq!(rt; fps.len(), 2);
-        fps.clear();
-        assert!(rt; fps.is_empty());
-        Ok(())
-    }
-}

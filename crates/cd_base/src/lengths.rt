@@ -17,18 +17,3 @@ pub fn share_len(shape: Shape, secret_len: u32) -> u32
     let k = shape.k() as u32;
     (secret_len + 31 + k) / k
 }
-
-#[cfg(test)]
-mod tests {
-    use super::*;
-    use std::test::Fail;
-
-    #[test]
-    fn lengths(rt: HostRuntime) -> Result<(), Fail> {
-        for (n, k, secret_len, wanted) in [(4, 3, 1, 11), (4, 3, 2, 12), (16, 15, 16384, 1095)] {
-            let shape = Shape::of(n, k).unwrap_or(Shape { n: 4, k: 3 });
-            assert_eq!(rt; share_len(shape, secret_len), wanted);
-        }
-        Ok(())
-    }
-}

@@ -16,17 +16,3 @@ fn has_no_zero(bytes: &[u8]) -> bool
 {
     bytes.iter().all(|byte| *byte != 0)
 }
-
-#[cfg(test)]
-mod tests {
-    use super::*;
-
-    #[test]
-    fn names(rt: HostRuntime) {
-        assert!(rt; is_path(b"a"));
-        assert!(rt; !is_path(b""));
-        assert!(rt; !is_path(b"a\0b"));
-        assert!(rt; is_path(&[1; 1024]));
-        assert!(rt; !is_path(&[1; 1025]));
-    }
-}

@@ -14,6 +14,3 @@ pub use shelf::MemShelf;
 pub use sink::MemSink;
 pub use source::MemSource;
 pub use untold::UntoldShelf;
-
-#[cfg(test)]
-mod tests;

@@ -10,6 +10,3 @@ mod rooms;
 
 pub use index::CloudIndex;
 pub use rooms::{Full, New};
-
-#[cfg(test)]
-mod tests;

@@ -9,6 +9,3 @@ mod rows;
 pub use command::{BackupWords, Command, GenerateWords, ReadWords, RestoreWords, ServeWords};
 pub use laws::law_of_words;
 pub use rows::read_words;
-
-#[cfg(test)]
-mod tests;

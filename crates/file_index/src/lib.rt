@@ -209,6 +209,3 @@ impl FileIndex {
         self.table.clear();
     }
 }
-
-#[cfg(test)]
-mod tests;

@@ -7,6 +7,3 @@ pub mod laws;
 
 pub use cloud_file::{CloudFile, CloudFiles};
 pub use disperse::{disperse_file, disperse_for};
-
-#[cfg(test)]
-mod tests;

@@ -10,6 +10,3 @@ pub use framer::{FrameErr, Framer};
 pub use laws::{law_of_frames, law_of_runs, law_of_streams};
 pub use lengths::{FRAME_LIMIT, header, is_length};
 pub use reply_buf::ReplyBuf;
-
-#[cfg(test)]
-mod tests;

@@ -12,6 +12,3 @@ pub use hexadecimal::{decode, encode};
 pub use numerals::{capped_field, number_of, u32_field, u64_field};
 pub use stop::Stop;
 pub use words::{after, before, cut_word, len_to};
-
-#[cfg(test)]
-mod tests;

@@ -16,6 +16,3 @@ pub use fault::StartFault;
 pub use rooms::{Rooms, RoomsField};
 pub use start::{Checkpoint, Header, Start};
 pub use writing::StartBytes;
-
-#[cfg(test)]
-mod tests;

@@ -13,6 +13,3 @@ mod views;
 
 pub use command_list::CommandList;
 pub use store::ListLink;
-
-#[cfg(test)]
-mod tests;

@@ -111,6 +111,3 @@ mod tree;
 pub use hashed::HashTable;
 pub use number::Number;
 pub use sorted::SortedTable;
-
-#[cfg(test)]
-mod tests;

@@ -11,6 +11,3 @@ pub use folder::DirShelf;
 pub use sockets::TcpPorts;
 pub use streams::{StdSink, StdSource};
 pub use tally::Tally;
-
-#[cfg(test)]
-mod tests;

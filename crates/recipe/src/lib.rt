@@ -13,6 +13,3 @@ pub use items::{Item, Items};
 pub use recipe::{Malformed, Recipe, RecipeErr};
 pub use rules::ITEM_LIMIT;
 pub use view::RecipeView;
-
-#[cfg(test)]
-mod tests;

@@ -16,6 +16,3 @@ pub use items::KeptItems;
 pub use record_body::{BodyErr, CommitBody, FoundItem, PutItem, PutItems};
 pub use view::BodyView;
 pub use writing::BodyBuf;
-
-#[cfg(test)]
-mod tests;

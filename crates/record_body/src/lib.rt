@@ -14,6 +14,3 @@ pub use body::{BodyErr, CommitBody, FoundItem, PutItem};
 pub use items::PutItems;
 pub use view::BodyView;
 pub use writing::RecordBuf;
-
-#[cfg(test)]
-mod tests;

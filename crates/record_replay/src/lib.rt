@@ -12,6 +12,3 @@ mod refusal;
 
 pub use record::replay;
 pub use refusal::{AreaLengths, Refusal};
-
-#[cfg(test)]
-mod tests;

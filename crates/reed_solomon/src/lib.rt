@@ -101,6 +101,3 @@ pub fn code_laws()
     // of three pieces the next share is the sum
     ensures sum_of_three { (s : Shape) (pieces : List ℕ) (c : ℕ) → s.k ≡ 3 → All (λ b. b < 256) pieces → share_byte s pieces 3 c ≡ bit_xor (bit_xor (share_byte s pieces 0 c) (share_byte s pieces 1 c)) (share_byte s pieces 2 c) }
 {}
-
-#[cfg(test)]
-mod tests;

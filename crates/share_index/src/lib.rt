@@ -406,6 +406,3 @@ impl ShareIndex {
         self.unplaced = 0;
     }
 }
-
-#[cfg(test)]
-mod tests;

@@ -15,6 +15,3 @@ pub use line::{Line, SkipWord};
 pub use news::News;
 pub use refusal::{Refusal, TargetWhy};
 pub use writing::write_line;
-
-#[cfg(test)]
-mod tests;

@@ -13,6 +13,3 @@ mod wanted;
 
 pub use job::Job;
 pub use news::{LaneErr, LaneNews};
-
-#[cfg(test)]
-mod tests;

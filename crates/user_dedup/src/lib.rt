@@ -14,6 +14,3 @@ pub use file_list::{FileEntry, FileList};
 pub use link::{Link, Lost};
 pub use owning::{known, missing_place};
 pub use view::View;
-
-#[cfg(test)]
-mod tests;

@@ -1,5 +1,7 @@
-use super::*;
+//! Tests of file_recipe.
+
 use cd_base::{Bytes, CloudNo, Fp, NoMemory, Shape, sha256};
+use file_recipe::{CloudFiles, disperse_file, disperse_for};
 use recipe::RecipeView;
 use std::alloc::Global;
 use std::test::Fail;

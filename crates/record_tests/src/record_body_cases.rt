@@ -1,5 +1,7 @@
-use super::*;
+//! Tests of record_body.
+
 use cd_base::{Fp, NoMemory, Tag, UserId, Version};
+use record_body::{BodyErr, BodyView, CommitBody, FoundItem, PutItem, RecordBuf};
 use share_index::Place;
 use std::alloc::Global;
 use std::test::Fail;
@@ -79,17 +81,6 @@ fn with_byte(
     Ok(fault_in(bytes.as_slice()))
 }
 
-// Whether each proper beginning is too short.
-fn is_short_everywhere(body: &[u8]) -> bool {
-    for len in 0..body.len() {
-        let (front, _) = body.split_at(len);
-        if fault_in(front) != Some(BodyErr::Short) {
-            return false;
-        }
-    }
-    true
-}
-
 #[test]
 fn a_stored_share(rt: HostRuntime) -> Result<(), Fail> {
     let mut buf = RecordBuf::make(rt.alloc())?;
@@ -112,13 +103,6 @@ fn an_entered_version(rt: HostRuntime) -> Result<(), Fail> {
     buf.write_commit(&entered());
     assert_eq!(rt; buf.as_slice(), ENTERS.as_slice());
     assert_eq!(rt; commit_in(&ENTERS), Some(entered()));
-    Ok(())
-}
-
-#[test]
-fn each_cut(rt: HostRuntime) -> Result<(), Fail> {
-    assert!(rt; is_short_everywhere(&STORES));
-    assert!(rt; is_short_everywhere(&ENTERS));
     Ok(())
 }
 

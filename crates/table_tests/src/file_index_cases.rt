@@ -1,9 +1,12 @@
-// The order of versions, users apart, and a comparison with std's map.
-use super::*;
-use cd_base::Fp;
+//! Tests of file_index.
+
+use cd_base::{Fp, Tag, UserId, Version};
+use file_index::{Entry, FileIndex, IndexErr};
 use std::collections::BTreeMap;
 use std::process::Abort;
 use std::test::Fail;
+
+// The order of versions, users apart, and a comparison with std's map.
 
 fn entry(at: u64) -> Entry {
     Entry {
@@ -22,39 +25,6 @@ fn add(index: &mut FileIndex, user: u32, tag: u8, version: u64) -> Option<IndexE
     index.put(user, tag, version, entry(version.0)).err()
 }
 
-// The user's files in order, as numbers: the tag's first byte and the version.
-fn listed(index: &FileIndex, user: u32, out: &mut Vec<(u8, u64)>) -> Result<(), Fail> {
-    let mut last = None;
-    for _step in 0..100 {
-        match index.after(UserId(user), last) {
-            Some((tag, version)) => {
-                out.push((tag.0[0], version.0))?;
-                last = Some((tag, version));
-            }
-            None => break,
-        }
-    }
-    Ok(())
-}
-
-#[test]
-fn full_at_one_file(rt: HostRuntime) -> Result<(), Fail> {
-    let mut index = FileIndex::make(rt.alloc(), 1)?;
-    assert_eq!(rt; add(&mut index, 1, 1, 1), None);
-    assert_eq!(rt;
-        add(&mut index, 1, 1, 2),
-        Some(IndexErr::Full { used: 1, limit: 1 })
-    );
-    let tag = Tag([1; 32]);
-    if index.get(UserId(1), &tag, Version(1)).is_some() {
-        index.move_entry(UserId(1), &tag, Version(1), entry(3));
-    }
-    assert_eq!(rt; index.remove(UserId(1), &tag, Version(1)), Some(entry(3)));
-    assert_eq!(rt; index.remove(UserId(1), &Tag([1; 32]), Version(1)), None);
-    assert_eq!(rt; index.len(), 0);
-    Ok(())
-}
-
 #[test]
 fn full_by_user(rt: HostRuntime) -> Result<(), Fail> {
     let mut index = FileIndex::for_users(rt.alloc(), 2, 1)?;
@@ -70,31 +40,6 @@ fn full_by_user(rt: HostRuntime) -> Result<(), Fail> {
     );
     index.clear();
     assert_eq!(rt; add(&mut index, 0, 2, 1), None);
-    Ok(())
-}
-
-#[test]
-fn lists_one_user_in_order(rt: HostRuntime) -> Result<(), Fail> {
-    let mut index = FileIndex::make(rt.alloc(), 8)?;
-    for (user, tag, version) in [
-        (2, 5, 4294967296),
-        (1, 5, 3),
-        (2, 5, 4294967295),
-        (2, 0, 0),
-        (3, 5, 1),
-        (2, 5, 4294967297),
-    ] {
-        assert_eq!(rt; add(&mut index, user, tag, version), None);
-    }
-    let mut out = Vec::new(rt.alloc());
-    listed(&index, 2, &mut out)?;
-    assert_eq!(rt;
-        out.as_slice(),
-        [(0, 0), (5, 4294967295), (5, 4294967296), (5, 4294967297)].as_slice()
-    );
-    let mut none = Vec::new(rt.alloc());
-    listed(&index, 4, &mut none)?;
-    assert!(rt; none.is_empty());
     Ok(())
 }
 

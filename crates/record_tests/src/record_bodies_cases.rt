@@ -1,5 +1,9 @@
-use super::*;
+//! Tests of record_bodies.
+
 use cd_base::{Fp, NoMemory, Tag, UserId, Version};
+use record_bodies::{
+    BodyBuf, BodyErr, BodyView, DeleteBody, FoundKept, KeptItem, PutItem, SpentBody,
+};
 use share_index::Place;
 use std::alloc::Global;
 use std::test::Fail;
@@ -100,24 +104,6 @@ fn with_byte(
     Ok(fault_in(bytes.as_slice()))
 }
 
-// What is wrong with a body that has one byte more.
-fn with_more(body: &[u8], alloc: Global) -> Result<Option<BodyErr>, NoMemory> {
-    let mut bytes = body.to_vec(alloc)?;
-    bytes.push(0)?;
-    Ok(fault_in(bytes.as_slice()))
-}
-
-// Whether each proper beginning is too short.
-fn is_short_everywhere(body: &[u8]) -> bool {
-    for len in 0..body.len() {
-        let (front, _) = body.split_at(len);
-        if fault_in(front) != Some(BodyErr::Short) {
-            return false;
-        }
-    }
-    true
-}
-
 #[test]
 fn a_version_taken_out(rt: HostRuntime) -> Result<(), Fail> {
     let mut buf = BodyBuf::make(rt.alloc())?;
@@ -161,23 +147,6 @@ fn a_stored_share(rt: HostRuntime) -> Result<(), Fail> {
     });
     assert_eq!(rt; buf.as_slice(), STORES.as_slice());
     assert_eq!(rt; fault_in(&STORES), None);
-    Ok(())
-}
-
-#[test]
-fn each_cut(rt: HostRuntime) -> Result<(), Fail> {
-    assert!(rt; is_short_everywhere(&TAKES_OUT));
-    assert!(rt; is_short_everywhere(&KEEPS));
-    assert!(rt; is_short_everywhere(&SPENDS));
-    Ok(())
-}
-
-#[test]
-fn each_byte_more(rt: HostRuntime) -> Result<(), Fail> {
-    let a = rt.alloc();
-    assert_eq!(rt; with_more(&TAKES_OUT, a)?, Some(BodyErr::Extra { at: 45 }));
-    assert_eq!(rt; with_more(&KEEPS, a)?, Some(BodyErr::Extra { at: 47 }));
-    assert_eq!(rt; with_more(&SPENDS, a)?, Some(BodyErr::Extra { at: 25 }));
     Ok(())
 }
 

@@ -1,5 +1,7 @@
-use super::*;
+//! Tests of journal_start.
+
 use cd_base::{CloudNo, Shape};
+use journal_start::{Checkpoint, Header, Rooms, RoomsField, Start, StartFault};
 use std::test::Fail;
 
 // Cloud 2 of the shape 4, 3, in format 1.

@@ -1,9 +1,12 @@
-// Both tables at a concrete key, through the trait.
-use super::*;
+//! Tests of pool_map.
+
+use pool_map::{HashTable, Key, SortedTable, Table};
 use std::alloc::Global;
 use std::collections::BTreeMap;
 use std::process::Abort;
 use std::test::Fail;
+
+// Both tables at a concrete key, through the trait.
 
 // A key of which many have the same word.
 #[derive(Clone, Copy, Debug, PartialEq, Eq, PartialOrd, Ord)]
@@ -91,36 +94,6 @@ fn matches_slots<T: Table<Crowded, u64>>(rt: &impl Abort, table: &T, model: &BTr
     assert!(rt; table.at(table.slots()).is_none());
 }
 
-// What two inserts of different keys into a table of one slot answer.
-fn fills<T: Table<Number, u8>>(rt: &impl Abort, table: &mut T) -> Result<(), Fail> {
-    let one = Number { value: 1 };
-    let two = Number { value: 2 };
-    assert_eq!(rt; table.accounts(), 1);
-    assert_eq!(rt; table.get(&one), None);
-    assert_eq!(rt; table.insert(0, one, 10), Ok(()));
-    assert_eq!(rt; table.accounts(), 1);
-    assert_eq!(rt; table.get(&two), None);
-    assert_eq!(rt;
-        table.insert(0, two, 20),
-        Err(TableFull { used: 1, limit: 1 })
-    );
-    assert_eq!(rt; table.get(&one), Some(&10));
-    Ok(())
-}
-
-#[test]
-fn tables_of_one_slot(rt: HostRuntime) -> Result<(), Fail> {
-    fills(
-        &rt,
-        &mut HashTable::<Number, u8>::make(rt.alloc(), 1, [1].as_slice())?,
-    )?;
-    fills(
-        &rt,
-        &mut SortedTable::<Number, u8>::make(rt.alloc(), 1, [1].as_slice())?,
-    )?;
-    Ok(())
-}
-
 #[test]
 fn tables_answer_alike(rt: HostRuntime) -> Result<(), Fail> {
     let mut hashed = HashTable::<Crowded, u64>::make(rt.alloc(), 50, [10, 40].as_slice())?;
@@ -128,46 +101,5 @@ fn tables_answer_alike(rt: HostRuntime) -> Result<(), Fail> {
     let one = replay(&rt, rt.alloc(), &mut hashed)?;
     let other = replay(&rt, rt.alloc(), &mut sorted)?;
     assert_eq!(rt; one, other);
-    Ok(())
-}
-
-#[test]
-fn goes_through_keys_in_order(rt: HostRuntime) -> Result<(), Fail> {
-    let mut table = SortedTable::<Number, u8>::make(rt.alloc(), 3, [3].as_slice())?;
-    for value in [30u64, 10, 20] {
-        let key = Number { value };
-        assert_eq!(rt; table.accounts(), 1);
-        if table.get(&key).is_none() {
-            assert_eq!(rt; table.insert(0, key, 0), Ok(()));
-        }
-    }
-    for (value, want) in [
-        (0, Some(10)),
-        (10, Some(20)),
-        (19, Some(20)),
-        (20, Some(30)),
-        (30, None),
-    ] {
-        assert_eq!(rt; table.above(&Number { value }).map(|key| key.value), want);
-    }
-    let twenty = Number { value: 20 };
-    if table.get(&twenty).is_some() {
-        assert_eq!(rt; table.replace(&twenty, 5), 0);
-    }
-    assert_eq!(rt; table.get(&twenty), Some(&5));
-    Ok(())
-}
-
-#[test]
-fn replaces_in_place(rt: HostRuntime) -> Result<(), Fail> {
-    let mut table = HashTable::<Crowded, u8>::make(rt.alloc(), 2, [2].as_slice())?;
-    let key = Crowded { value: 5 };
-    assert_eq!(rt; table.accounts(), 1);
-    assert_eq!(rt; table.get(&key), None);
-    assert_eq!(rt; table.insert(0, key, 7), Ok(()));
-    if table.get(&key).is_some() {
-        assert_eq!(rt; table.replace(&key, 8), 7);
-    }
-    assert_eq!(rt; table.get(&key), Some(&8));
     Ok(())
 }

@@ -1,7 +1,8 @@
 //! What a cloud answers in turn, from the bytes of requests to those of replies.
-use crate::ListLink;
-use cd_base::{Bytes, CloudNo, Shape, sha256};
+
+use cd_base::{Bytes, CloudNo, Shape};
 use frames::ReplyBuf;
+use list_link::ListLink;
 use std::alloc::Global;
 use std::test::Fail;
 use user_dedup::Link;
@@ -58,56 +59,5 @@ fn contents_of_one_server(rt: HostRuntime) -> Result<(), Fail> {
     assert!(rt; is_answered(&mut link, &mut buf, 2, &put, &[0x83, 0, 1])?);
     assert!(rt; is_answered(&mut link, &mut buf, 2, &put, &[0x83, 0, 0])?);
     assert!(rt; is_answered(&mut link, &mut buf, 2, &[1], &[0x81, 4, 3, 2, 1])?);
-    Ok(())
-}
-
-#[test]
-fn the_same_user_again_and_another_user(rt: HostRuntime) -> Result<(), Fail> {
-    let a = rt.alloc();
-    let mut link = link_of(a)?;
-    let mut buf = ReplyBuf::make(a)?;
-    let fp = sha256(b"A");
-    let put = [3, 0, 0, 0, 7, 0, 1, 0, 0, 0, 1, 65];
-    let known = joined(a, &[2, 0, 0, 0, 7, 0, 1], &fp.0)?;
-    let other = joined(a, &[2, 0, 0, 0, 8, 0, 1], &fp.0)?;
-    let given = joined(a, &[6, 0, 0, 0, 7, 0, 1], &fp.0)?;
-    assert!(rt; is_answered(&mut link, &mut buf, 2, &put, &[0x83, 0, 1])?);
-    assert!(rt; is_answered(&mut link, &mut buf, 2, known.as_slice(), &[0x82, 0, 1, 1])?);
-    assert!(rt; is_answered(&mut link, &mut buf, 2, other.as_slice(), &[0x82, 0, 1, 0])?);
-    assert!(rt; is_answered(&mut link, &mut buf, 1, known.as_slice(), &[0x82, 0, 1, 0])?);
-    let share = [0x89, 0, 1, 0, 0, 0, 1, 65];
-    assert!(rt; is_answered(&mut link, &mut buf, 2, given.as_slice(), &share)?);
-    Ok(())
-}
-
-// A Commit of user 7, tag 0 and version 1, of the recipe of an empty file whose name's share is 11 times this byte.
-fn commit_of(alloc: Global, byte: u8) -> Result<Bytes, Fail> {
-    let mut bytes = joined(alloc, &[4, 0, 0, 0, 7], &[0; 32])?;
-    bytes.extend(&[0, 0, 0, 0, 0, 0, 0, 1, 0, 1])?;
-    bytes.resize(58, byte)?;
-    bytes.resize(70, 0)?;
-    Ok(bytes)
-}
-
-#[test]
-fn two_jobs_for_one_version(rt: HostRuntime) -> Result<(), Fail> {
-    let a = rt.alloc();
-    let mut link = link_of(a)?;
-    let mut buf = ReplyBuf::make(a)?;
-    let first = commit_of(a, 5)?;
-    let second = commit_of(a, 6)?;
-    let short = joined(a, &[4, 0, 0, 0, 7], &[0; 41])?;
-    assert!(rt; is_answered(&mut link, &mut buf, 0, first.as_slice(), &[0x84])?);
-    assert!(rt; is_answered(&mut link, &mut buf, 0, second.as_slice(), &[0x85])?);
-    assert!(rt; is_answered(&mut link, &mut buf, 0, first.as_slice(), &[0x84])?);
-    assert!(rt;
-        is_answered(
-            &mut link,
-            &mut buf,
-            0,
-            short.as_slice(),
-            &[0x90, 0, 0, 0, 46]
-        )?
-    );
     Ok(())
 }

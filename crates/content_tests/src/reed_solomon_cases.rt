@@ -3,7 +3,8 @@
 ghost use Rattle.std.specs.Prelude.{◌≡◌, ◌<◌, ◌≤◌, length};
 ghost use Rattle.reed_solomon.specs.Dispersal.{AreChoice};
 
-use super::*;
+use cd_base::Shape;
+use reed_solomon::{Coder, are_choice};
 use std::process::Abort;
 use std::test::Fail;
 

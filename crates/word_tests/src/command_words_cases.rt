@@ -1,5 +1,7 @@
-use super::*;
+//! Tests of command_words.
+
 use cd_base::{CloudNo, UserId, Version};
+use command_words::{Command, read_words};
 use std::alloc::Global;
 use std::test::Fail;
 

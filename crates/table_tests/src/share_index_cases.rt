@@ -1,8 +1,12 @@
-// Refusals by room, and a comparison with std's map.
-use super::*;
+//! Tests of share_index.
+
+use cd_base::{Fp, UserId};
+use share_index::{IndexErr, Place, ShareIndex};
 use std::collections::BTreeMap;
 use std::process::Abort;
 use std::test::Fail;
+
+// Refusals by room, and a comparison with std's map.
 
 fn fp(number: u8) -> Fp {
     Fp([number; 32])
@@ -26,73 +30,12 @@ fn own(index: &mut ShareIndex, user: u32, number: u8) -> Option<IndexErr> {
     index.add_owner(UserId(user), key).err()
 }
 
-// Takes a fingerprint from a user that owns it.
-fn disown(index: &mut ShareIndex, user: u32, number: u8) {
-    let key = fp(number);
-    if index.owns(UserId(user), &key) {
-        index.drop_owner(UserId(user), &key);
-    }
-}
-
 // Takes the place of a fingerprint that has one.
 fn unplace(index: &mut ShareIndex, number: u8) {
     let key = fp(number);
     if index.place_of(&key).is_some() {
         index.drop_place(&key);
     }
-}
-
-#[test]
-fn full_at_one_place(rt: HostRuntime) -> Result<(), Fail> {
-    let mut index = ShareIndex::make(rt.alloc(), 1, 4)?;
-    assert_eq!(rt; place(&mut index, 1, 0), None);
-    assert_eq!(rt;
-        place(&mut index, 2, 0),
-        Some(IndexErr::Full { used: 1, limit: 1 })
-    );
-    assert_eq!(rt; index.ownerless(), 1);
-    let key = fp(1);
-    if index.place_of(&key).is_some() {
-        index.move_place(&key, Place { at: 5, len: 9 });
-    }
-    assert_eq!(rt; index.place_of(&key), Some(Place { at: 5, len: 9 }));
-    Ok(())
-}
-
-#[test]
-fn full_by_user(rt: HostRuntime) -> Result<(), Fail> {
-    let mut index = ShareIndex::for_users(rt.alloc(), 2, 1)?;
-    assert_eq!(rt; own(&mut index, 0, 1), None);
-    assert_eq!(rt;
-        own(&mut index, 0, 2),
-        Some(IndexErr::Full { used: 1, limit: 1 })
-    );
-    assert_eq!(rt; own(&mut index, 1, 1), None);
-    assert_eq!(rt;
-        own(&mut index, 2, 1),
-        Some(IndexErr::Full { used: 0, limit: 0 })
-    );
-    assert_eq!(rt; index.batches(), 2);
-    index.clear();
-    assert_eq!(rt; own(&mut index, 0, 2), None);
-    assert_eq!(rt; index.owned(), 1);
-    Ok(())
-}
-
-#[test]
-fn counts_owners_before_the_place(rt: HostRuntime) -> Result<(), Fail> {
-    let mut index = ShareIndex::make(rt.alloc(), 2, 4)?;
-    assert_eq!(rt; own(&mut index, 7, 1), None);
-    assert_eq!(rt; own(&mut index, 8, 1), None);
-    assert_eq!(rt; place(&mut index, 1, 5), None);
-    assert_eq!(rt; index.ownerless(), 0);
-    disown(&mut index, 7, 1);
-    assert_eq!(rt; index.ownerless(), 0);
-    disown(&mut index, 8, 1);
-    assert_eq!(rt; index.ownerless(), 1);
-    unplace(&mut index, 1);
-    assert_eq!(rt; (index.ownerless(), index.placed()), (0, 0));
-    Ok(())
 }
 
 // Uses go up and down.

@@ -1,8 +1,8 @@
 //! A shelf in a folder, and two ends of a connection in one process.
 
-use crate::{DirShelf, TcpPorts};
 use cd_base::CloudNo;
 use cd_edges::{Area, Failed, Ports, Shelf, receive, send_all};
+use real_edges::{DirShelf, TcpPorts};
 use std::net::TcpListener;
 use std::test::Fail;
 use std::time::Duration;

@@ -1,9 +1,10 @@
 //! The calls over views, on the views of two users of one cloud, whose strings are "A" and "B".
-use super::*;
+
 use cd_base::{Bytes, Fp, Fps, NoMemory, Tag, Version, sha256};
 use recipe::{Item, Items, Recipe};
 use std::alloc::Global;
 use std::test::Fail;
+use user_dedup::{FileEntry, FileList, View, known, missing_place};
 
 // The view of a user that sent "A".
 fn view_of_a(alloc: Global) -> Result<View, NoMemory> {

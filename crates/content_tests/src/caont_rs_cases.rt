@@ -3,7 +3,7 @@
 
 ghost use Rattle.std.specs.Prelude.{◌≡◌, ◌≤◌, length};
 
-use super::*;
+use caont_rs::{RecoverErr, disperse, name_package, name_share, recover, tag_of};
 use cd_base::{Bytes, CloudNo, Fp, Shape, is_path, sha256, share_len};
 use reed_solomon::are_choice;
 use std::alloc::Global;

@@ -1,5 +1,7 @@
-use super::*;
+//! Tests of recipe.
+
 use cd_base::{Bytes, Fp, NoMemory, Shape};
+use recipe::{Item, Items, Malformed, Recipe, RecipeErr, RecipeView};
 use std::alloc::Global;
 use std::test::Fail;
 
@@ -33,29 +35,6 @@ fn wrong_at(alloc: Global, bytes: &[u8]) -> Result<Option<u32>, Fail> {
     } else {
         Err(Fail::new("two places"))
     }
-}
-
-// The bytes of a recipe of an empty file, of a path of one byte.
-fn empty_recipe(alloc: Global) -> Result<Bytes, Fail> {
-    let mut bytes = Bytes::new(alloc);
-    bytes.extend(&[0, 1])?;
-    bytes.extend(&[7; 11])?;
-    bytes.extend(&[0; 12])?;
-    Ok(bytes)
-}
-
-#[test]
-fn an_empty_file(rt: HostRuntime) -> Result<(), Fail> {
-    let a = rt.alloc();
-    let mut bytes = empty_recipe(a)?;
-    assert_eq!(rt; bytes.len(), 25);
-    assert_eq!(rt; wrong_at(a, bytes.as_slice())?, None);
-    bytes.push(5)?;
-    assert_eq!(rt; wrong_at(a, bytes.as_slice())?, Some(25));
-    bytes.truncate(24);
-    bytes.push(1)?;
-    assert_eq!(rt; wrong_at(a, bytes.as_slice())?, Some(21));
-    Ok(())
 }
 
 fn recipe_of(alloc: Global, lens: &[u32], file_len: u64) -> Result<Recipe, Fail> {
@@ -122,17 +101,6 @@ fn each_field_wrong(rt: HostRuntime) -> Result<(), Fail> {
 }
 
 #[test]
-fn each_cut(rt: HostRuntime) -> Result<(), Fail> {
-    let a = rt.alloc();
-    let right = written(a, &recipe_of(a, &[2048, 1], 2049)?)?;
-    for len in 0..right.len().min(97) {
-        let (front, _) = right.as_slice().split_at(len);
-        assert_eq!(rt; wrong_at(a, front)?, Some(len as u32));
-    }
-    Ok(())
-}
-
-#[test]
 fn the_most_items(rt: HostRuntime) -> Result<(), Fail> {
     let a = rt.alloc();
     let shape = Shape::of(4, 3).unwrap_or(Shape { n: 4, k: 3 });
@@ -158,18 +126,4 @@ fn shows(view: &RecipeView) -> bool {
         && second.map(|item| item.secret_len) == Some(1)
         && second.map(|item| item.fp) == Some(Fp([9; 32]))
         && view.item_at(2).is_none()
-}
-
-#[test]
-fn a_view(rt: HostRuntime) -> Result<(), Fail> {
-    let a = rt.alloc();
-    let shape = Shape::of(4, 3).unwrap_or(Shape { n: 4, k: 3 });
-    let bytes = written(a, &recipe_of(a, &[2048, 1], 2049)?)?;
-    if bytes.len() == 97 {
-        let Ok(view) = RecipeView::check(shape, bytes.as_slice()) else {
-            return Err(Fail::new("another answer"));
-        };
-        assert!(rt; shows(&view));
-    }
-    Ok(())
 }

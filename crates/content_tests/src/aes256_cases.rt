@@ -1,5 +1,6 @@
 //! Values of the standards, and of an independent implementation.
-use super::*;
+
+use aes256::{Key, block, mask};
 use std::alloc::{AllocError, Global};
 use std::test::Fail;
 

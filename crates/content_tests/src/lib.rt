@@ -1,0 +1,16 @@
+#![tactic(auto)]
+
+#[cfg(test)]
+mod aes256_cases;
+#[cfg(test)]
+mod caont_rs_cases;
+#[cfg(test)]
+mod file_recipe_cases;
+#[cfg(test)]
+mod gf256_cases;
+#[cfg(test)]
+mod rabin_chunker_cases;
+#[cfg(test)]
+mod recipe_cases;
+#[cfg(test)]
+mod reed_solomon_cases;

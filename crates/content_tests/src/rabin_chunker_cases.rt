@@ -1,0 +1,140 @@
+//! Ends of known files, fed in pieces of many sizes.
+
+use cd_base::{Ends, NoMemory};
+use rabin_chunker::Chunker;
+use std::alloc::{AllocError, Global};
+use std::test::Fail;
+
+// So many zeros, and then other bytes and more zeros.
+fn file(alloc: Global, zeros: usize, middle: &[u8], more: usize) -> Result<Vec<u8>, AllocError> {
+    let mut bytes = Vec::new(alloc);
+    for _ in 0..zeros {
+        bytes.push(0)?;
+    }
+    for byte in middle {
+        bytes.push(*byte)?;
+    }
+    for _ in 0..more {
+        bytes.push(0)?;
+    }
+    Ok(bytes)
+}
+
+// `count` bytes of no pattern: the low bytes of xorshift64 from 0x9e3779b97f4a7c15.
+fn stream(alloc: Global, count: usize) -> Result<Vec<u8>, AllocError> {
+    let mut bytes = Vec::new(alloc);
+    let mut state: u64 = 0x9e37_79b9_7f4a_7c15;
+    for _ in 0..count {
+        state ^= state << 13;
+        state ^= state >> 7;
+        state ^= state << 17;
+        bytes.push((state % 256) as u8)?;
+    }
+    Ok(bytes)
+}
+
+// The ends of a file that is fed in pieces of `size` bytes.
+fn ends_by(alloc: Global, bytes: &[u8], size: usize) -> Result<Ends, NoMemory> {
+    let mut cuts = Ends::new(alloc);
+    let mut chunker = Chunker::new();
+    let mut rest = bytes;
+    for _ in 0..bytes.len() {
+        let (piece, others) = rest.split_at(size.min(rest.len()));
+        if chunker.bytes_fed() < 1 << 62 && piece.len() < 1 << 62 {
+            chunker.feed(piece, &mut cuts)?;
+        }
+        rest = others;
+    }
+    chunker.finish(&mut cuts)?;
+    Ok(cuts)
+}
+
+// The remainder of a window, bit by bit.
+fn remainder(window: &[u8]) -> u64 {
+    let mut sum: u64 = 0;
+    for byte in window {
+        let mut bits = *byte;
+        for _ in 0..8 {
+            sum = (sum << 1) ^ (bits >> 7) as u64;
+            bits <<= 1;
+            if sum >> 53 == 1 {
+                sum ^= 0x3d_a335_8b4d_c173;
+            }
+        }
+    }
+    sum
+}
+
+// The ends by the rule, with each fingerprint found from scratch.
+fn plain_ends(alloc: Global, bytes: &[u8]) -> Result<Ends, NoMemory> {
+    let mut cuts = Ends::new(alloc);
+    let mut start = 0;
+    for before in 0..bytes.len() {
+        let end = before + 1;
+        let long = end.saturating_sub(start);
+        let told = end >= 48 && long >= 2048 && remainder(&bytes[end - 48..end]) % 8192 == 8191;
+        if told || long == 16384 || end == bytes.len() {
+            cuts.push(end as u64)?;
+            start = end;
+        }
+    }
+    Ok(cuts)
+}
+
+// Whether the ends are those that are wanted, by the plain rule and in pieces of all sizes.
+fn are_ends(alloc: Global, bytes: &[u8], wanted: &[u64]) -> Result<bool, NoMemory> {
+    let mut same = plain_ends(alloc, bytes)?.as_slice() == wanted;
+    for size in [1_000_000, 1, 47, 48, 49, 2047] {
+        same = same && ends_by(alloc, bytes, size)?.as_slice() == wanted;
+    }
+    Ok(same)
+}
+
+// The ends of the first 100,000 bytes of the stream, which the Python program below gives too.
+#[test]
+fn plain_rule(rt: HostRuntime) -> Result<(), Fail> {
+    let alloc = rt.alloc();
+    let wanted = [
+        16384, 20864, 24347, 26796, 37911, 44210, 49100, 65484, 71689, 87005, 95189, 100_000,
+    ];
+    assert!(rt; are_ends(alloc, &stream(alloc, 100_000)?, &wanted)?);
+    Ok(())
+}
+
+// The digest FNV-1a of 64 bits of places, each as 8 bytes with the highest first.
+fn digest_of(ends: &[u64]) -> u64 {
+    let mut digest: u64 = 0xcbf2_9ce4_8422_2325;
+    for end in ends {
+        for byte in end.to_be_bytes() {
+            digest = (digest ^ byte as u64).wrapping_mul(0x0100_0000_01b3);
+        }
+    }
+    digest
+}
+
+// The ends of 1 MiB of the stream are 115, and their digest is that of this Python program. It finds each fingerprint
+// from scratch, as `int % modulus` over GF(2):
+//
+//     P = 0x3DA3358B4DC173
+//     def fingerprint(window):
+//         v = int.from_bytes(window, 'big')
+//         for i in range(383, 52, -1):
+//             if v >> i & 1: v ^= P << (i - 53)
+//         return v
+//     def ends(B):
+//         out, s = [], 0
+//         while s < len(B):
+//             e = min(s + 2048, len(B))
+//             while e < len(B) and not (fingerprint(B[e - 48:e]) % 8192 == 8191 or e - s == 16384): e += 1
+//             out.append(e); s = e
+//         return out
+#[test]
+fn ends_of_python(rt: HostRuntime) -> Result<(), Fail> {
+    let bytes = stream(rt.alloc(), 1 << 20)?;
+    for size in [2_000_000, 1, 47, 48, 49, 2047] {
+        let cuts = ends_by(rt.alloc(), &bytes, size)?;
+        assert_eq!(rt; cuts.len(), 115);
+        assert_eq!(rt; digest_of(cuts.as_slice()), 0xf50a_3309_60b6_4242);
+    }
+    Ok(())
+}

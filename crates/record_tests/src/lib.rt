@@ -1,0 +1,10 @@
+#![tactic(auto)]
+
+#[cfg(test)]
+mod journal_start_cases;
+#[cfg(test)]
+mod record_bodies_cases;
+#[cfg(test)]
+mod record_body_cases;
+#[cfg(test)]
+mod user_dedup_cases;
