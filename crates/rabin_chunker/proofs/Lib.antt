@@ -5,3 +5,4 @@ pub mod RuleLaws
 pub mod Outcome
 pub mod Feeding
 pub mod Scanning
+pub mod Laning

@@ -9,6 +9,7 @@ use Rattle.rabin_chunker.specs.Cuts.{fingerprint_of, is_end, is_cut, start_at, e
 use Rattle.rabin_chunker.specs.Rolling.{rolled_by}
 use Rattle.rabin_chunker.specs.Window.{oldest_first, IsRecent}
 use Rattle.rabin_chunker.specs.Walk.{Walked, Arrives}
+use Rattle.rabin_chunker.specs.Lanes.{IsUnmarked}
 use Rattle.rabin_chunker.proofs.Algebra.{Bytes, rolled, fingerprint_lt}
 use Rattle.rabin_chunker.proofs.Steps.{start_at-cut, start_at-on, ends_after-cut, ends_after-on, bytes_take, bytes_drop, is_end-is_cut, recent_skipped}
 
@@ -46,10 +47,6 @@ slice_rolled piece at f r ha hl hb hf hr =
     hr ∙ ap (λ (x : ℕ). rolled_by x a b) (hf ∙ ap (λ (x : List ℕ). fingerprint_of x) before)
     ∙ sym (rolled a b xs long (bytes_take 47 (drop (suc i) piece) (bytes_drop (suc i) piece hb)) (hb at))
     ∙ ap (λ (x : List ℕ). fingerprint_of x) (sym after)
-
--- no place up to `at` is marked
-abbrev pub IsUnmarked : List ℕ → ℕ → ℕ → Type 0
-IsUnmarked piece from at = (q : ℕ) → from < q → q < at → (fingerprint_of (slice_range piece (q - 48) q) % 2 ^ 13 == 8191) ≡ false
 
 pub unmarked_more : (piece : List ℕ) (from at f : ℕ) → IsUnmarked piece from at → f ≡ fingerprint_of (slice_range piece (at - 48) at)
     → (f % 2 ^ 13 == 8191) ≡ false → IsUnmarked piece from (at + 1)

@@ -4,3 +4,4 @@ pub mod Window
 pub mod Reading
 pub mod Rule
 pub mod Walk
+pub mod Lanes

@@ -1,12 +1,14 @@
 //! The chunker.
-ghost use Rattle.std.specs.Prelude.{◌≡◌, ℕ, ◌+◌, ◌^◌, ◌<◌, ◌≤◌, ◌++◌, [], ◌==◌, if◌then◌else◌, List, length, slice_index, OnOk, OnErr, IsOk};
+ghost use Rattle.std.specs.Prelude.{◌≡◌, ℕ, ◌+◌, ◌^◌, ◌<◌, ◌≤◌, ◌++◌, [], ◌==◌, if◌then◌else◌, List, length};
+ghost use Rattle.std.specs.Prelude.{slice_index, OnOk, OnErr, IsOk};
+ghost use Rattle.cd_base.specs.Limits.{secret_limit};
 ghost use Rattle.rabin_chunker.specs.Cuts.{fingerprint_of, is_cut, ends_after, last_end};
 ghost use Rattle.rabin_chunker.specs.Window.{IsNear, oldest_first};
 ghost use Rattle.rabin_chunker.specs.Walk.{Arrives, Walked};
 
 use crate::scan::{is_marked, scan};
 use crate::tables::roll;
-use cd_base::{Ends, NoMemory};
+use cd_base::{Ends, NoMemory, SECRET_LIMIT};
 
 /// Cuts a file into secrets as its bytes come in. It keeps the newest 48 bytes, and no more of the input.
 ///
@@ -18,7 +20,7 @@ pub struct Chunker {
     window: [u8; 48],
     next: usize,
     fingerprint: u64,
-    ghost unended: { inside < 16384 },
+    ghost unended: { inside < secret_limit },
     ghost within: { next < 48 },
     ghost long: { length window ≡ 48 },
     ghost bytes: { (i : ℕ) → slice_index window i < 256 },
@@ -30,7 +32,7 @@ pub struct Chunker {
 fn ends_here(inside: usize, fingerprint: u64) -> bool
     ensures { result ≡ is_cut inside fingerprint }
 {
-    inside >= 2048 && is_marked(fingerprint) || inside == 16384
+    inside >= 2048 && is_marked(fingerprint) || inside == SECRET_LIMIT as usize
 }
 
 /// The place after `next` on a ring of 48.
@@ -68,12 +70,14 @@ fn advance(
     requires near { IsNear piece.now at inside (oldest_first next window.old) }
     requires more { at < length piece.now }
     requires begun { 2000 ≤ inside }
-    requires unended { inside < 16384 }
-    ensures arrives { (fed before now : List ℕ) → Walked (fed ++ piece.now) (length fed) at inside next window.old before now
-        → Arrives (fed ++ piece.now) (length fed) at inside result.read result.next result.fingerprint window.new before now }
+    requires unended { inside < secret_limit }
+    ensures arrives { (fed before now : List ℕ)
+        → Walked (fed ++ piece.now) (length fed) at inside next window.old before now
+        → Arrives (fed ++ piece.now)
+        (length fed) at inside result.read result.next result.fingerprint window.new before now }
     ensures some { 0 < result.read }
     ensures in_piece { at + result.read ≤ length piece.now }
-    ensures longest { inside + result.read ≤ 16384 }
+    ensures longest { inside + result.read ≤ secret_limit }
     ensures near { IsNear piece.now (at + result.read) (inside + result.read) (oldest_first result.next window.new) }
     ensures place { result.next < 48 }
     ensures long { length window.new ≡ 48 }
@@ -81,7 +85,7 @@ fn advance(
     ensures kept { result.fingerprint ≡ fingerprint_of (oldest_first result.next window.new) }
 {
     if inside >= 2048 && at >= 48 {
-        let most = (16384 - inside).min(piece.len() - at);
+        let most = (SECRET_LIMIT as usize - inside).min(piece.len() - at);
         let stop = scan(piece, at, at + most, fingerprint);
         window.copy_from_slice(&piece[stop.at - 48..stop.at]);
         return Step {

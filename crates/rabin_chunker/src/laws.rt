@@ -1,6 +1,7 @@
 //! The laws of the ends of secrets, for the proofs of callers. The calls do nothing.
 ghost use Rattle.std.specs.Prelude.{◌≡◌, ◌+◌, ◌<◌, ◌≤◌, ◌++◌, [], length};
 ghost use Rattle.std.specs.List.{concat};
+ghost use Rattle.cd_base.specs.Limits.{secret_limit};
 ghost use Rattle.rabin_chunker.specs.Cuts.{ends, ends_after, fed_ends, last_end};
 ghost use Rattle.rabin_chunker.specs.Rule.{IsCutFrom, IsFirstEnd};
 
@@ -20,7 +21,7 @@ pub fn ends_alone_obey_the_rule(file: &[u8], places: &[u64])
 /// No secret is longer than 16,384 bytes, and only the last may be shorter than 2,048.
 pub fn secrets_are_bounded(file: &[u8], start: u64, end: u64)
     requires { IsFirstEnd file.now start end }
-    ensures longest { end ≤ start + 16384 }
+    ensures longest { end ≤ start + secret_limit }
     ensures shortest { end < length file.now → start + 2048 ≤ end }
 {}
 
@@ -31,7 +32,8 @@ pub fn pieces_do_not_matter(pieces: &[Bytes])
 
 /// What a caller that feeds piece after piece keeps: the ends within the bytes so far, wherever the file ends.
 pub fn ends_go_on(fed: &[u8], piece: &[u8])
-    ensures { ends_after fed.now 0 (length fed.now) ++ ends_after (fed.now ++ piece.now) (length fed.now) (length piece.now)
+    ensures { ends_after fed.now 0 (length fed.now)
+        ++ ends_after (fed.now ++ piece.now) (length fed.now) (length piece.now)
         ≡ ends_after (fed.now ++ piece.now) 0 (length (fed.now ++ piece.now)) }
 {}
 

@@ -13,6 +13,3 @@ mod tables;
 
 pub use chunker::Chunker;
 pub use pieces::cut_pieces;
-
-#[cfg(test)]
-mod tests;

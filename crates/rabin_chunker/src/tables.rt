@@ -333,7 +333,8 @@ fn carried_two(byte: usize) -> u64
 #[inline(always)]
 pub(crate) fn roll_two(fingerprint: u64, oldest: [u8; 2], newest: [u8; 2]) -> u64
     requires { fingerprint < 2 ^ 53 }
-    ensures { result ≡ rolled_by (rolled_by fingerprint (slice_index oldest 0) (slice_index newest 0)) (slice_index oldest 1) (slice_index newest 1) }
+    ensures { result ≡ rolled_by (rolled_by fingerprint (slice_index oldest 0) (slice_index newest 0))
+        (slice_index oldest 1) (slice_index newest 1) }
 {
     let [first, second] = oldest;
     let [before, last] = newest;
