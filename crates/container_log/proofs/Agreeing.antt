@@ -1,5 +1,5 @@
 -- Containers that are kept, and what an area has there.
-use Rattle.std.proofs.Common.{◌≡◌, ◌⊎◌, ⊎_elim, ℕ, ◌+◌, ◌-◌, ◌*◌, ◌/◌, ◌%◌, ◌<◌, ◌≤◌, min, Bool, true, false, cond, List, [], ◌∷◌, length, take, drop, get_or, Option, Some, None, refl, sym, ap, ◌∙◌, subst, arith, length-take, length-drop, get_or-take, get_or-drop}
+use Rattle.std.proofs.Common.{◌≡◌, ◌⊎◌, ⊎_elim, inl, inr, ℕ, ◌+◌, ◌-◌, ◌*◌, ◌/◌, ◌%◌, ◌<◌, ◌≤◌, min, Bool, true, false, cond, List, [], ◌∷◌, length, take, drop, get_or, Option, Some, None, refl, sym, ap, ◌∙◌, subst, arith, length-take, length-drop, get_or-take, get_or-drop}
 use Rattle.std.specs.Prelude.{All, nat_eq, nat_le, nat_lt, ◌&&◌, ◌||◌}
 use Rattle.std.specs.List.{filter}
 use Rattle.std.specs.Map.{lookup, lookup_entry, remove_entry}
@@ -11,7 +11,7 @@ use Rattle.std.proofs.lemmas.List.Elements.{All-nil, All-cons, All-head, All-tai
 use Rattle.cd_edges.specs.Disk.{overwritten}
 use Rattle.cd_edges.specs.Shelf.{ReadsFrom}
 use Rattle.cd_edges.proofs.Overwritten.{length-overwritten, overwritten_before, overwritten_after}
-use Rattle.container_log.specs.Caches.{Kept, Cache, AreOf, container_of, kept_of, in_front, with_container, is_left, kept_over}
+use Rattle.container_log.specs.Caches.{Kept, Cache, AreOf, container_of, kept_of, in_front, with_room, with_container, is_left, kept_over, IsKeptOr, IsReadOf}
 
 -- ---- a part of a list. No lemma here names how many bytes a container has, so that nothing has a list of that length to compute
 
@@ -110,6 +110,9 @@ agrees_front bytes number kept all = fronted (Is bytes) (nat_eq number) kept (lo
 pub agrees_with : (bytes new : List ℕ) (number keep : ℕ) (kept : List Kept) → new ≡ container_of bytes number → AreOf bytes kept → AreOf bytes (with_container number new keep kept)
 agrees_with bytes new number keep kept is all = All-cons (Is bytes) (number, new) (take (keep - 1) kept) is (All-take (Is bytes) (keep - 1) kept all)
 
+pub agrees_room : (bytes : List ℕ) (keep : ℕ) (kept : List Kept) → AreOf bytes kept → AreOf bytes (with_room keep kept)
+agrees_room bytes keep kept all = All-take (Is bytes) (keep - 1) kept all
+
 pub agrees_found : (bytes found : List ℕ) (number : ℕ) (kept : List Kept) → AreOf bytes kept → kept_of kept number ≡ Some found → found ≡ container_of bytes number
 agrees_found bytes found number kept all e =
     let v = valued (Is bytes) (nat_eq number) kept found all e in
@@ -163,6 +166,37 @@ kept_over_some end (byte ∷ bytes) kept some = ap (λ (n : ℕ). filter (is_lef
 -- After a read that found the container, or that put it in front, what is kept is still the area's.
 pub agrees_read : (bytes : List ℕ) (number : ℕ) (old new : Cache) → AreOf bytes old.kept → new ≡ record old { kept = in_front number old.kept } → AreOf bytes new.kept
 agrees_read bytes number old new all is = subst (λ (c : Cache). AreOf bytes c.kept) (sym is) (agrees_front bytes number old.kept all)
+
+room_twice : (keep : ℕ) (kept : List Kept) → with_room keep (with_room keep kept) ≡ with_room keep kept
+room_twice keep kept = take_all (keep - 1) (take (keep - 1) kept) (omega (arith, length-take (keep - 1) kept))
+
+-- After room was made and the container was put in front, or wasn't.
+pub read_anew : (number : ℕ) (bytes : List ℕ) (old room new : Cache) → kept_of old.kept number ≡ None → room ≡ record old { kept = with_room old.keep old.kept } → IsKeptOr number bytes room new
+    → IsReadOf old number new
+read_anew number bytes old room new none room_is kept = inr (inr (
+  none,
+  ⊎_elim
+      (λ same. inl (same ∙ room_is))
+      (λ more. inr (
+        bytes,
+        more ∙ ap (λ (c : Cache). record c { kept = with_container number bytes c.keep c.kept }) room_is
+            ∙ ap (λ (l : List Kept). record old { kept = (number, bytes) ∷ l }) (room_twice old.keep old.kept),
+      ))
+      kept,
+))
+
+all_anew : (P : Kept → Type 0) (number : ℕ) (bytes : List ℕ) (old room new : Cache) → P (number, bytes) → All P old.kept → room ≡ record old { kept = with_room old.keep old.kept }
+    → IsKeptOr number bytes room new → All P new.kept
+all_anew P number bytes old room new one all room_is kept =
+    let left : All P room.kept = subst (λ (c : Cache). All P c.kept) (sym room_is) (All-take P (old.keep - 1) old.kept all) in ⊎_elim {C = All P new.kept}
+    (λ same. subst (λ (c : Cache). All P c.kept) (sym same) left)
+    (λ more. subst (λ (c : Cache). All P c.kept) (sym more) (All-cons P (number, bytes) (take (room.keep - 1) room.kept) one (All-take P (room.keep - 1) room.kept left)))
+    kept
+
+-- What is kept then is still the area's.
+pub agrees_anew : (held bytes : List ℕ) (number : ℕ) (old room new : Cache) → bytes ≡ container_of held number → AreOf held old.kept → room ≡ record old { kept = with_room old.keep old.kept }
+    → IsKeptOr number bytes room new → AreOf held new.kept
+agrees_anew held bytes number old room new is all room_is kept = all_anew (Is held) number bytes old room new is all room_is kept
 
 -- a place in its container
 pub place_parts : (place : ℕ) → place ≡ place / 4194304 * 4194304 + place % 4194304

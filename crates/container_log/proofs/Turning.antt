@@ -1,5 +1,5 @@
 -- The last container of those that are kept, put in front or forgotten, time after time.
-use Rattle.std.proofs.Common.{◌≡◌, ℕ, ◌+◌, ◌-◌, ◌<◌, ◌≤◌, Bool, true, false, cond, List, [], ◌∷◌, ◌++◌, length, take, Option, Some, None, refl, sym, ap, ◌∙◌, subst, arith, append-nil, append_assoc, length-append}
+use Rattle.std.proofs.Common.{◌≡◌, ℕ, zero, suc, ◌+◌, ◌-◌, ◌<◌, ◌≤◌, Bool, true, false, cond, List, [], ◌∷◌, ◌++◌, length, take, Option, Some, None, refl, sym, ap, ◌∙◌, subst, arith, append-nil, append_assoc, length-append}
 use Rattle.std.specs.Prelude.{slice_get, option_map, nat_eq}
 use Rattle.std.proofs.lemmas.Option.{slice_get_within}
 use Rattle.std.specs.Cmp.{nat_eq_equiv}
@@ -119,6 +119,16 @@ entered_by false e l o rest gone = rest gone
 pub none_entered : (n : ℕ) (es : List Kept) → lookup (nat_eq n) es ≡ None → lookup_entry (nat_eq n) es ≡ None
 none_entered n [] none = refl
 none_entered n (e ∷ es) none = entered_by (nat_eq n e.0) e (lookup (nat_eq n) es) (lookup_entry (nat_eq n) es) (none_entered n es) none
+
+-- what isn't there isn't among the first of them
+none_by : (b : Bool) (e : Kept) (l m : Option (List ℕ)) → (l ≡ None → m ≡ None) → cond b (Some e.1) l ≡ None → cond b (Some e.1) m ≡ None
+none_by true e l m rest gone = gone
+none_by false e l m rest gone = rest gone
+
+pub none_first : (n count : ℕ) (es : List Kept) → lookup (nat_eq n) es ≡ None → lookup (nat_eq n) (take count es) ≡ None
+none_first n zero es none = refl
+none_first n (suc count) [] none = refl
+none_first n (suc count) (e ∷ es) none = none_by (nat_eq n e.0) e (lookup (nat_eq n) es) (lookup (nat_eq n) (take count es)) (none_first n count es) none
 
 -- ---- a turn
 

@@ -36,9 +36,13 @@ kept_of kept number = lookup (nat_eq number) kept
 abbrev pub in_front : ℕ → List Kept → List Kept
 in_front number kept = option_map_or (λ (k : Kept). k ∷ remove_entry (nat_eq number) kept) (lookup_entry (nat_eq number) kept) kept
 
--- a container more in front; where as many are kept as may be, the last one goes
+-- those that stay where there is to be room for one more: where as many are kept as may be, the last one goes
+abbrev pub with_room : ℕ → List Kept → List Kept
+with_room keep kept = take (keep - 1) kept
+
+-- a container more in front, with room made for it
 abbrev pub with_container : ℕ → List ℕ → ℕ → List Kept → List Kept
-with_container number bytes keep kept = (number, bytes) ∷ take (keep - 1) kept
+with_container number bytes keep kept = (number, bytes) ∷ with_room keep kept
 
 -- whether a write from the first to the last of these containers leaves the bytes of this one: they are a whole container's, and
 -- it is another
@@ -62,8 +66,11 @@ turned_by p (Some k) kept = cond (p k) (k ∷ kept) kept
 abbrev pub turned : (Kept → Bool) → List Kept → List Kept
 turned p kept = turned_by p (slice_get kept (length kept - 1)) (take (length kept - 1) kept)
 
--- After a read of a container the cache is as it was, or that container is in front now: it was kept, or it is one more.
+-- After a read of a container the cache is as it was, or that container is in front now: it was kept, or it is one more, with room made
+-- for it. Or it wasn't kept and still isn't, and room was made for it all the same.
 abbrev pub IsReadOf : Cache → ℕ → Cache → Type 0
 IsReadOf old number new = (new ≡ old)
     ⊎ ((new ≡ record old { kept = in_front number old.kept })
-    ⊎ ((bytes : List ℕ) × (kept_of old.kept number ≡ None) × (new ≡ record old { kept = with_container number bytes old.keep old.kept })))
+    ⊎ ((kept_of old.kept number ≡ None)
+    × ((new ≡ record old { kept = with_room old.keep old.kept })
+    ⊎ ((bytes : List ℕ) × (new ≡ record old { kept = with_container number bytes old.keep old.kept })))))

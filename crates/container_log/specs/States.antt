@@ -6,7 +6,7 @@ use Rattle.cd_edges.specs.Shelf.{wrote, stable}
 use Rattle.container_log.specs.Kept.{KeepsBelow}
 use Rattle.container_log.specs.Places.{container_len, place_of, end_after}
 use Rattle.container_log.specs.Laying.{laid, Fit}
-use Rattle.container_log.specs.Caches.{Kept, AreOf, in_front, with_container, kept_of, kept_over}
+use Rattle.container_log.specs.Caches.{Kept, AreOf, in_front, with_room, with_container, kept_of, kept_over}
 
 -- what a log shows
 pub record State : Type 0 where
@@ -77,8 +77,11 @@ abbrev pub IsKept : State → ℕ → ℕ → List ℕ → Type 0
 IsKept log place len bytes = (place % container_len + len ≤ container_len) × (kept_of log.kept (place / container_len) ≡ Some bytes)
 
 -- After a read without an error the containers are as they were, or that of the place is in front now: it was kept, or it is a container
--- more.
+-- more, with room made for it: where as many were kept as may be, the last one is gone. Or it wasn't kept and still isn't, and room was
+-- made for it all the same.
 abbrev pub IsAfterRead : State → ℕ → State → Type 0
 IsAfterRead log place new = (new ≡ log)
     ⊎ ((new ≡ record log { kept = in_front (place / container_len) log.kept })
-    ⊎ ((bytes : List ℕ) × (kept_of log.kept (place / container_len) ≡ None) × (new ≡ record log { kept = with_container (place / container_len) bytes log.keep log.kept })))
+    ⊎ ((kept_of log.kept (place / container_len) ≡ None)
+    × ((new ≡ record log { kept = with_room log.keep log.kept })
+    ⊎ ((bytes : List ℕ) × (new ≡ record log { kept = with_container (place / container_len) bytes log.keep log.kept })))))

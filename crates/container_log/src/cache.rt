@@ -7,7 +7,7 @@ ghost use Rattle.cd_edges.specs.Shelf.{ReadsFrom};
 ghost use Rattle.lru.specs.LruCache.{lru_cache};
 ghost use Rattle.std.specs.Map.{lookup};
 ghost use Rattle.std.specs.Prelude.{nat_eq};
-ghost use Rattle.container_log.specs.Caches.{kept_of, in_front, with_container, is_left, turned, IsKeptOr};
+ghost use Rattle.container_log.specs.Caches.{kept_of, in_front, with_room, with_container, is_left, turned, IsKeptOr};
 
 use crate::container::Container;
 use cd_base::NoMemory;
@@ -74,6 +74,19 @@ fn forget_each(kept: &mut LruCache<u64, Container>, first: u64, last: u64)
     }
 }
 
+// Where as many are kept as may be, takes the one out that was read longest ago.
+fn make_room(kept: &mut LruCache<u64, Container>) -> Option<Container>
+    ensures { kept.new ≡ lru_cache (with_room kept.old.cap kept.old.entries) kept.old.cap }
+{
+    if kept.len() < kept.cap().get() {
+        return None;
+    }
+    match kept.pop_lru() {
+        Some((_, container)) => Some(container),
+        None => None,
+    }
+}
+
 // Puts a container in front that isn't kept. Where memory is lacking nothing changes.
 fn put_front(kept: &mut LruCache<u64, Container>, number: u64, container: Container)
     requires { lookup (nat_eq number) kept.old.entries ≡ None }
@@ -133,12 +146,17 @@ impl Cache {
         Some(count)
     }
 
-    /// A buffer for a container: None where none is to be kept, or memory is lacking.
-    pub(crate) fn room(&self, len: usize) -> Option<Container>
-        ensures { IfSome result (λ container. length container ≡ len) }
+    /// A buffer for a container that isn't kept, with room made for it: where as many are kept as may be, the one that was
+    /// read longest ago goes, and the buffer is its memory. None where none is to be kept, or memory is lacking.
+    pub(crate) fn room(&mut self, len: usize) -> Option<Container>
+        ensures long { IfSome result (λ container. length container ≡ len) }
+        ensures room { self.new ≡ record self.old { kept = with_room self.old.keep self.old.kept } }
     {
-        match &self.containers {
-            Some(_) => Container::make(self.alloc, len),
+        match &mut self.containers {
+            Some(kept) => match make_room(kept) {
+                Some(last) => last.taken_over(self.alloc, len),
+                None => Container::make(self.alloc, len),
+            },
             None => None,
         }
     }

@@ -34,7 +34,20 @@ impl Container {
         Some(Container { bytes })
     }
 
-    /// Reads a container whole, up to the area's end, by one device call.
+    /// A buffer of so many bytes: it takes over the memory of a container that has as many. A shorter one it gives back
+    /// first, and takes memory for zeros; None where that is lacking.
+    pub(crate) fn taken_over(self, alloc: Global, len: usize) -> Option<Container>
+        ensures { IfSome result (λ container. length container ≡ len) }
+    {
+        if self.bytes.len() == len {
+            return Some(self);
+        }
+        drop(self);
+        Container::make(alloc, len)
+    }
+
+    /// Reads a container whole, up to the area's end, by one device call. Where the area ends in it, it gives back what
+    /// memory it has beyond.
     pub(crate) fn fill<V: Shelf>(
         &mut self,
         shelf: &mut V,
@@ -56,6 +69,7 @@ impl Container {
     {
         let count = shelf.read(cloud, area, number * CONTAINER, &mut self.bytes)?;
         self.bytes.truncate(count);
+        self.bytes.shrink_to_fit();
         Ok(())
     }
 

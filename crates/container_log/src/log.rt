@@ -79,7 +79,8 @@ fn put_behind(buffer: &mut [u8], used: usize, gap: usize, blob: &[u8])
 impl Log {
     /// The log of this area, which has no blob yet and may end at `limit` at most. It keeps up to `keep` containers that
     /// were read lately, 16 at most, and none of them yet. It takes a buffer of 4,194,304 bytes here; a read may take as many
-    /// for a container that it keeps, and no other call takes memory.
+    /// for a container that it keeps, and where `keep` of them are kept gives the memory of one back first. No other call
+    /// takes memory.
     pub fn make(alloc: Global, area: Area, limit: u64, keep: u32) -> Result<Log, NoMemory>
         requires keep { keep ≤ 16 }
         ensures made { IfOk result (λ log.
@@ -246,8 +247,10 @@ impl Log {
     ///
     /// Where the bytes lie in a container that is kept, no device is called: so the answer is the area's where the log agrees
     /// with it. Else it makes one device call. Where they lie in one container, it reads that container whole, up to the
-    /// area's end, and keeps it, where containers are to be kept and memory allows; the one that was read longest ago is
-    /// forgotten for it. Else it reads these bytes alone. After Failed it has forgotten all.
+    /// area's end, and keeps it, where containers are to be kept and memory allows. Where as many are kept as may be, the one
+    /// that was read longest ago is forgotten before, and the new one takes over its memory; where memory is lacking all the
+    /// same, it stays forgotten. One in which the area ends takes, once it is kept, no more memory than it has bytes. Else it
+    /// reads these bytes alone. After Failed it has forgotten all.
     pub fn read<V: Shelf>(
         &mut self,
         shelf: &mut V,

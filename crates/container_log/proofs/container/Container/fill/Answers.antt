@@ -7,5 +7,5 @@ pub returns-clause-read : goal.returns-clause-read
 returns-clause-read g c told =
     let out = c.read.new.out in
     let long : length out ≡ 4194304 = c.read.auto.out ∙ c.deref_mut.ensures.len ∙ search rules in
-    c.truncate.ensures.items ∙ ap (take c.in_ok-count.count) (with_items_is c.self.inside.bytes out (c.read.auto.out ∙ c.deref_mut.ensures.len))
+    c.shrink_to_fit.ensures.items ∙ c.truncate.ensures.items ∙ ap (take c.in_ok-count.count) (with_items_is c.self.inside.bytes out (c.read.auto.out ∙ c.deref_mut.ensures.len))
     ∙ whole_read ((g.V.Shelf.cloud_at c.args.shelf.now c.args.cloud.0).now c.args.area).read out c.args.number c.in_ok-count.count long (c.in_ok-count.ensures.bytes told)
