@@ -23,30 +23,48 @@ pub(crate) fn open_journal<V: Shelf>(
 ) -> Result<(), OpenErr>
     requires { IsWritten header.now }
 
-    ensures any_moment { IsTrue (V.cloud_at shelf.old header.now.cloud.0).told → LeavesOnly (V.cloud_at shelf.old header.now.cloud.0) (V.cloud_at shelf.new header.now.cloud.0)
+    ensures any_moment { IsTrue (V.cloud_at shelf.old header.now.cloud.0).told
+        → LeavesOnly (V.cloud_at shelf.old header.now.cloud.0) (V.cloud_at shelf.new header.now.cloud.0)
         (MayBecome (V.cloud_at shelf.old header.now.cloud.0).now header.now begin) }
-    ensures opens { IsTrue (V.cloud_at shelf.old header.now.cloud.0).told → OpensIs ((V.cloud_at shelf.old header.now.cloud.0).now Area.Journal).read header.now begin result }
-    ensures synced { IsTrue (V.cloud_at shelf.old header.now.cloud.0).told → OnFault result (Unit {0}) (BeginsSynced (V.cloud_at shelf.old header.now.cloud.0) (V.cloud_at shelf.new header.now.cloud.0)) }
+    ensures opens { IsTrue (V.cloud_at shelf.old header.now.cloud.0).told
+        → OpensIs ((V.cloud_at shelf.old header.now.cloud.0).now Area.Journal).read header.now begin result }
+    ensures synced { IsTrue (V.cloud_at shelf.old header.now.cloud.0).told
+        → OnFault result (Unit {0})
+        (BeginsSynced (V.cloud_at shelf.old header.now.cloud.0) (V.cloud_at shelf.new header.now.cloud.0)) }
     ensures unasked { IsTrue (V.cloud_at shelf.old header.now.cloud.0).told → begin ≡ false
-        → OnFault result (Unit {0}) (AreSynced (V.cloud_at shelf.old header.now.cloud.0) (V.cloud_at shelf.new header.now.cloud.0)) }
-    ensures begun_stays { IsTrue (V.cloud_at shelf.old header.now.cloud.0).told → is_begun ((V.cloud_at shelf.old header.now.cloud.0).now Area.Journal).read ≡ true
-        → OnFault result (Unit {0}) (AreSynced (V.cloud_at shelf.old header.now.cloud.0) (V.cloud_at shelf.new header.now.cloud.0)) }
+        → OnFault result (Unit {0})
+        (AreSynced (V.cloud_at shelf.old header.now.cloud.0) (V.cloud_at shelf.new header.now.cloud.0)) }
+    ensures begun_stays { IsTrue (V.cloud_at shelf.old header.now.cloud.0).told
+        → is_begun ((V.cloud_at shelf.old header.now.cloud.0).now Area.Journal).read ≡ true
+        → OnFault result (Unit {0})
+        (AreSynced (V.cloud_at shelf.old header.now.cloud.0) (V.cloud_at shelf.new header.now.cloud.0)) }
     ensures opened { IsTrue (V.cloud_at shelf.old header.now.cloud.0).told
-        → OnOk result (IsReading (state_of journal.new) ((V.cloud_at shelf.new header.now.cloud.0).now Area.Journal) (header_bytes header.now ∷ [])) }
-    ensures begun { IsTrue (V.cloud_at shelf.old header.now.cloud.0).told → is_begun ((V.cloud_at shelf.old header.now.cloud.0).now Area.Journal).read ≡ true
-        → OnOk result ((V.cloud_at shelf.new header.now.cloud.0).now Area.Journal ≡ stable ((V.cloud_at shelf.old header.now.cloud.0).now Area.Journal).read) }
-    ensures unbegun { IsTrue (V.cloud_at shelf.old header.now.cloud.0).told → is_begun ((V.cloud_at shelf.old header.now.cloud.0).now Area.Journal).read ≡ false
-        → OnOk result (IsEnded (state_of journal.new) ((V.cloud_at shelf.new header.now.cloud.0).now Area.Journal) (header_bytes header.now ∷ [])) }
+        → OnOk result (IsReading (state_of journal.new) ((V.cloud_at shelf.new header.now.cloud.0).now Area.Journal)
+        (header_bytes header.now ∷ [])) }
+    ensures begun { IsTrue (V.cloud_at shelf.old header.now.cloud.0).told
+        → is_begun ((V.cloud_at shelf.old header.now.cloud.0).now Area.Journal).read ≡ true
+        → OnOk result ((V.cloud_at shelf.new header.now.cloud.0).now Area.Journal
+        ≡ stable ((V.cloud_at shelf.old header.now.cloud.0).now Area.Journal).read) }
+    ensures unbegun { IsTrue (V.cloud_at shelf.old header.now.cloud.0).told
+        → is_begun ((V.cloud_at shelf.old header.now.cloud.0).now Area.Journal).read ≡ false
+        → OnOk result (IsEnded (state_of journal.new) ((V.cloud_at shelf.new header.now.cloud.0).now Area.Journal)
+        (header_bytes header.now ∷ [])) }
     ensures others { IsTrue (V.cloud_at shelf.old header.now.cloud.0).told
-        → OnOk result ((other : Area) → other ≢ Area.Journal → (V.cloud_at shelf.new header.now.cloud.0).now other ≡ stable ((V.cloud_at shelf.old header.now.cloud.0).now other).read) }
+        → OnOk result ((other : Area) → other ≢ Area.Journal
+        → (V.cloud_at shelf.new header.now.cloud.0).now other
+        ≡ stable ((V.cloud_at shelf.old header.now.cloud.0).now other).read) }
     ensures gate { OnOk result (IsAtFirstGate (state_of journal.new)) }
     ensures begins { IsTrue begin → HasBegun result }
     ensures kind { IsOfJournal result }
     ensures stage { (state_of journal.new).stage ≡ stage_opened result }
     ensures limit { (state_of journal.new).limit ≡ (state_of journal.old).limit }
-    ensures call { IsCall (V.cloud_at shelf.old) (V.cloud_at shelf.new) header.now.cloud.0 (V.faults shelf.old) (V.faults shelf.new) }
-    ensures counts { OnFault result (HasFailed (V.cloud_at shelf.old header.now.cloud.0) (V.cloud_at shelf.new header.now.cloud.0) (V.faults shelf.old) (V.faults shelf.new))
-        (KeepsCounts (V.cloud_at shelf.old header.now.cloud.0) (V.cloud_at shelf.new header.now.cloud.0) (V.faults shelf.old) (V.faults shelf.new)) }
+    ensures call { IsCall (V.cloud_at shelf.old) (V.cloud_at shelf.new) header.now.cloud.0 (V.faults shelf.old)
+        (V.faults shelf.new) }
+    ensures counts { OnFault result
+        (HasFailed (V.cloud_at shelf.old header.now.cloud.0) (V.cloud_at shelf.new header.now.cloud.0)
+        (V.faults shelf.old) (V.faults shelf.new))
+        (KeepsCounts (V.cloud_at shelf.old header.now.cloud.0) (V.cloud_at shelf.new header.now.cloud.0)
+        (V.faults shelf.old) (V.faults shelf.new)) }
 {
     match sync_all(shelf, header.cloud) {
         Ok(()) => journal.open(shelf, header.cloud, header, begin),

@@ -12,6 +12,7 @@ ghost use Rattle.cloud_opening.specs.Exact.{Opens};
 /// check that fails, in the order of the records and of the checks of each, or else how many records there are. The header is one
 /// that is written, as that of every server is.
 pub fn law_of_openings()
-    ensures one { (header : Header) (limits : Rooms) (begin : Bool) (image : Image) (one two : Result ℕ OpenErr) → IsWritten header
+    ensures one { (header : Header) (limits : Rooms) (begin : Bool) (image : Image) (one two : Result ℕ OpenErr)
+        → IsWritten header
         → Opens header limits begin image one → Opens header limits begin image two → one ≡ two }
 {}

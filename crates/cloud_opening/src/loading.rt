@@ -45,20 +45,30 @@ fn read_records<V: Shelf>(
     requires rooms { HasRooms rooms.now index.old }
     requires shares { index.old.shares_end ≤ rooms.now.shares }
     requires recipes { index.old.recipes_end ≤ rooms.now.recipes }
-    ensures replayed { IsTrue (V.cloud_at shelf.old cloud.0).told → (header : Header) (list : List Command) → IsSound header.shape header.cloud.0 list → HasList (reads (V.cloud_at shelf.old cloud.0).now) header list
-        → IsReading (state_of journal.old) ((V.cloud_at shelf.old cloud.0).now Area.Journal) (header_bytes header ∷ []) → Remembers header.shape [] index.old
-        → AllIs header list rooms.now (state_of journal.new) ((V.cloud_at shelf.new cloud.0).now Area.Journal) index.new result }
-    ensures exact { IsTrue (V.cloud_at shelf.old cloud.0).told → (bodies : List (List ℕ)) → IsReading (state_of journal.old) ((V.cloud_at shelf.old cloud.0).now Area.Journal) bodies
-        → OnFault result (Unit {0}) (HeaderAs rooms.now (lengths_of (reads (V.cloud_at shelf.old cloud.0).now)) ((V.cloud_at shelf.old cloud.0).now Area.Journal) (state_of journal.old) index.old result) }
+    ensures replayed { IsTrue (V.cloud_at shelf.old cloud.0).told → (header : Header) (list : List Command)
+        → IsSound header.shape header.cloud.0 list → HasList (reads (V.cloud_at shelf.old cloud.0).now) header list
+        → IsReading (state_of journal.old) ((V.cloud_at shelf.old cloud.0).now Area.Journal) (header_bytes header ∷ [])
+        → Remembers header.shape [] index.old
+        → AllIs header list rooms.now (state_of journal.new)
+        ((V.cloud_at shelf.new cloud.0).now Area.Journal) index.new result }
+    ensures exact { IsTrue (V.cloud_at shelf.old cloud.0).told → (bodies : List (List ℕ))
+        → IsReading (state_of journal.old) ((V.cloud_at shelf.old cloud.0).now Area.Journal) bodies
+        → OnFault result (Unit {0})
+        (HeaderAs rooms.now (lengths_of (reads (V.cloud_at shelf.old cloud.0).now))
+        ((V.cloud_at shelf.old cloud.0).now Area.Journal) (state_of journal.old) index.old result) }
     ensures rooms { HasRooms rooms.now index.new }
     ensures between { OnOk result (IsBetween rooms.now (state_of journal.new) index.new) }
     ensures stage { (state_of journal.new).stage ≡ stage_after result }
     ensures limit { (state_of journal.new).limit ≡ (state_of journal.old).limit }
     ensures kind { IsOfRecords result }
     ensures stays { Stays (V.cloud_at shelf.old cloud.0) (V.cloud_at shelf.new cloud.0) }
-    ensures call { IsCall (V.cloud_at shelf.old) (V.cloud_at shelf.new) cloud.0 (V.faults shelf.old) (V.faults shelf.new) }
-    ensures counts { OnFault result (HasFailed (V.cloud_at shelf.old cloud.0) (V.cloud_at shelf.new cloud.0) (V.faults shelf.old) (V.faults shelf.new))
-        (KeepsCounts (V.cloud_at shelf.old cloud.0) (V.cloud_at shelf.new cloud.0) (V.faults shelf.old) (V.faults shelf.new)) }
+    ensures call { IsCall (V.cloud_at shelf.old) (V.cloud_at shelf.new) cloud.0 (V.faults shelf.old)
+        (V.faults shelf.new) }
+    ensures counts { OnFault result
+        (HasFailed (V.cloud_at shelf.old cloud.0) (V.cloud_at shelf.new cloud.0) (V.faults shelf.old)
+        (V.faults shelf.new))
+        (KeepsCounts (V.cloud_at shelf.old cloud.0) (V.cloud_at shelf.new cloud.0) (V.faults shelf.old)
+        (V.faults shelf.new)) }
 {
     if rooms.journal < HEADER_USES {
         journal.shut();
@@ -89,32 +99,56 @@ pub(crate) fn load<V: Shelf>(
 ) -> Result<u64, OpenErr>
     requires written { IsWritten header.now }
     requires rooms { HasRooms rooms.now index.old }
-    ensures kept { IsTrue (V.cloud_at shelf.old header.now.cloud.0).told → (lists : List (List Command)) → ImagesNow (V.cloud_at shelf.old header.now.cloud.0) header.now (Contains lists)
-        → ImagesSince (V.cloud_at shelf.old header.now.cloud.0) (V.cloud_at shelf.new header.now.cloud.0) header.now (Contains lists) }
-    ensures any_moment { IsTrue (V.cloud_at shelf.old header.now.cloud.0).told → LeavesOnly (V.cloud_at shelf.old header.now.cloud.0) (V.cloud_at shelf.new header.now.cloud.0)
+    ensures kept { IsTrue (V.cloud_at shelf.old header.now.cloud.0).told → (lists : List (List Command))
+        → ImagesNow (V.cloud_at shelf.old header.now.cloud.0) header.now (Contains lists)
+        → ImagesSince (V.cloud_at shelf.old header.now.cloud.0) (V.cloud_at shelf.new header.now.cloud.0) header.now
+        (Contains lists) }
+    ensures any_moment { IsTrue (V.cloud_at shelf.old header.now.cloud.0).told
+        → LeavesOnly (V.cloud_at shelf.old header.now.cloud.0) (V.cloud_at shelf.new header.now.cloud.0)
         (MayBecome (V.cloud_at shelf.old header.now.cloud.0).now header.now begin) }
-    ensures begun_stays { IsTrue (V.cloud_at shelf.old header.now.cloud.0).told → is_begun ((V.cloud_at shelf.old header.now.cloud.0).now Area.Journal).read ≡ true
-        → OnFault result (Unit {0}) (AreSynced (V.cloud_at shelf.old header.now.cloud.0) (V.cloud_at shelf.new header.now.cloud.0)) }
-    ensures still_read { IsTrue (V.cloud_at shelf.old header.now.cloud.0).told → MayBecome (V.cloud_at shelf.old header.now.cloud.0).now header.now begin (reads (V.cloud_at shelf.new header.now.cloud.0).now) }
-    ensures opened { IsTrue (V.cloud_at shelf.old header.now.cloud.0).told → (lists : List (List Command)) → ImagesNow (V.cloud_at shelf.old header.now.cloud.0) header.now (Contains lists)
-        → IfOk result (λ commands. (list : List Command) × Contains lists list × (commands ≡ length list) × IsLoaded header.now list rooms.now (state_of journal.new) (V.cloud_at shelf.new header.now.cloud.0) index.new) }
-    ensures loaded { IsTrue (V.cloud_at shelf.old header.now.cloud.0).told → (list : List Command) → StandsFor (reads (V.cloud_at shelf.old header.now.cloud.0).now) header.now list
-        → IfOk result (λ commands. (commands ≡ length list) × IsLoaded header.now list rooms.now (state_of journal.new) (V.cloud_at shelf.new header.now.cloud.0) index.new) }
-    ensures whole { IsTrue (V.cloud_at shelf.old header.now.cloud.0).told → (list : List Command) → StandsFor (reads (V.cloud_at shelf.old header.now.cloud.0).now) header.now list → IsWithin rooms.now list
+    ensures begun_stays { IsTrue (V.cloud_at shelf.old header.now.cloud.0).told
+        → is_begun ((V.cloud_at shelf.old header.now.cloud.0).now Area.Journal).read ≡ true
+        → OnFault result (Unit {0})
+        (AreSynced (V.cloud_at shelf.old header.now.cloud.0) (V.cloud_at shelf.new header.now.cloud.0)) }
+    ensures still_read { IsTrue (V.cloud_at shelf.old header.now.cloud.0).told
+        → MayBecome (V.cloud_at shelf.old header.now.cloud.0).now header.now begin
+        (reads (V.cloud_at shelf.new header.now.cloud.0).now) }
+    ensures opened { IsTrue (V.cloud_at shelf.old header.now.cloud.0).told → (lists : List (List Command))
+        → ImagesNow (V.cloud_at shelf.old header.now.cloud.0) header.now (Contains lists)
+        → IfOk result (λ commands. (list : List Command) × Contains lists list × (commands ≡ length list)
+        × IsLoaded header.now list rooms.now (state_of journal.new)
+        (V.cloud_at shelf.new header.now.cloud.0) index.new) }
+    ensures loaded { IsTrue (V.cloud_at shelf.old header.now.cloud.0).told → (list : List Command)
+        → StandsFor (reads (V.cloud_at shelf.old header.now.cloud.0).now) header.now list
+        → IfOk result (λ commands. (commands ≡ length list)
+        × IsLoaded header.now list rooms.now (state_of journal.new)
+        (V.cloud_at shelf.new header.now.cloud.0) index.new) }
+    ensures whole { IsTrue (V.cloud_at shelf.old header.now.cloud.0).told → (list : List Command)
+        → StandsFor (reads (V.cloud_at shelf.old header.now.cloud.0).now) header.now list → IsWithin rooms.now list
         → MayBegin ((V.cloud_at shelf.old header.now.cloud.0).now Area.Journal).read begin → IsOkOrFault result }
-    ensures not_begun { IsTrue (V.cloud_at shelf.old header.now.cloud.0).told → NotBegunIs (V.cloud_at shelf.old header.now.cloud.0) (V.cloud_at shelf.new header.now.cloud.0) begin result }
-    ensures other_store { IsTrue (V.cloud_at shelf.old header.now.cloud.0).told → OtherStoreIs ((V.cloud_at shelf.old header.now.cloud.0).now Area.Journal).read header.now result }
-    ensures exact { IsTrue (V.cloud_at shelf.old header.now.cloud.0).told → OnFault result (Unit {0}) (Opens header.now rooms.now begin (reads (V.cloud_at shelf.old header.now.cloud.0).now) result) }
-    ensures synced { IsTrue (V.cloud_at shelf.old header.now.cloud.0).told → OnFault result (Unit {0}) (BeginsSynced (V.cloud_at shelf.old header.now.cloud.0) (V.cloud_at shelf.new header.now.cloud.0)) }
+    ensures not_begun { IsTrue (V.cloud_at shelf.old header.now.cloud.0).told
+        → NotBegunIs (V.cloud_at shelf.old header.now.cloud.0) (V.cloud_at shelf.new header.now.cloud.0) begin result }
+    ensures other_store { IsTrue (V.cloud_at shelf.old header.now.cloud.0).told
+        → OtherStoreIs ((V.cloud_at shelf.old header.now.cloud.0).now Area.Journal).read header.now result }
+    ensures exact { IsTrue (V.cloud_at shelf.old header.now.cloud.0).told
+        → OnFault result (Unit {0})
+        (Opens header.now rooms.now begin (reads (V.cloud_at shelf.old header.now.cloud.0).now) result) }
+    ensures synced { IsTrue (V.cloud_at shelf.old header.now.cloud.0).told
+        → OnFault result (Unit {0})
+        (BeginsSynced (V.cloud_at shelf.old header.now.cloud.0) (V.cloud_at shelf.new header.now.cloud.0)) }
     ensures begins { IsTrue begin → HasBegun result }
     ensures memory { HasMemory result }
     ensures rooms { HasRooms rooms.now index.new }
     ensures between { OnOk result (IsBetween rooms.now (state_of journal.new) index.new) }
     ensures stage { (state_of journal.new).stage ≡ stage_after result }
     ensures limit { (state_of journal.new).limit ≡ (state_of journal.old).limit }
-    ensures call { IsCall (V.cloud_at shelf.old) (V.cloud_at shelf.new) header.now.cloud.0 (V.faults shelf.old) (V.faults shelf.new) }
-    ensures counts { OnFault result (HasFailed (V.cloud_at shelf.old header.now.cloud.0) (V.cloud_at shelf.new header.now.cloud.0) (V.faults shelf.old) (V.faults shelf.new))
-        (KeepsCounts (V.cloud_at shelf.old header.now.cloud.0) (V.cloud_at shelf.new header.now.cloud.0) (V.faults shelf.old) (V.faults shelf.new)) }
+    ensures call { IsCall (V.cloud_at shelf.old) (V.cloud_at shelf.new) header.now.cloud.0 (V.faults shelf.old)
+        (V.faults shelf.new) }
+    ensures counts { OnFault result
+        (HasFailed (V.cloud_at shelf.old header.now.cloud.0) (V.cloud_at shelf.new header.now.cloud.0)
+        (V.faults shelf.old) (V.faults shelf.new))
+        (KeepsCounts (V.cloud_at shelf.old header.now.cloud.0) (V.cloud_at shelf.new header.now.cloud.0)
+        (V.faults shelf.old) (V.faults shelf.new)) }
 {
     index.clear();
     match open_journal(journal, shelf, header, begin) {

@@ -41,17 +41,20 @@ fn serve_responder<V: Shelf, P: Ports>(
     serve_frames(responder, ports, port, framer, reply)
 }
 
-/// Serves the connection on a port by a cloud's server, until its stream ends, a length comes that no frame has, the ports fail, or
-/// 1,099,511,627,776 bytes came. The framer's bytes are forgotten first.
+/// Serves the connection on a port by a cloud's server, until its stream ends, a length comes that no frame has, the
+/// ports fail, or 1,099,511,627,776 bytes came. The framer's bytes are forgotten first.
 ///
-/// Each frame that comes is a request's content, and is answered by one frame, in order, however the bytes come in pieces. On a cloud
-/// that stands as a peer each reply is the one that the peer's list gives, and the peer goes on by the requests; `Malformed` is the reply
-/// to content that asks nothing. On any other cloud each reply is one that some server gives to its request.
+/// Each frame that comes is a request's content, and is answered by one frame, in order, however the bytes come in
+/// pieces. On a cloud that stands as a peer each reply is the one that the peer's list gives, and the peer goes on by
+/// the requests; `Malformed` is the reply to content that asks nothing. On any other cloud each reply is one that some
+/// server gives to its request.
 ///
-/// Where the ports tell their bytes: for `End` the stream ended between frames, and for `Cut` inside one, of which `got` bytes came; for
-/// `BadLength` in a frame's place stood the length that was found; for `Spent` so many bytes came. In these four all whole frames that came
-/// were answered, and the bytes sent are the frames of the replies. `Failed` comes only where the ports' count of faults rose; then
-/// the frames that were answered are the first of those that came, and the last reply's frame may be cut short.
+/// Where the ports tell their bytes: for `End` the stream ended between frames, and for `Cut` inside one, of which
+/// `got` bytes came; for
+/// `BadLength` in a frame's place stood the length that was found; for `Spent` so many bytes came. In these four all
+/// whole frames that came were answered, and the bytes sent are the frames of the replies. `Failed` comes only where
+/// the ports' count of faults rose; then the frames that were answered are the first of those that came, and the last
+/// reply's frame may be cut short.
 pub fn serve_connection<V: Shelf, P: Ports>(
     server: &mut Server,
     shelf: &mut V,

@@ -1,7 +1,7 @@
 -- What a server keeps of its cloud between two requests.
 use Rattle.std.specs.Prelude.{◌≡◌, ◌≤◌, ◌+◌, [], List, vec_len}
 use Rattle.cd_base.specs.declared.rooms.Rooms.{Rooms}
-use Rattle.cd_base.specs.Limits.{greatest_rooms}
+use Rattle.cd_base.specs.Limits.{greatest_rooms, recipe_limit}
 use Rattle.cd_edges.specs.declared.area.Area.TheVariants.{Shares, Recipes}
 use Rattle.cd_edges.specs.Disk.{Cloud}
 use Rattle.commit_journal.specs.declared.journal.Stage.TheVariants.{AtEnd}
@@ -46,7 +46,7 @@ pub record IsSettled (state : CloudState) : Type 0 where
   pub limits : AreRooms state.rooms
   pub rooms : HasRooms state.rooms state.index
   pub logs : HasLogs state.rooms state.log
-  pub blob : 1180190 ≤ vec_len state.blob
+  pub blob : recipe_limit ≤ vec_len state.blob
   pub ends : IsOpen state → HasEnds state
 
 -- The memory agrees with the cloud on the list of commands that its areas stand for.

@@ -5,15 +5,12 @@ ghost use Rattle.commit_journal.specs.Headers.{IsWritten};
 ghost use Rattle.commit_journal.specs.declared.journal.Stage.TheVariants.{Shut};
 ghost use Rattle.cloud_state.specs.State.{AreRooms, IsOpen, IsSettled};
 
-use cd_base::{NoMemory, Rooms};
+use cd_base::{NoMemory, RECIPE_LIMIT, Rooms};
 use cloud_index::CloudIndex;
 use command_log::CommandLog;
 use commit_journal::Header;
 use record_body::RecordBuf;
 use std::alloc::Global;
-
-/// The most bytes of a recipe, which are more than a share has.
-pub const LONGEST_BLOB: usize = 1_180_190;
 
 /// The state of a server, whose parts its requests work on.
 #[derive(Drop)]
@@ -28,7 +25,7 @@ pub struct CloudState {
     pub log: CommandLog,
     /// The body of the record that is being made.
     pub record: RecordBuf,
-    /// Room for a share or a recipe that is read.
+    /// Room for a share or a recipe that is read: the most bytes of a recipe, which are more than a share has.
     pub blob: Vec<u8>,
 }
 
@@ -53,7 +50,7 @@ impl CloudState {
         let index = CloudIndex::make(alloc, &rooms)?;
         let log = CommandLog::make(alloc, &rooms)?;
         let record = RecordBuf::make(alloc)?;
-        let blob = buffer(alloc, LONGEST_BLOB)?;
+        let blob = buffer(alloc, RECIPE_LIMIT as usize)?;
         Ok(CloudState {
             header,
             rooms,

@@ -13,7 +13,10 @@ ghost use Rattle.command_log.specs.Logs.{Logs, IsOn};
 /// A cloud on which a command log stands for a list is ready for it where the list is within the rooms, and each image now
 /// stands for the list. The bytes used in the journal are those that the list's records have.
 pub fn law_of_ready()
-    ensures ready { (header : Header) (list : List Command) (log : Logs) (cloud : Cloud) (rooms : Rooms) → IsOn header list log cloud → IsWithin rooms list → IsReady cloud header rooms list }
-    ensures images { (header : Header) (list : List Command) (log : Logs) (cloud : Cloud) → IsOn header list log cloud → ImagesNow cloud header (λ (other : List Command). other ≡ list) }
-    ensures used { (header : Header) (list : List Command) (log : Logs) (cloud : Cloud) → IsOn header list log cloud → log.journal.gate + 1 ≡ journal_len list }
+    ensures ready { (header : Header) (list : List Command) (log : Logs) (cloud : Cloud) (rooms : Rooms)
+        → IsOn header list log cloud → IsWithin rooms list → IsReady cloud header rooms list }
+    ensures images { (header : Header) (list : List Command) (log : Logs) (cloud : Cloud) → IsOn header list log cloud
+        → ImagesNow cloud header (λ (other : List Command). other ≡ list) }
+    ensures used { (header : Header) (list : List Command) (log : Logs) (cloud : Cloud) → IsOn header list log cloud
+        → log.journal.gate + 1 ≡ journal_len list }
 {}

@@ -1,6 +1,7 @@
 //! A cloud's journal and its two logs.
 
-ghost use Rattle.std.specs.Prelude.{◌≡◌, ◌↔◌, ℕ, ◌+◌, ◌<◌, ◌≤◌, List, [], ◌∷◌, ◌++◌, length, IsTrue, IfOk, OnOk, OnErr, MatchOption, MatchResult, is_ok, if◌then◌else◌};
+ghost use Rattle.std.specs.Prelude.{◌≡◌, ◌↔◌, ℕ, ◌+◌, ◌<◌, ◌≤◌, List, [], ◌∷◌, ◌++◌, length, IsTrue, IfOk, OnOk, OnErr};
+ghost use Rattle.std.specs.Prelude.{MatchOption, MatchResult, is_ok, if◌then◌else◌};
 ghost use Rattle.std.specs.List.{Contains};
 ghost use Rattle.cd_edges.specs.declared.area.Area.TheVariants.{Shares, Recipes};
 ghost use Rattle.cd_edges.specs.Disk.{Cloud, LeavesOnly, moment};
@@ -9,14 +10,15 @@ ghost use Rattle.commit_journal.specs.declared.header.Header.{Header};
 ghost use Rattle.commit_journal.specs.declared.journal.Stage.TheVariants.{Shut, AtEnd};
 ghost use Rattle.commit_journal.specs.States.{state_of};
 ghost use Rattle.container_log.specs.Laying.{Placed, lengths, placed};
-ghost use Rattle.container_log.specs.Places.{place_of, end_of_laid};
-ghost use Rattle.container_log.specs.States.{HasStaged, staged_end, need_of, with_blob};
+ghost use Rattle.container_log.specs.Places.{container_len, place_of, end_of_laid};
+ghost use Rattle.container_log.specs.States.{HasStaged, need_of, with_blob};
 ghost use Rattle.user_dedup.specs.declared.command.Command.{Command};
 ghost use Rattle.cloud_store.specs.Contents.{strings_in, shares_end, laid_shares, recipes_in, recipes_end};
 ghost use Rattle.cloud_store.specs.Standing.{StandsForSome};
 ghost use Rattle.command_log.specs.Held.{flush_moments};
 ghost use Rattle.command_log.specs.Lending.{LendsJournal, LendsShares, LendsRecipes};
 ghost use Rattle.command_log.specs.Logs.{Logs, IsOn, IsPrepared, IsWithOrWithout, EndsBehind, SameRooms, without_staged};
+ghost use Rattle.command_log.specs.Rooms.{empty_log, HasJournalRoom, LacksJournalRoom, LiesWithin, LacksRoom};
 ghost use Rattle.std.specs.Borrow.{sem};
 
 use crate::JournalFull;
@@ -53,12 +55,13 @@ impl Model for CommandLog {
 }
 
 impl CommandLog {
-    /// A log that isn't open yet, with nothing staged, in rooms of these sizes. Each of the two logs keeps up to 4 containers that were
-    /// read lately, and takes 4,194,304 bytes for each when it is read, where there is memory. All else is taken here.
+    /// A log that isn't open yet, with nothing staged, in rooms of these sizes. Each of the two logs keeps up to 4
+    /// containers that were read lately, and takes 4,194,304 bytes for each when it is read, where there is memory. All
+    /// else is taken here.
     pub fn make(alloc: Global, rooms: &Rooms) -> Result<CommandLog, NoMemory>
         ensures journal { IfOk result (λ log. (log.journal.limit ≡ rooms.now.journal) × (log.journal.stage ≡ Shut)) }
-        ensures shares { IfOk result (λ log. log.shares ≡ record { area = Shares; limit = rooms.now.shares; end = 0; staged = []; keep = 4; kept = [] }) }
-        ensures recipes { IfOk result (λ log. log.recipes ≡ record { area = Recipes; limit = rooms.now.recipes; end = 0; staged = []; keep = 4; kept = [] }) }
+        ensures shares { IfOk result (λ log. log.shares ≡ empty_log Shares rooms.now.shares) }
+        ensures recipes { IfOk result (λ log. log.recipes ≡ empty_log Recipes rooms.now.recipes) }
     {
         Ok(CommandLog {
             journal: Journal::make(alloc, rooms.journal)?,
@@ -113,9 +116,7 @@ impl CommandLog {
     pub fn journal_room(&self, len: usize) -> Option<JournalFull>
         requires at_end { self.now.journal.stage ≡ AtEnd }
         requires few { len ≤ 65535 }
-        ensures { MatchOption result
-            (self.now.journal.gate + 1 + (len + 5) ≤ self.now.journal.limit)
-            (λ full. (self.now.journal.limit < self.now.journal.gate + 1 + (len + 5)) × (full ≡ record { used = self.now.journal.gate + 1; need = len + 5; limit = self.now.journal.limit })) }
+        ensures { MatchOption result (HasJournalRoom self.now.journal len) (LacksJournalRoom self.now.journal len) }
     {
         let used = self.journal.used();
         let need = len as u64 + 5;
@@ -130,7 +131,7 @@ impl CommandLog {
     /// Whether a share of `len` bytes has room among the shares that can be staged, with the zeros before it: what is staged
     /// would have 4,194,304 bytes at most.
     pub fn has_room_for_share(&self, len: usize) -> bool
-        ensures { IsTrue result ↔ (need_of self.now.shares len ≤ 4194304) }
+        ensures { IsTrue result ↔ (need_of self.now.shares len ≤ container_len) }
     {
         self.shares.has_room(len)
     }
@@ -138,7 +139,7 @@ impl CommandLog {
     /// Whether a recipe of `len` bytes has room among the recipes that can be staged, with the zeros before it: what is staged
     /// would have 4,194,304 bytes at most.
     pub fn has_room_for_recipe(&self, len: usize) -> bool
-        ensures { IsTrue result ↔ (need_of self.now.recipes len ≤ 4194304) }
+        ensures { IsTrue result ↔ (need_of self.now.recipes len ≤ container_len) }
     {
         self.recipes.has_room(len)
     }
@@ -146,16 +147,19 @@ impl CommandLog {
     /// Stages a share behind those that are staged, and answers the place where it will lie. LogFull comes exactly where it
     /// would end past the limit of the shares, and nothing changes then. It takes no memory.
     pub fn stage_share(&mut self, share: &[u8]) -> Result<u64, LogFull>
-        requires room { need_of self.old.shares (length share.now) ≤ 4194304 }
+        requires room { need_of self.old.shares (length share.now) ≤ container_len }
         ensures answer { MatchResult result
-            (λ place. (self.old.shares.end + need_of self.old.shares (length share.now) ≤ self.old.shares.limit) × (place ≡ place_of (staged_end self.old.shares) (length share.now)))
-            (λ full. (self.old.shares.limit < self.old.shares.end + need_of self.old.shares (length share.now)) × (full ≡ record { used = self.old.shares.end; need = need_of self.old.shares (length share.now); limit = self.old.shares.limit })) }
+            (LiesWithin self.old.shares (length share.now)) (LacksRoom self.old.shares (length share.now)) }
         ensures ok { OnOk result (self.new ≡ record self.old { shares = with_blob self.old.shares share.now }) }
         ensures err { OnErr result (self.new ≡ self.old) }
-        ensures place { (header : Header) (list : List Command) (cloud : Cloud) (blobs : List (List ℕ)) → IsOn header list self.old cloud → HasStaged self.old.shares blobs
-            → IfOk result (λ place. place ≡ place_of (end_of_laid (shares_end (strings_in list)) (lengths blobs)) (length share.now)) }
-        ensures staged { (blobs : List (List ℕ)) → HasStaged self.old.shares blobs → OnOk result (HasStaged self.new.shares (blobs ++ share.now ∷ [])) }
-        ensures on { (header : Header) (list : List Command) (cloud : Cloud) → IsOn header list self.old cloud → IsOn header list self.new cloud }
+        ensures place { (header : Header) (list : List Command) (cloud : Cloud) (blobs : List (List ℕ))
+            → IsOn header list self.old cloud → HasStaged self.old.shares blobs
+            → IfOk result (λ place. place ≡ place_of (end_of_laid (shares_end (strings_in list)) (lengths blobs))
+            (length share.now)) }
+        ensures staged { (blobs : List (List ℕ)) → HasStaged self.old.shares blobs
+            → OnOk result (HasStaged self.new.shares (blobs ++ share.now ∷ [])) }
+        ensures on { (header : Header) (list : List Command) (cloud : Cloud) → IsOn header list self.old cloud
+            → IsOn header list self.new cloud }
     {
         self.shares.stage(share)
     }
@@ -163,16 +167,19 @@ impl CommandLog {
     /// Stages a recipe behind those that are staged, and answers the place where it will lie. LogFull comes exactly where it
     /// would end past the limit of the recipes, and nothing changes then. It takes no memory.
     pub fn stage_recipe(&mut self, recipe: &[u8]) -> Result<u64, LogFull>
-        requires room { need_of self.old.recipes (length recipe.now) ≤ 4194304 }
+        requires room { need_of self.old.recipes (length recipe.now) ≤ container_len }
         ensures answer { MatchResult result
-            (λ place. (self.old.recipes.end + need_of self.old.recipes (length recipe.now) ≤ self.old.recipes.limit) × (place ≡ place_of (staged_end self.old.recipes) (length recipe.now)))
-            (λ full. (self.old.recipes.limit < self.old.recipes.end + need_of self.old.recipes (length recipe.now)) × (full ≡ record { used = self.old.recipes.end; need = need_of self.old.recipes (length recipe.now); limit = self.old.recipes.limit })) }
+            (LiesWithin self.old.recipes (length recipe.now)) (LacksRoom self.old.recipes (length recipe.now)) }
         ensures ok { OnOk result (self.new ≡ record self.old { recipes = with_blob self.old.recipes recipe.now }) }
         ensures err { OnErr result (self.new ≡ self.old) }
-        ensures place { (header : Header) (list : List Command) (cloud : Cloud) (blobs : List (List ℕ)) → IsOn header list self.old cloud → HasStaged self.old.recipes blobs
-            → IfOk result (λ place. place ≡ place_of (end_of_laid (recipes_end list) (lengths blobs)) (length recipe.now)) }
-        ensures staged { (blobs : List (List ℕ)) → HasStaged self.old.recipes blobs → OnOk result (HasStaged self.new.recipes (blobs ++ recipe.now ∷ [])) }
-        ensures on { (header : Header) (list : List Command) (cloud : Cloud) → IsOn header list self.old cloud → IsOn header list self.new cloud }
+        ensures place { (header : Header) (list : List Command) (cloud : Cloud) (blobs : List (List ℕ))
+            → IsOn header list self.old cloud → HasStaged self.old.recipes blobs
+            → IfOk result (λ place. place ≡ place_of (end_of_laid (recipes_end list) (lengths blobs))
+            (length recipe.now)) }
+        ensures staged { (blobs : List (List ℕ)) → HasStaged self.old.recipes blobs
+            → OnOk result (HasStaged self.new.recipes (blobs ++ recipe.now ∷ [])) }
+        ensures on { (header : Header) (list : List Command) (cloud : Cloud) → IsOn header list self.old cloud
+            → IsOn header list self.new cloud }
     {
         self.recipes.stage(recipe)
     }
@@ -181,7 +188,8 @@ impl CommandLog {
     pub fn unstage(&mut self)
         ensures forgets { self.new ≡ without_staged self.old }
         ensures none { HasStaged self.new.shares [] × HasStaged self.new.recipes [] }
-        ensures on { (header : Header) (list : List Command) (cloud : Cloud) → IsOn header list self.old cloud → IsOn header list self.new cloud }
+        ensures on { (header : Header) (list : List Command) (cloud : Cloud) → IsOn header list self.old cloud
+            → IsOn header list self.new cloud }
     {
         self.shares.unstage();
         self.recipes.unstage();
@@ -206,20 +214,30 @@ impl CommandLog {
         requires few { length body.now ≤ 65535 }
         requires room { self.old.journal.gate + 1 + (length body.now + 5) ≤ self.old.journal.limit }
 
-        ensures any_moment { (header : Header) (list : List Command) (command : Command) → IsPrepared header list command self.old body.now (V.cloud_at shelf.old cloud.0)
-            → LeavesOnly (V.cloud_at shelf.old cloud.0) (V.cloud_at shelf.new cloud.0) (StandsForSome header (IsWithOrWithout list command)) }
-        ensures added { (header : Header) (list : List Command) (command : Command) → IsPrepared header list command self.old body.now (V.cloud_at shelf.old cloud.0)
+        ensures any_moment { (header : Header) (list : List Command) (command : Command)
+            → IsPrepared header list command self.old body.now (V.cloud_at shelf.old cloud.0)
+            → LeavesOnly (V.cloud_at shelf.old cloud.0) (V.cloud_at shelf.new cloud.0)
+            (StandsForSome header (IsWithOrWithout list command)) }
+        ensures added { (header : Header) (list : List Command) (command : Command)
+            → IsPrepared header list command self.old body.now (V.cloud_at shelf.old cloud.0)
             → OnOk result (IsOn header (list ++ command ∷ []) self.new (V.cloud_at shelf.new cloud.0)) }
         ensures moments { IsTrue (V.cloud_at shelf.old cloud.0).told
-            → OnOk result (moment (V.cloud_at shelf.new cloud.0) ≡ moment (V.cloud_at shelf.old cloud.0) + flush_moments self.old.shares + flush_moments self.old.recipes + 4) }
+            → OnOk result (moment (V.cloud_at shelf.new cloud.0)
+            ≡ moment (V.cloud_at shelf.old cloud.0) + flush_moments self.old.shares + flush_moments self.old.recipes
+            + 4) }
 
         ensures none { HasStaged self.new.shares [] × HasStaged self.new.recipes [] }
         ensures ends { OnOk result (EndsBehind self.old self.new body.now) }
         ensures stage { self.new.journal.stage ≡ (if is_ok result then AtEnd else Shut) }
         ensures rooms { SameRooms self.old self.new }
-        ensures call { IsCall (V.cloud_at shelf.old) (V.cloud_at shelf.new) cloud.0 (V.faults shelf.old) (V.faults shelf.new) }
-        ensures failed { OnErr result (HasFailed (V.cloud_at shelf.old cloud.0) (V.cloud_at shelf.new cloud.0) (V.faults shelf.old) (V.faults shelf.new)) }
-        ensures uncounted { OnOk result (KeepsCounts (V.cloud_at shelf.old cloud.0) (V.cloud_at shelf.new cloud.0) (V.faults shelf.old) (V.faults shelf.new)) }
+        ensures call { IsCall (V.cloud_at shelf.old) (V.cloud_at shelf.new) cloud.0 (V.faults shelf.old)
+            (V.faults shelf.new) }
+        ensures failed { OnErr result
+            (HasFailed (V.cloud_at shelf.old cloud.0) (V.cloud_at shelf.new cloud.0) (V.faults shelf.old)
+            (V.faults shelf.new)) }
+        ensures uncounted { OnOk result
+            (KeepsCounts (V.cloud_at shelf.old cloud.0) (V.cloud_at shelf.new cloud.0) (V.faults shelf.old)
+            (V.faults shelf.new)) }
     {
         match flush_both(&mut self.shares, &mut self.recipes, shelf, cloud) {
             Ok(()) => append_record(&mut self.journal, shelf, cloud, body),
@@ -241,16 +259,26 @@ impl CommandLog {
         place: u64,
         out: &mut [u8],
     ) -> Result<usize, Failed>
-        ensures share { (header : Header) (list : List Command) (b : Placed) → IsOn header list self.old (V.cloud_at shelf.old cloud.0) → Contains (laid_shares (strings_in list)) b
-            → b.place ≡ place → length b.blob ≡ length out.old → IfOk result (λ count. (count ≡ length b.blob) × (out.new ≡ b.blob)) }
-        ensures bytes { IsTrue (V.cloud_at shelf.old cloud.0).told → IfOk result (λ count. ReadsFrom ((V.cloud_at shelf.old cloud.0).now self.old.shares.area).read place count out.new) }
+        ensures share { (header : Header) (list : List Command) (b : Placed)
+            → IsOn header list self.old (V.cloud_at shelf.old cloud.0) → Contains (laid_shares (strings_in list)) b
+            → b.place ≡ place → length b.blob ≡ length out.old
+            → IfOk result (λ count. (count ≡ length b.blob) × (out.new ≡ b.blob)) }
+        ensures bytes { IsTrue (V.cloud_at shelf.old cloud.0).told
+            → IfOk result (λ count. ReadsFrom
+            ((V.cloud_at shelf.old cloud.0).now self.old.shares.area).read place count out.new) }
         ensures bound { IfOk result (λ count. count ≤ length out.new) }
-        ensures on { (header : Header) (list : List Command) → IsOn header list self.old (V.cloud_at shelf.old cloud.0) → IsOn header list self.new (V.cloud_at shelf.new cloud.0) }
+        ensures on { (header : Header) (list : List Command) → IsOn header list self.old (V.cloud_at shelf.old cloud.0)
+            → IsOn header list self.new (V.cloud_at shelf.new cloud.0) }
         ensures log { self.new ≡ self.old }
         ensures stays { Stays (V.cloud_at shelf.old cloud.0) (V.cloud_at shelf.new cloud.0) }
-        ensures call { IsCall (V.cloud_at shelf.old) (V.cloud_at shelf.new) cloud.0 (V.faults shelf.old) (V.faults shelf.new) }
-        ensures failed { OnErr result (HasFailed (V.cloud_at shelf.old cloud.0) (V.cloud_at shelf.new cloud.0) (V.faults shelf.old) (V.faults shelf.new)) }
-        ensures uncounted { OnOk result (KeepsCounts (V.cloud_at shelf.old cloud.0) (V.cloud_at shelf.new cloud.0) (V.faults shelf.old) (V.faults shelf.new)) }
+        ensures call { IsCall (V.cloud_at shelf.old) (V.cloud_at shelf.new) cloud.0 (V.faults shelf.old)
+            (V.faults shelf.new) }
+        ensures failed { OnErr result
+            (HasFailed (V.cloud_at shelf.old cloud.0) (V.cloud_at shelf.new cloud.0) (V.faults shelf.old)
+            (V.faults shelf.new)) }
+        ensures uncounted { OnOk result
+            (KeepsCounts (V.cloud_at shelf.old cloud.0) (V.cloud_at shelf.new cloud.0) (V.faults shelf.old)
+            (V.faults shelf.new)) }
     {
         self.shares.read_alone(shelf, cloud, place, out)
     }
@@ -266,16 +294,26 @@ impl CommandLog {
         place: u64,
         out: &mut [u8],
     ) -> Result<usize, Failed>
-        ensures recipe { (header : Header) (list : List Command) (b : Placed) → IsOn header list self.old (V.cloud_at shelf.old cloud.0) → Contains (placed 0 (recipes_in list)) b
-            → b.place ≡ place → length b.blob ≡ length out.old → IfOk result (λ count. (count ≡ length b.blob) × (out.new ≡ b.blob)) }
-        ensures bytes { IsTrue (V.cloud_at shelf.old cloud.0).told → IfOk result (λ count. ReadsFrom ((V.cloud_at shelf.old cloud.0).now self.old.recipes.area).read place count out.new) }
+        ensures recipe { (header : Header) (list : List Command) (b : Placed)
+            → IsOn header list self.old (V.cloud_at shelf.old cloud.0) → Contains (placed 0 (recipes_in list)) b
+            → b.place ≡ place → length b.blob ≡ length out.old
+            → IfOk result (λ count. (count ≡ length b.blob) × (out.new ≡ b.blob)) }
+        ensures bytes { IsTrue (V.cloud_at shelf.old cloud.0).told
+            → IfOk result (λ count. ReadsFrom
+            ((V.cloud_at shelf.old cloud.0).now self.old.recipes.area).read place count out.new) }
         ensures bound { IfOk result (λ count. count ≤ length out.new) }
-        ensures on { (header : Header) (list : List Command) → IsOn header list self.old (V.cloud_at shelf.old cloud.0) → IsOn header list self.new (V.cloud_at shelf.new cloud.0) }
+        ensures on { (header : Header) (list : List Command) → IsOn header list self.old (V.cloud_at shelf.old cloud.0)
+            → IsOn header list self.new (V.cloud_at shelf.new cloud.0) }
         ensures log { self.new ≡ self.old }
         ensures stays { Stays (V.cloud_at shelf.old cloud.0) (V.cloud_at shelf.new cloud.0) }
-        ensures call { IsCall (V.cloud_at shelf.old) (V.cloud_at shelf.new) cloud.0 (V.faults shelf.old) (V.faults shelf.new) }
-        ensures failed { OnErr result (HasFailed (V.cloud_at shelf.old cloud.0) (V.cloud_at shelf.new cloud.0) (V.faults shelf.old) (V.faults shelf.new)) }
-        ensures uncounted { OnOk result (KeepsCounts (V.cloud_at shelf.old cloud.0) (V.cloud_at shelf.new cloud.0) (V.faults shelf.old) (V.faults shelf.new)) }
+        ensures call { IsCall (V.cloud_at shelf.old) (V.cloud_at shelf.new) cloud.0 (V.faults shelf.old)
+            (V.faults shelf.new) }
+        ensures failed { OnErr result
+            (HasFailed (V.cloud_at shelf.old cloud.0) (V.cloud_at shelf.new cloud.0) (V.faults shelf.old)
+            (V.faults shelf.new)) }
+        ensures uncounted { OnOk result
+            (KeepsCounts (V.cloud_at shelf.old cloud.0) (V.cloud_at shelf.new cloud.0) (V.faults shelf.old)
+            (V.faults shelf.new)) }
     {
         self.recipes.read_alone(shelf, cloud, place, out)
     }

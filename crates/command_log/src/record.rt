@@ -1,6 +1,7 @@
 //! One record more in a journal that has room for it.
 
-ghost use Rattle.std.specs.Prelude.{◌≡◌, ◌≢◌, ℕ, ◌+◌, ◌≤◌, List, [], ◌∷◌, ◌++◌, length, IsTrue, OnOk, OnErr, is_ok, if◌then◌else◌};
+ghost use Rattle.std.specs.Prelude.{◌≡◌, ◌≢◌, ℕ, ◌+◌, ◌≤◌, List, [], ◌∷◌, ◌++◌, length, IsTrue, OnOk, OnErr, is_ok};
+ghost use Rattle.std.specs.Prelude.{if◌then◌else◌};
 ghost use Rattle.cd_edges.specs.declared.area.Area.{Area};
 ghost use Rattle.cd_edges.specs.Disk.{LeavesOnly, IsAtArea, moment};
 ghost use Rattle.cd_edges.specs.Shelf.{IsCall, HasFailed, KeepsCounts};
@@ -24,18 +25,30 @@ pub(crate) fn append_record<V: Shelf>(
     requires few { length body.now ≤ 65535 }
     requires room { (state_of journal.old).gate + 1 + (length body.now + 5) ≤ (state_of journal.old).limit }
 
-    ensures any_moment { IsTrue (V.cloud_at shelf.old cloud.0).told → (bodies : List (List ℕ)) → IsEnded (state_of journal.old) ((V.cloud_at shelf.old cloud.0).now Area.Journal) bodies
-        → LeavesOnly (V.cloud_at shelf.old cloud.0) (V.cloud_at shelf.new cloud.0) (IsAtArea (V.cloud_at shelf.old cloud.0).now Area.Journal (IsBeforeOrAfter bodies body.now)) }
-    ensures added { IsTrue (V.cloud_at shelf.old cloud.0).told → (bodies : List (List ℕ)) → IsEnded (state_of journal.old) ((V.cloud_at shelf.old cloud.0).now Area.Journal) bodies
-        → OnOk result (IsEnded (state_of journal.new) ((V.cloud_at shelf.new cloud.0).now Area.Journal) (bodies ++ body.now ∷ [])) }
-    ensures others { IsTrue (V.cloud_at shelf.old cloud.0).told → OnOk result ((other : Area) → other ≢ Area.Journal → (V.cloud_at shelf.new cloud.0).now other ≡ (V.cloud_at shelf.old cloud.0).now other) }
-    ensures moments { IsTrue (V.cloud_at shelf.old cloud.0).told → OnOk result (moment (V.cloud_at shelf.new cloud.0) ≡ moment (V.cloud_at shelf.old cloud.0) + 4) }
+    ensures any_moment { IsTrue (V.cloud_at shelf.old cloud.0).told → (bodies : List (List ℕ))
+        → IsEnded (state_of journal.old) ((V.cloud_at shelf.old cloud.0).now Area.Journal) bodies
+        → LeavesOnly (V.cloud_at shelf.old cloud.0) (V.cloud_at shelf.new cloud.0)
+        (IsAtArea (V.cloud_at shelf.old cloud.0).now Area.Journal (IsBeforeOrAfter bodies body.now)) }
+    ensures added { IsTrue (V.cloud_at shelf.old cloud.0).told → (bodies : List (List ℕ))
+        → IsEnded (state_of journal.old) ((V.cloud_at shelf.old cloud.0).now Area.Journal) bodies
+        → OnOk result (IsEnded (state_of journal.new) ((V.cloud_at shelf.new cloud.0).now Area.Journal)
+        (bodies ++ body.now ∷ [])) }
+    ensures others { IsTrue (V.cloud_at shelf.old cloud.0).told
+        → OnOk result ((other : Area) → other ≢ Area.Journal
+        → (V.cloud_at shelf.new cloud.0).now other ≡ (V.cloud_at shelf.old cloud.0).now other) }
+    ensures moments { IsTrue (V.cloud_at shelf.old cloud.0).told
+        → OnOk result (moment (V.cloud_at shelf.new cloud.0) ≡ moment (V.cloud_at shelf.old cloud.0) + 4) }
     ensures gate { OnOk result ((state_of journal.new).gate ≡ (state_of journal.old).gate + 5 + length body.now) }
     ensures stage { (state_of journal.new).stage ≡ (if is_ok result then Stage.AtEnd else Stage.Shut) }
     ensures limit { (state_of journal.new).limit ≡ (state_of journal.old).limit }
-    ensures call { IsCall (V.cloud_at shelf.old) (V.cloud_at shelf.new) cloud.0 (V.faults shelf.old) (V.faults shelf.new) }
-    ensures failed { OnErr result (HasFailed (V.cloud_at shelf.old cloud.0) (V.cloud_at shelf.new cloud.0) (V.faults shelf.old) (V.faults shelf.new)) }
-    ensures uncounted { OnOk result (KeepsCounts (V.cloud_at shelf.old cloud.0) (V.cloud_at shelf.new cloud.0) (V.faults shelf.old) (V.faults shelf.new)) }
+    ensures call { IsCall (V.cloud_at shelf.old) (V.cloud_at shelf.new) cloud.0 (V.faults shelf.old)
+        (V.faults shelf.new) }
+    ensures failed { OnErr result
+        (HasFailed (V.cloud_at shelf.old cloud.0) (V.cloud_at shelf.new cloud.0) (V.faults shelf.old)
+        (V.faults shelf.new)) }
+    ensures uncounted { OnOk result
+        (KeepsCounts (V.cloud_at shelf.old cloud.0) (V.cloud_at shelf.new cloud.0) (V.faults shelf.old)
+        (V.faults shelf.new)) }
 {
     match journal.append(shelf, cloud, body) {
         Ok(()) => Ok(()),

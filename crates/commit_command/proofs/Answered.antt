@@ -5,6 +5,7 @@ use Rattle.std.specs.Cmp.Lexicographic.{nat_list_eq_equiv}
 use Rattle.std.proofs.lemmas.Bool.{le-leb}
 use Rattle.std.proofs.lemmas.List.{length-map}
 use Rattle.std.proofs.lemmas.List.Elements.{All-contains}
+use Rattle.cd_base.specs.Limits.{recipe_limit}
 use Rattle.cd_base.specs.declared.ids.Tag.{Tag}
 use Rattle.cd_base.specs.declared.ids.UserId.{UserId}
 use Rattle.cd_base.specs.declared.ids.Version.{Version}
@@ -46,7 +47,7 @@ use Rattle.commit_command.proofs.Outcomes.{adding, served_only, ok_result, stays
 
 -- ---- the recipe
 
-pub few_bytes : (shape : Shape) (r : Recipe) (bytes : List ℕ) → IsRecipe shape (spelling r) r → bytes ≡ spelling r → length bytes ≤ 1180190
+pub few_bytes : (shape : Shape) (r : Recipe) (bytes : List ℕ) → IsRecipe shape (spelling r) r → bytes ≡ spelling r → length bytes ≤ recipe_limit
 few_bytes shape r bytes is e = let long = ap length e in let most = longest shape r is.fits in omega arith
 
 fps_spelled : (shape : Shape) (r : Recipe) → IsRecipe shape (spelling r) r → fps_of shape (spelling r) ≡ fps_in r.items
@@ -96,14 +97,14 @@ whole_there entry there long same = both (length there == entry.len) (bytes_eq (
     both true b p q = q
     both false b p q = cc
 
-pub recipe_len : (n : ℕ) → 1 ≤ n → n ≤ 1180190 → is_recipe_len n ≡ true
-recipe_len n low high = rw (le-leb 1 n low, le-leb n 1180190 high) refl
+pub recipe_len : (n : ℕ) → 1 ≤ n → n ≤ recipe_limit → is_recipe_len n ≡ true
+recipe_len n low high = rw (le-leb 1 n low, le-leb n recipe_limit high) refl
 
 -- by the recipe that is there
 abbrev pub by_recipe : List ℕ → List ℕ → Reply
 by_recipe there recipe = if bytes_eq there recipe then replies.Committed else replies.Exists
 
-by_there : (area : List ℕ) (entry : Entry) (there recipe : List ℕ) → 1 ≤ entry.len → entry.len ≤ 1180190 → length there ≡ entry.len → fingerprint there ≡ entry.fp
+by_there : (area : List ℕ) (entry : Entry) (there recipe : List ℕ) → 1 ≤ entry.len → entry.len ≤ recipe_limit → length there ≡ entry.len → fingerprint there ≡ entry.fp
     → take entry.len (drop entry.at area) ≡ there → stored_reply area entry recipe ≡ by_recipe there recipe
 by_there area entry there recipe low high long same lies =
     ap (λ (b : Bool). cond b (compared entry (take entry.len (drop entry.at area)) recipe) (replies.Rotten entry.fp (fingerprint []))) (recipe_len entry.len low high)

@@ -4,6 +4,7 @@ use Rattle.std.specs.Prelude.{◌≢◌, OnOk, bytes_eq}
 use Rattle.std.specs.FinMap.{get}
 use Rattle.std.proofs.lemmas.Bool.{cases_eq}
 use Rattle.std.proofs.lemmas.List.{drop_at}
+use Rattle.cd_base.specs.Limits.{recipe_limit}
 use Rattle.cd_base.specs.declared.ids.Fp.{Fp}
 use Rattle.cd_base.specs.declared.rooms.Room.{Room}
 use Rattle.cd_edges.specs.declared.area.Area.TheVariants.{Recipes}
@@ -108,7 +109,7 @@ other_by area entry content named found false equal e is rotten = by_length (cas
     by_length (inr short) = inr (omega (arith, short, length-take entry.len (drop entry.at area), length-drop entry.at area))
 
 -- what is found, where the entry has a length that a recipe may have
-finds : (area : List ℕ) (entry : Entry) (recipe content : List ℕ) (named found : Fp) → 1 ≤ entry.len → entry.len ≤ 1180190 → IsReply content (stored_reply area entry recipe)
+finds : (area : List ℕ) (entry : Entry) (recipe content : List ℕ) (named found : Fp) → 1 ≤ entry.len → entry.len ≤ recipe_limit → IsReply content (stored_reply area entry recipe)
     → IsReply content (replies.Rotten named found) → IsOther area entry.at entry.len named found
 finds area entry recipe content named found low high is rotten =
     let there = take entry.len (drop entry.at area) in
@@ -123,7 +124,7 @@ finds area entry recipe content named found low high is rotten =
 pub rotten_entry : {T E : Type 0} (r : Result T E) (cloud : Cloud) (index : CloudIndex) (key : FileKey) (entry : Entry) (recipe content : List ℕ) (named found : Fp)
     → get index.files.files key ≡ Some entry → OnOk r (Replies content (IsOfEntry entry))
     → (IsTrue cloud.told → OnOk r (IsReply content (stored_reply (reads cloud.now Recipes) entry recipe)))
-    → ((entry.len < 1) ⊎ (1180190 < entry.len) → OnOk r (IsReply content (replies.Rotten entry.fp (fingerprint []))))
+    → ((entry.len < 1) ⊎ (recipe_limit < entry.len) → OnOk r (IsReply content (replies.Rotten entry.fp (fingerprint []))))
     → OnOk r (IsReply content (replies.Rotten named found) → IsFoundRecipe cloud index key named found)
 rotten_entry (Err e) cloud index key entry recipe content named found at some stored unfit = tt
 rotten_entry (Ok v) cloud index key entry recipe content named found at some stored unfit = λ rotten. record {

@@ -1,5 +1,6 @@
 -- A Commit that adds nothing: the reply where the version has an entry already, and what stays.
 use Rattle.std.specs.Prelude.{◌≡◌, ℕ, Bool, ◌&&◌, ◌==◌, nat_le, List, [], length, take, drop, bytes_eq, Result, OnOk, if◌then◌else◌}
+use Rattle.cd_base.specs.Limits.{recipe_limit}
 use Rattle.cd_edges.specs.Disk.{Cloud}
 use Rattle.cd_edges.specs.Shelf.{Stays}
 use Rattle.file_index.specs.declared.key.Entry.{Entry}
@@ -10,7 +11,7 @@ use Rattle.cloud_state.specs.declared.state.CloudState.{CloudState}
 
 -- a recipe may have so many bytes
 abbrev pub is_recipe_len : ℕ → Bool
-is_recipe_len len = nat_le 1 len && nat_le len 1180190
+is_recipe_len len = nat_le 1 len && nat_le len recipe_limit
 
 -- the bytes have the entry's length and fingerprint
 abbrev pub is_whole : Entry → List ℕ → Bool

@@ -2,6 +2,7 @@
 
 ghost use Rattle.std.specs.Prelude.{◌≡◌, ◌⊎◌, ◌<◌, ◌≤◌, ◌+◌, List, [], ℕ, Some, None, IsTrue, OnOk, OnErr};
 ghost use Rattle.std.specs.FinMap as map;
+ghost use Rattle.cd_base.specs.Limits.{recipe_limit};
 ghost use Rattle.cd_base.specs.declared.ids.Fp.{Fp};
 ghost use Rattle.cd_base.specs.declared.rooms.Room.{Room};
 ghost use Rattle.cd_edges.specs.declared.area.Area.TheVariants as areas;
@@ -49,13 +50,16 @@ fn repeat<V: Shelf>(
     requires settled { IsSettled state.old }
     requires open { IsOpen state.old }
     ensures leaves { Leaves state.old state.new result }
-    ensures stays { StaysBy state.old state.new (V.cloud_at shelf.old state.old.header.cloud.0) (V.cloud_at shelf.new state.old.header.cloud.0) result }
+    ensures stays { StaysBy state.old state.new (V.cloud_at shelf.old state.old.header.cloud.0)
+        (V.cloud_at shelf.new state.old.header.cloud.0) result }
     ensures stored { IsTrue (V.cloud_at shelf.old state.old.header.cloud.0).told
-        → OnOk result (IsReply reply.new (stored_reply (reads (V.cloud_at shelf.old state.old.header.cloud.0).now areas.Recipes) entry.now recipe.now)) }
-    ensures unfit { (entry.now.len < 1) ⊎ (1180190 < entry.now.len)
+        → OnOk result (IsReply reply.new
+        (stored_reply (reads (V.cloud_at shelf.old state.old.header.cloud.0).now areas.Recipes) entry.now recipe.now)) }
+    ensures unfit { (entry.now.len < 1) ⊎ (recipe_limit < entry.now.len)
         → OnOk result (IsReply reply.new (replies.Rotten entry.now.fp (fingerprint []))) }
     ensures some { OnOk result (Replies reply.new (IsOfEntry entry.now)) }
-    ensures calls { Calls (V.cloud_at shelf.old) (V.cloud_at shelf.new) state.old.header.cloud.0 (V.faults shelf.old) (V.faults shelf.new) result }
+    ensures calls { Calls (V.cloud_at shelf.old) (V.cloud_at shelf.new) state.old.header.cloud.0 (V.faults shelf.old)
+        (V.faults shelf.new) result }
 {
     let cloud = state.header.cloud;
     match put_stored(
@@ -79,9 +83,9 @@ fn repeat<V: Shelf>(
 ///
 /// - Lacking names the place of the first item whose fingerprint the user doesn't own. No device is called then, and nothing
 ///   changes.
-/// - Else, where the user has the version, its recipe is read back: Committed where it has the same bytes, and Exists where it has
-///   others. Rotten comes where fewer bytes lie there than were kept, or others, whatever recipe is asked; it names the fingerprint
-///   that was kept, and that of what was found.
+/// - Else, where the user has the version, its recipe is read back: Committed where it has the same bytes, and Exists
+///   where it has others. Rotten comes where fewer bytes lie there than were kept, or others, whatever recipe is asked;
+///   it names the fingerprint that was kept, and that of what was found.
 /// - Else Full names the first room that the command would pass, in the order files, recipes, journal. No device is called then,
 ///   and nothing changes.
 /// - Else the recipe is written and synced, and then the command's record: Committed, and the list has one command more.
@@ -108,17 +112,25 @@ pub fn commit<V: Shelf>(
     ensures shut { OnErr result (state.new.log.journal.stage ≡ Shut) }
 
     // by the list on which server and cloud agree
-    ensures any_moment { (list : List Command) → Agrees state.old (V.cloud_at shelf.old state.old.header.cloud.0) list → IsWithin state.old.rooms list
+    ensures any_moment { (list : List Command) → Agrees state.old (V.cloud_at shelf.old state.old.header.cloud.0) list
+        → IsWithin state.old.rooms list
         → LeavesOnly (V.cloud_at shelf.old state.old.header.cloud.0) (V.cloud_at shelf.new state.old.header.cloud.0)
-        (StandsForSome state.old.header (IsServedOrNot state.old list (requests.Commit user tag.now version (spelling recipe.now)))) }
-    ensures served { (list : List Command) → Agrees state.old (V.cloud_at shelf.old state.old.header.cloud.0) list → IsWithin state.old.rooms list
-        → OnOk result (Served state.old state.new (V.cloud_at shelf.new state.old.header.cloud.0) list (requests.Commit user tag.now version (spelling recipe.now)) reply.new) }
-    ensures moments { (list : List Command) → Agrees state.old (V.cloud_at shelf.old state.old.header.cloud.0) list → IsWithin state.old.rooms list
-        → OnOk result (moment (V.cloud_at shelf.new state.old.header.cloud.0) ≡ moment (V.cloud_at shelf.old state.old.header.cloud.0)
+        (StandsForSome state.old.header
+        (IsServedOrNot state.old list (requests.Commit user tag.now version (spelling recipe.now)))) }
+    ensures served { (list : List Command) → Agrees state.old (V.cloud_at shelf.old state.old.header.cloud.0) list
+        → IsWithin state.old.rooms list
+        → OnOk result (Served state.old state.new (V.cloud_at shelf.new state.old.header.cloud.0) list
+        (requests.Commit user tag.now version (spelling recipe.now)) reply.new) }
+    ensures moments { (list : List Command) → Agrees state.old (V.cloud_at shelf.old state.old.header.cloud.0) list
+        → IsWithin state.old.rooms list
+        → OnOk result (moment (V.cloud_at shelf.new state.old.header.cloud.0)
+        ≡ moment (V.cloud_at shelf.old state.old.header.cloud.0)
         + moments_of list (serves state.old list (requests.Commit user tag.now version (spelling recipe.now))).adds) }
-    ensures stays { (list : List Command) → Agrees state.old (V.cloud_at shelf.old state.old.header.cloud.0) list → IsWithin state.old.rooms list
+    ensures stays { (list : List Command) → Agrees state.old (V.cloud_at shelf.old state.old.header.cloud.0) list
+        → IsWithin state.old.rooms list
         → (serves state.old list (requests.Commit user tag.now version (spelling recipe.now))).adds ≡ None
-        → StaysBy state.old state.new (V.cloud_at shelf.old state.old.header.cloud.0) (V.cloud_at shelf.new state.old.header.cloud.0) result }
+        → StaysBy state.old state.new (V.cloud_at shelf.old state.old.header.cloud.0)
+        (V.cloud_at shelf.new state.old.header.cloud.0) result }
 
     // whatever the cloud has
     ensures lacking { (place : ℕ) → first_unowned state.old.index user (fps_in recipe.now.items) ≡ Some place
@@ -126,22 +138,32 @@ pub fn commit<V: Shelf>(
     ensures stored { IsTrue (V.cloud_at shelf.old state.old.header.cloud.0).told → (entry : Entry)
         → first_unowned state.old.index user (fps_in recipe.now.items) ≡ None
         → map.get state.old.index.files.files (key_of user.0 tag.now.0 version.0) ≡ Some entry
-        → OnOk result (IsReply reply.new (stored_reply (reads (V.cloud_at shelf.old state.old.header.cloud.0).now areas.Recipes) entry (spelling recipe.now))) }
+        → OnOk result (IsReply reply.new
+        (stored_reply (reads (V.cloud_at shelf.old state.old.header.cloud.0).now areas.Recipes) entry
+        (spelling recipe.now))) }
     ensures refused { (place : ℕ) → OnOk result (IsReply reply.new (replies.Lacking place)
         → (shelf.new ≡ shelf.old) × (state.new ≡ state.old)) }
-    ensures full { (room : Room) (used need limit : ℕ) → OnOk result (IsReply reply.new (replies.Full room used need limit)
+    ensures full { (room : Room) (used need limit : ℕ)
+        → OnOk result (IsReply reply.new (replies.Full room used need limit)
         → (shelf.new ≡ shelf.old) × (state.new ≡ state.old)) }
     ensures rotten { (named found : Fp) → OnOk result (IsReply reply.new (replies.Rotten named found)
-        → IsFoundRecipe (V.cloud_at shelf.old state.old.header.cloud.0) state.old.index (key_of user.0 tag.now.0 version.0) named found) }
+        → IsFoundRecipe (V.cloud_at shelf.old state.old.header.cloud.0) state.old.index
+        (key_of user.0 tag.now.0 version.0) named found) }
     ensures steady { (named found : Fp) → OnOk result (IsReply reply.new (replies.Rotten named found)
         → Stays (V.cloud_at shelf.old state.old.header.cloud.0) (V.cloud_at shelf.new state.old.header.cloud.0)
         × (state.new.index ≡ state.old.index)) }
-    ensures kind { OnOk result (Gives state.old.header.shape (requests.Commit user tag.now version (spelling recipe.now)) reply.new) }
+    ensures kind { OnOk result
+        (Gives state.old.header.shape (requests.Commit user tag.now version (spelling recipe.now)) reply.new) }
 
     // the calls of the device
-    ensures call { IsCall (V.cloud_at shelf.old) (V.cloud_at shelf.new) state.old.header.cloud.0 (V.faults shelf.old) (V.faults shelf.new) }
-    ensures failed { OnErr result (HasFailed (V.cloud_at shelf.old state.old.header.cloud.0) (V.cloud_at shelf.new state.old.header.cloud.0) (V.faults shelf.old) (V.faults shelf.new)) }
-    ensures uncounted { OnOk result (KeepsCounts (V.cloud_at shelf.old state.old.header.cloud.0) (V.cloud_at shelf.new state.old.header.cloud.0) (V.faults shelf.old) (V.faults shelf.new)) }
+    ensures call { IsCall (V.cloud_at shelf.old) (V.cloud_at shelf.new) state.old.header.cloud.0 (V.faults shelf.old)
+        (V.faults shelf.new) }
+    ensures failed { OnErr result
+        (HasFailed (V.cloud_at shelf.old state.old.header.cloud.0) (V.cloud_at shelf.new state.old.header.cloud.0)
+        (V.faults shelf.old) (V.faults shelf.new)) }
+    ensures uncounted { OnOk result
+        (KeepsCounts (V.cloud_at shelf.old state.old.header.cloud.0) (V.cloud_at shelf.new state.old.header.cloud.0)
+        (V.faults shelf.old) (V.faults shelf.new)) }
 {
     match first_foreign(&state.index, user, recipe) {
         Some(place) => {

@@ -2,6 +2,7 @@
 
 ghost use Rattle.std.specs.Prelude.{◌≡◌, ◌≤◌, ℕ, List, length, None, OnOk};
 ghost use Rattle.std.specs.FinMap as map;
+ghost use Rattle.cd_base.specs.Limits.{recipe_limit};
 ghost use Rattle.cd_base.specs.declared.rooms.Room.{Room};
 ghost use Rattle.cd_edges.specs.Disk.{Cloud};
 ghost use Rattle.file_index.specs.Files.{key_of};
@@ -34,17 +35,20 @@ pub(crate) fn enter<V: Shelf>(
     requires settled { IsSettled state.old }
     requires open { IsOpen state.old }
     requires some { 1 ≤ length recipe.now }
-    requires few { length recipe.now ≤ 1180190 }
+    requires few { length recipe.now ≤ recipe_limit }
     requires new { map.get state.old.index.files.files (key_of user.0 tag.0 version.0) ≡ None }
     ensures leaves { Leaves state.old state.new result }
     ensures does { (list : List Command) → Agrees state.old (V.cloud_at shelf.old state.old.header.cloud.0) list
         → IsAnsweredNew state.old.header list user tag version recipe.now
-        → Does state.old state.new (V.cloud_at shelf.old state.old.header.cloud.0) (V.cloud_at shelf.new state.old.header.cloud.0) list
+        → Does state.old state.new (V.cloud_at shelf.old state.old.header.cloud.0)
+        (V.cloud_at shelf.new state.old.header.cloud.0) list
         (requests.Commit user tag version recipe.now) reply.new result }
     ensures some { OnOk result (Replies reply.new IsOfNew) }
-    ensures full { (room : Room) (used need limit : ℕ) → OnOk result (IsReply reply.new (replies.Full room used need limit)
+    ensures full { (room : Room) (used need limit : ℕ)
+        → OnOk result (IsReply reply.new (replies.Full room used need limit)
         → (shelf.new ≡ shelf.old) × (state.new ≡ state.old)) }
-    ensures calls { Calls (V.cloud_at shelf.old) (V.cloud_at shelf.new) state.old.header.cloud.0 (V.faults shelf.old) (V.faults shelf.new) result }
+    ensures calls { Calls (V.cloud_at shelf.old) (V.cloud_at shelf.new) state.old.header.cloud.0 (V.faults shelf.old)
+        (V.faults shelf.new) result }
 {
     let gate = state.log.used() - 1;
     let fp = sha256(recipe);

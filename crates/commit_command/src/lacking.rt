@@ -2,6 +2,7 @@
 
 ghost use Rattle.std.specs.Prelude.{◌≡◌, ◌<◌, ◌≤◌, List, length, slice_get, Some, IfSome};
 ghost use Rattle.cd_base.specs.declared.shape.Shape.{Shape};
+ghost use Rattle.recipe.specs.Spelling.{item_limit};
 ghost use Rattle.user_dedup.specs.declared.command.Command.{Command};
 ghost use Rattle.user_dedup.specs.Cloud.{user_view};
 ghost use Rattle.user_dedup.specs.Owning.{fps_in, first_lacking};
@@ -29,7 +30,7 @@ pub(crate) fn first_foreign(
     user: UserId,
     recipe: &RecipeView<'_>,
 ) -> Option<u32>
-    requires { length recipe.now.items ≤ 32768 }
+    requires { length recipe.now.items ≤ item_limit }
     ensures kept { result ≡ first_unowned index.now user (fps_in recipe.now.items) }
     ensures value { (shape : Shape) (list : List Command) → Remembers shape list index.now
         → result ≡ first_lacking (user_view shape list user).own (fps_in recipe.now.items) }

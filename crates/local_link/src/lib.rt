@@ -1,4 +1,5 @@
-//! The servers of all clouds in one process, and the link that asks them: it passes on each request, or loses it or its reply where it was told to.
+//! The servers of all clouds in one process, and the link that asks them: it passes on each request, or loses it or its
+//! reply where it was told to.
 #![tactic(auto)]
 
 mod fate;

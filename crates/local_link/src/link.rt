@@ -35,11 +35,13 @@ pub struct LocalLink<'a, V: Shelf> {
 }
 
 impl<'a, V: Shelf> LocalLink<'a, V> {
-    ghost use Rattle.std.specs.Prelude.{◌≡◌, ◌≢◌, ◌⊎◌, ◌↔◌, ℕ, false, ◌+◌, ◌-◌, ◌^◌, ◌<◌, ◌≤◌, List, [], length, min, IsTrue, IsOk, IfOk, OnOk, OnErr, IsSomeAnd, Some, Ok, Err, if◌then◌else◌};
+    ghost use Rattle.std.specs.Prelude.{◌≡◌, ◌≢◌, ◌⊎◌, ◌↔◌, ℕ, false, ◌+◌, ◌-◌, ◌^◌, ◌<◌, ◌≤◌, List, [], length, min};
+    ghost use Rattle.std.specs.Prelude.{IsTrue, IsOk, IfOk, OnOk, OnErr, IsSomeAnd, Some, Ok, Err, if◌then◌else◌};
     ghost use Rattle.std.specs.List.{Contains};
     ghost use Rattle.cd_edges.specs.Causes.{Rose};
     ghost use Rattle.cd_edges.specs.Shelf.{IsCall, HasFailed, KeepsCounts, Arms, Refreshes};
     ghost use Rattle.commit_journal.specs.declared.journal.Stage.TheVariants.{Shut};
+    ghost use Rattle.frames.specs.Frames.{frame_limit};
     ghost use Rattle.messages.specs.declared.request.Request.{Request};
     ghost use Rattle.messages.specs.declared.reply.Reply.{Reply};
     ghost use Rattle.messages.specs.declared.reply.Reply.TheVariants as replies;
@@ -69,8 +71,8 @@ impl<'a, V: Shelf> LocalLink<'a, V> {
     ghost use Rattle.local_link.specs.Steps.{IsClosedIn, Replied, RepliesOpen};
     ghost use Rattle.local_link.specs.Calls.{header_of, MayServe, Replaces, Armed, WasBefore, no_commands};
 
-    /// A link to the clouds of this shelf, over a closed server for each, all in these rooms. The next ask is delivered, and none was lost.
-    /// The only error is want of memory.
+    /// A link to the clouds of this shelf, over a closed server for each, all in these rooms. The next ask is
+    /// delivered, and none was lost. The only error is want of memory.
     pub fn over(
         alloc: Global,
         shelf: &'a mut V,
@@ -80,12 +82,14 @@ impl<'a, V: Shelf> LocalLink<'a, V> {
         requires { AreRooms rooms }
         ensures shape { IfOk result (λ link. (telling V.cloud_at).shape link ≡ shape) }
         ensures delivers { IfOk result (λ link. (link.fate ≡ Deliver) × (link.losses ≡ 0)) }
-        ensures closed { IfOk result (λ link. (cloud : ℕ) (server : Server) → server_at link.servers cloud ≡ Some server → IsClosedIn rooms server) }
+        ensures closed { IfOk result (λ link. (cloud : ℕ) (server : Server)
+            → server_at link.servers cloud ≡ Some server → IsClosedIn rooms server) }
         ensures shelf { IfOk result (λ link. link.shelf.now ≡ shelf.old) }
         ensures same_reference { IfOk result (λ link. link.shelf.ghost_name ≡ shelf.entry.ghost_name) }
 
         // A cloud stands as each peer that it may be served as.
-        ensures stands { IfOk result (λ link. (cloud : ℕ) (p : Peer) → cloud < shape.n → MayServe shape cloud rooms (V.cloud_at shelf.old cloud) p
+        ensures stands { IfOk result (λ link. (cloud : ℕ) (p : Peer) → cloud < shape.n
+            → MayServe shape cloud rooms (V.cloud_at shelf.old cloud) p
             → (telling V.cloud_at).stands link cloud p) }
     {
         let servers = Servers::make(alloc, shape, rooms)?;
@@ -98,15 +102,17 @@ impl<'a, V: Shelf> LocalLink<'a, V> {
         })
     }
 
-    /// A link to the clouds of this shelf, over these servers. The next ask is delivered, and none was lost. Who wants to know of the
-    /// shelf what came of it makes the servers first, and at the end takes it back by `release`.
+    /// A link to the clouds of this shelf, over these servers. The next ask is delivered, and none was lost. Who wants
+    /// to know of the shelf what came of it makes the servers first, and at the end takes it back by `release`.
     pub fn of(alloc: Global, shelf: &'a mut V, servers: Servers) -> LocalLink<'a, V>
         ensures servers { result.servers ≡ servers }
         ensures delivers { (result.fate ≡ Deliver) × (result.losses ≡ 0) }
         ensures shelf { result.shelf.now ≡ shelf.old }
         ensures same_reference { result.shelf.ghost_name ≡ shelf.entry.ghost_name }
-        ensures stands { (rooms : Rooms) → ((cloud : ℕ) (server : Server) → server_at servers cloud ≡ Some server → IsClosedIn rooms server)
-            → (cloud : ℕ) (p : Peer) → cloud < servers.shape.n → MayServe servers.shape cloud rooms (V.cloud_at shelf.old cloud) p
+        ensures stands { (rooms : Rooms)
+            → ((cloud : ℕ) (server : Server) → server_at servers cloud ≡ Some server → IsClosedIn rooms server)
+            → (cloud : ℕ) (p : Peer) → cloud < servers.shape.n
+            → MayServe servers.shape cloud rooms (V.cloud_at shelf.old cloud) p
             → (telling V.cloud_at).stands result cloud p }
     {
         LocalLink {
@@ -155,73 +161,93 @@ impl<'a, V: Shelf> LocalLink<'a, V> {
         self.fate = fate;
     }
 
-    /// Puts a closed server in these rooms in the cloud's place. Nothing else changes, and for want of memory nothing does. The cloud stands for
-    /// each peer whose lists are within the new rooms, whatever the rooms before.
+    /// Puts a closed server in these rooms in the cloud's place. Nothing else changes, and for want of memory nothing
+    /// does. The cloud stands for each peer whose lists are within the new rooms, whatever the rooms before.
     pub fn set_rooms(&mut self, cloud: CloudNo, rooms: Rooms) -> Result<(), NoMemory>
         requires reached { IsTrue ((telling V.cloud_at).reaches self.old cloud.0) }
         requires rooms { AreRooms rooms }
         ensures closed { OnOk result (IsSomeAnd (server_at self.new.servers cloud.0) (IsClosedIn rooms)) }
-        ensures stands { (p : Peer) → (telling V.cloud_at).stands self.old cloud.0 p → ((list : List Command) → MaySettleAs p list → IsWithin rooms list)
+        ensures stands { (p : Peer) → (telling V.cloud_at).stands self.old cloud.0 p
+            → ((list : List Command) → MaySettleAs p list → IsWithin rooms list)
             → OnOk result ((telling V.cloud_at).stands self.new cloud.0 p) }
         ensures serves { (p : Peer)
             → MayServe self.old.servers.shape cloud.0 rooms (V.cloud_at self.old.shelf.now cloud.0) p
             → OnOk result ((telling V.cloud_at).stands self.new cloud.0 p) }
         ensures others { LeavesRest V.cloud_at cloud.0 self.old self.new }
-        ensures still { (self.new.shelf ≡ self.old.shelf) × (self.new.fate ≡ self.old.fate) × (self.new.losses ≡ self.old.losses) }
+        ensures still { (self.new.shelf ≡ self.old.shelf) × (self.new.fate ≡ self.old.fate)
+            × (self.new.losses ≡ self.old.losses) }
         ensures err { OnErr result (self.new ≡ self.old) }
     {
         self.servers.renew(self.alloc, cloud, rooms)
     }
 
-    /// Opens the cloud's server, and answers how many commands the cloud has: `share_server::Server::reopen`. After an Err the server is
-    /// closed. Where the cloud's journal isn't begun it is begun, where `begin` is true.
+    /// Opens the cloud's server, and answers how many commands the cloud has: `share_server::Server::reopen`. After an
+    /// Err the server is closed. Where the cloud's journal isn't begun it is begun, where `begin` is true.
     pub fn reopen(&mut self, cloud: CloudNo, begin: bool) -> Result<u64, OpenErr>
         requires { IsTrue ((telling V.cloud_at).reaches self.old cloud.0) }
         ensures opens { OnOk result (IsSomeAnd (server_at self.new.servers cloud.0) (λ server. IsOpen server.state)) }
-        ensures shut { OnErr result (IsSomeAnd (server_at self.new.servers cloud.0) (λ server. server.state.log.journal.stage ≡ Shut)) }
+        ensures shut { OnErr result
+            (IsSomeAnd (server_at self.new.servers cloud.0) (λ server. server.state.log.journal.stage ≡ Shut)) }
         ensures memory { result ≢ Err OpenErr.NoMemory }
 
         // Fault comes only where the cloud's count of faults and the one in all rose; with any other answer both stay.
         ensures counts { OnFault result
-            (HasFailed (V.cloud_at self.old.shelf.now cloud.0) (V.cloud_at self.new.shelf.now cloud.0) (V.faults self.old.shelf.now) (V.faults self.new.shelf.now))
-            (KeepsCounts (V.cloud_at self.old.shelf.now cloud.0) (V.cloud_at self.new.shelf.now cloud.0) (V.faults self.old.shelf.now) (V.faults self.new.shelf.now)) }
+            (HasFailed (V.cloud_at self.old.shelf.now cloud.0) (V.cloud_at self.new.shelf.now cloud.0)
+            (V.faults self.old.shelf.now) (V.faults self.new.shelf.now))
+            (KeepsCounts (V.cloud_at self.old.shelf.now cloud.0) (V.cloud_at self.new.shelf.now cloud.0)
+            (V.faults self.old.shelf.now) (V.faults self.new.shelf.now)) }
 
-        // NotBegun comes where the journal isn't begun and `begin` is false, after three syncs alone, and no other answer but Fault there.
+        // NotBegun comes where the journal isn't begun and `begin` is false, after three syncs alone, and no other
+        // answer but Fault there.
         ensures not_begun { IsTrue ((telling V.cloud_at).told self.old cloud.0)
             → NotBegunIs (V.cloud_at self.old.shelf.now cloud.0) (V.cloud_at self.new.shelf.now cloud.0) begin result }
 
-        ensures peer { (p : Peer) → IsTrue ((telling V.cloud_at).told self.old cloud.0) → (telling V.cloud_at).stands self.old cloud.0 p
+        ensures peer { (p : Peer) → IsTrue ((telling V.cloud_at).told self.old cloud.0)
+            → (telling V.cloud_at).stands self.old cloud.0 p
             → (q : Peer) × (telling V.cloud_at).stands self.new cloud.0 q × ReopensAs begin p q result }
 
-        // Where what the cloud reads stands for a list within its server's rooms, and the journal is begun or is to be begun, the answer is Ok or
-        // Fault.
+        // Where what the cloud reads stands for a list within its server's rooms, and the journal is begun or is to be
+        // begun, the answer is Ok or Fault.
         ensures whole { IsTrue ((telling V.cloud_at).told self.old cloud.0) → (list : List Command)
-            → StandsFor (reads (V.cloud_at self.old.shelf.now cloud.0).now) (header_of ((telling V.cloud_at).shape self.old) cloud.0) list
-            → IsSomeAnd (server_at self.old.servers cloud.0) (λ server. IsWithin server.state.rooms list → MayBegin ((V.cloud_at self.old.shelf.now cloud.0).now Journal).read begin → IsOkOrFault result) }
+            → StandsFor (reads (V.cloud_at self.old.shelf.now cloud.0).now)
+            (header_of ((telling V.cloud_at).shape self.old) cloud.0) list
+            → IsSomeAnd (server_at self.old.servers cloud.0) (λ server. IsWithin server.state.rooms list
+            → MayBegin ((V.cloud_at self.old.shelf.now cloud.0).now Journal).read begin → IsOkOrFault result) }
         ensures begins { IsTrue begin → HasBegun result }
 
         // The answer is what the bytes of the areas come to, record by record, unless a device call failed.
-        ensures exact { IsTrue ((telling V.cloud_at).told self.old cloud.0) → IsSomeAnd (server_at self.old.servers cloud.0) (λ server. OnFault result (Unit {0})
-            (Opens (header_of ((telling V.cloud_at).shape self.old) cloud.0) server.state.rooms begin (reads (V.cloud_at self.old.shelf.now cloud.0).now) result)) }
+        ensures exact { IsTrue ((telling V.cloud_at).told self.old cloud.0)
+            → IsSomeAnd (server_at self.old.servers cloud.0) (λ server. OnFault result (Unit {0})
+            (Opens (header_of ((telling V.cloud_at).shape self.old) cloud.0) server.state.rooms begin
+            (reads (V.cloud_at self.old.shelf.now cloud.0).now) result)) }
         ensures other_store { IsTrue ((telling V.cloud_at).told self.old cloud.0)
-            → OtherStoreIs ((V.cloud_at self.old.shelf.now cloud.0).now Journal).read (header_of ((telling V.cloud_at).shape self.old) cloud.0) result }
+            → OtherStoreIs ((V.cloud_at self.old.shelf.now cloud.0).now Journal).read
+            (header_of ((telling V.cloud_at).shape self.old) cloud.0) result }
 
         // Whatever the areas hold, they are spared.
         ensures areas { IsTrue ((telling V.cloud_at).told self.old cloud.0)
-            → Spares (header_of ((telling V.cloud_at).shape self.old) cloud.0) begin (V.cloud_at self.old.shelf.now cloud.0) (V.cloud_at self.new.shelf.now cloud.0) result }
-        ensures call { IsCall (V.cloud_at self.old.shelf.now) (V.cloud_at self.new.shelf.now) cloud.0 (V.faults self.old.shelf.now) (V.faults self.new.shelf.now) }
+            → Spares (header_of ((telling V.cloud_at).shape self.old) cloud.0) begin
+            (V.cloud_at self.old.shelf.now cloud.0) (V.cloud_at self.new.shelf.now cloud.0) result }
+        ensures call { IsCall (V.cloud_at self.old.shelf.now) (V.cloud_at self.new.shelf.now) cloud.0
+            (V.faults self.old.shelf.now) (V.faults self.new.shelf.now) }
 
         // Where what the cloud reads stands for a list, the cloud stands for that list.
         ensures loaded { IsTrue ((telling V.cloud_at).told self.old cloud.0) → (list : List Command)
-            → StandsFor (reads (V.cloud_at self.old.shelf.now cloud.0).now) (header_of ((telling V.cloud_at).shape self.old) cloud.0) list
-            → IfOk result (λ commands. (commands ≡ counted list) × (telling V.cloud_at).stands self.new cloud.0 (settled_with list (V.cloud_at self.new.shelf.now cloud.0))) }
-        ensures untold { (p : Peer) → (telling V.cloud_at).told self.old cloud.0 ≡ false → (telling V.cloud_at).stands self.old cloud.0 p
+            → StandsFor (reads (V.cloud_at self.old.shelf.now cloud.0).now)
+            (header_of ((telling V.cloud_at).shape self.old) cloud.0) list
+            → IfOk result (λ commands. (commands ≡ counted list)
+            × (telling V.cloud_at).stands self.new cloud.0
+            (settled_with list (V.cloud_at self.new.shelf.now cloud.0))) }
+        ensures untold { (p : Peer) → (telling V.cloud_at).told self.old cloud.0 ≡ false
+            → (telling V.cloud_at).stands self.old cloud.0 p
             → (q : Peer) × (telling V.cloud_at).stands self.new cloud.0 q × Stays p q × CountsOn p q }
 
         // Whenever a crash comes it leaves a list that it might have left before.
-        ensures images { IsTrue ((telling V.cloud_at).told self.old cloud.0) → (lists : List (List Command)) → IsSomeAnd (server_at self.old.servers cloud.0) (λ server.
+        ensures images { IsTrue ((telling V.cloud_at).told self.old cloud.0) → (lists : List (List Command))
+            → IsSomeAnd (server_at self.old.servers cloud.0) (λ server.
             ImagesNow (V.cloud_at self.old.shelf.now cloud.0) server.state.header (Contains lists)
-            → ImagesSince (V.cloud_at self.old.shelf.now cloud.0) (V.cloud_at self.new.shelf.now cloud.0) server.state.header (Contains lists)) }
+            → ImagesSince (V.cloud_at self.old.shelf.now cloud.0)
+            (V.cloud_at self.new.shelf.now cloud.0) server.state.header (Contains lists)) }
 
         ensures others { LeavesOthers (telling V.cloud_at) cloud.0 self.old self.new }
         ensures rest { LeavesRest V.cloud_at cloud.0 self.old self.new }
@@ -231,30 +257,39 @@ impl<'a, V: Shelf> LocalLink<'a, V> {
         self.servers.reopen(cloud, self.shelf, begin)
     }
 
-    /// Makes the cloud's areas empty, and disarms it. Its server is closed after it, whatever the answer. After Ok the cloud stands for no
-    /// commands; after `Failed`, which comes only where its count of faults rose, for what it stood for.
+    /// Makes the cloud's areas empty, and disarms it. Its server is closed after it, whatever the answer. After Ok the
+    /// cloud stands for no commands; after `Failed`, which comes only where its count of faults rose, for what it stood
+    /// for.
     pub fn replace(&mut self, cloud: CloudNo) -> Result<(), Failed>
         requires { IsTrue ((telling V.cloud_at).reaches self.old cloud.0) }
-        ensures closed { IsSomeAnd (server_at self.old.servers cloud.0) (λ server. IsSomeAnd (server_at self.new.servers cloud.0) (IsClosedIn server.state.rooms)) }
+        ensures closed { IsSomeAnd (server_at self.old.servers cloud.0)
+            (λ server. IsSomeAnd (server_at self.new.servers cloud.0) (IsClosedIn server.state.rooms)) }
         ensures replaced { (p : Peer) → (telling V.cloud_at).stands self.old cloud.0 p
             → (q : Peer) × (telling V.cloud_at).stands self.new cloud.0 q × Replaces p q result }
 
         // Whatever the cloud stood for, it stands for no commands where the rooms hold the header.
         ensures fresh { IsSomeAnd (server_at self.old.servers cloud.0) (λ server. IsWithin server.state.rooms []
-            → OnOk result ((telling V.cloud_at).stands self.new cloud.0 (no_commands (V.cloud_at self.old.shelf.now cloud.0)))) }
+            → OnOk result ((telling V.cloud_at).stands self.new cloud.0
+            (no_commands (V.cloud_at self.old.shelf.now cloud.0)))) }
 
         // Failed comes only where the cloud's count of faults and the one in all rose; after Ok both stay.
-        ensures call { IsCall (V.cloud_at self.old.shelf.now) (V.cloud_at self.new.shelf.now) cloud.0 (V.faults self.old.shelf.now) (V.faults self.new.shelf.now) }
+        ensures call { IsCall (V.cloud_at self.old.shelf.now) (V.cloud_at self.new.shelf.now) cloud.0
+            (V.faults self.old.shelf.now) (V.faults self.new.shelf.now) }
         ensures failed { OnErr result
-            (HasFailed (V.cloud_at self.old.shelf.now cloud.0) (V.cloud_at self.new.shelf.now cloud.0) (V.faults self.old.shelf.now) (V.faults self.new.shelf.now)) }
+            (HasFailed (V.cloud_at self.old.shelf.now cloud.0) (V.cloud_at self.new.shelf.now cloud.0)
+            (V.faults self.old.shelf.now) (V.faults self.new.shelf.now)) }
         ensures uncounted { OnOk result
-            (KeepsCounts (V.cloud_at self.old.shelf.now cloud.0) (V.cloud_at self.new.shelf.now cloud.0) (V.faults self.old.shelf.now) (V.faults self.new.shelf.now)) }
+            (KeepsCounts (V.cloud_at self.old.shelf.now cloud.0) (V.cloud_at self.new.shelf.now cloud.0)
+            (V.faults self.old.shelf.now) (V.faults self.new.shelf.now)) }
 
-        // The areas of a told cloud are empty after Ok, which a crash leaves so, and after Failed what they were, each moment too.
-        ensures refreshed { IsTrue ((telling V.cloud_at).told self.old cloud.0) → Refreshes (V.cloud_at self.old.shelf.now cloud.0) (V.cloud_at self.new.shelf.now cloud.0) result }
+        // The areas of a told cloud are empty after Ok, which a crash leaves so, and after Failed what they were, each
+        // moment too.
+        ensures refreshed { IsTrue ((telling V.cloud_at).told self.old cloud.0)
+            → Refreshes (V.cloud_at self.old.shelf.now cloud.0) (V.cloud_at self.new.shelf.now cloud.0) result }
 
         // Whenever a crash comes it leaves what it might have left before, or empty areas.
-        ensures images { IsTrue ((telling V.cloud_at).told self.old cloud.0) → WasBefore (V.cloud_at self.old.shelf.now cloud.0) (V.cloud_at self.new.shelf.now cloud.0) }
+        ensures images { IsTrue ((telling V.cloud_at).told self.old cloud.0)
+            → WasBefore (V.cloud_at self.old.shelf.now cloud.0) (V.cloud_at self.new.shelf.now cloud.0) }
 
         ensures others { LeavesOthers (telling V.cloud_at) cloud.0 self.old self.new }
         ensures rest { LeavesRest V.cloud_at cloud.0 self.old self.new }
@@ -274,7 +309,8 @@ impl<'a, V: Shelf> LocalLink<'a, V> {
             → (q : Peer) × (telling V.cloud_at).stands self.new cloud.0 q × Armed p q }
         ensures others { LeavesOthers (telling V.cloud_at) cloud.0 self.old self.new }
         ensures rest { LeavesRest V.cloud_at cloud.0 self.old self.new }
-        ensures still { (self.new.servers ≡ self.old.servers) × (self.new.fate ≡ self.old.fate) × (self.new.losses ≡ self.old.losses) }
+        ensures still { (self.new.servers ≡ self.old.servers) × (self.new.fate ≡ self.old.fate)
+            × (self.new.losses ≡ self.old.losses) }
         ensures same_reference { self.new.shelf.ghost_name ≡ self.old.shelf.ghost_name }
     {
         self.shelf.arm(cloud, calls, keep);
@@ -290,8 +326,10 @@ impl<'a, V: Shelf> LocalLink<'a, V> {
         self.losses = self.losses.saturating_add(1);
     }
 
-    /// Asks a cloud, as `Link::ask` does, by the fate that was set: `Deliver` has the cloud's server execute the request, and gives its reply;
-    /// `LoseRequest` does nothing; `LoseReply` has the request executed, and loses the reply. Where the ask was lost the reply buffer is empty.
+    /// Asks a cloud, as `Link::ask` does, by the fate that was set: `Deliver` has the cloud's server execute the
+    /// request, and gives its reply;
+    /// `LoseRequest` does nothing; `LoseReply` has the request executed, and loses the reply. Where the ask was lost
+    /// the reply buffer is empty.
     pub fn ask_cloud(
         &mut self,
         cloud: CloudNo,
@@ -299,36 +337,49 @@ impl<'a, V: Shelf> LocalLink<'a, V> {
         reply: &mut ReplyBuf,
     ) -> Result<(), Lost>
         requires reached { IsTrue ((telling V.cloud_at).reaches self.old cloud.0) }
-        requires framed { length request.now ≤ 4194304 }
+        requires framed { length request.now ≤ frame_limit }
         ensures delivered { IsOk result ↔ IsTrue (is_delivered self.old.fate) }
         ensures next { self.new.fate ≡ Deliver }
-        ensures counted { self.new.losses ≡ (if is_delivered self.old.fate then self.old.losses else min (self.old.losses + 1) (2 ^ 64 - 1)) }
+        ensures counted { self.new.losses
+            ≡ (if is_delivered self.old.fate then self.old.losses else min (self.old.losses + 1) (2 ^ 64 - 1)) }
         ensures later { self.old.losses ≤ self.new.losses }
         ensures empty { OnErr result (reply.new ≡ []) }
 
         // What was lost before the cloud took it changes nothing else.
-        ensures unheard { self.old.fate ≡ LoseRequest → (self.new.servers ≡ self.old.servers) × (self.new.shelf ≡ self.old.shelf) }
+        ensures unheard { self.old.fate ≡ LoseRequest
+            → (self.new.servers ≡ self.old.servers) × (self.new.shelf ≡ self.old.shelf) }
 
         // Content that asks nothing changes no cloud.
-        ensures refused { (at : ℕ) → asked_at ((telling V.cloud_at).shape self.old) request.now ≡ Err at → V.cloud_at self.new.shelf.now ≡ V.cloud_at self.old.shelf.now }
+        ensures refused { (at : ℕ) → asked_at ((telling V.cloud_at).shape self.old) request.now ≡ Err at
+            → V.cloud_at self.new.shelf.now ≡ V.cloud_at self.old.shelf.now }
 
-        ensures uncounted { (at : ℕ) → asked_at ((telling V.cloud_at).shape self.old) request.now ≡ Err at → V.faults self.new.shelf.now ≡ V.faults self.old.shelf.now }
-        ensures call { IsCall (V.cloud_at self.old.shelf.now) (V.cloud_at self.new.shelf.now) cloud.0 (V.faults self.old.shelf.now) (V.faults self.new.shelf.now) }
+        ensures uncounted { (at : ℕ) → asked_at ((telling V.cloud_at).shape self.old) request.now ≡ Err at
+            → V.faults self.new.shelf.now ≡ V.faults self.old.shelf.now }
+        ensures call { IsCall (V.cloud_at self.old.shelf.now) (V.cloud_at self.new.shelf.now) cloud.0
+            (V.faults self.old.shelf.now) (V.faults self.new.shelf.now) }
 
-        // Whatever the cloud has, a request that wasn't lost on its way there has a reply, whether it was lost or not: one that some server gives to it;
-        // and Fault, and it alone, where the counts of faults rose.
-        ensures answered { self.old.fate ≢ LoseRequest → (r : Request) → asked_at ((telling V.cloud_at).shape self.old) request.now ≡ Ok r
-            → (content : List ℕ) × OnOk result (reply.new ≡ content) × Replied ((telling V.cloud_at).shape self.old) (V.cloud_at self.old.shelf.now cloud.0)
-            (V.cloud_at self.new.shelf.now cloud.0) (V.faults self.old.shelf.now) (V.faults self.new.shelf.now) r content }
-
-        // A closed server of a told cloud whose bytes come to no list replies with the error of its opening, by the place and the byte, and the cloud's
-        // areas are spared.
-        ensures closed { self.old.fate ≢ LoseRequest → (r : Request) → IsTrue ((telling V.cloud_at).told self.old cloud.0)
+        // Whatever the cloud has, a request that wasn't lost on its way there has a reply, whether it was lost or not:
+        // one that some server gives to it; and Fault, and it alone, where the counts of faults rose.
+        ensures answered { self.old.fate ≢ LoseRequest → (r : Request)
             → asked_at ((telling V.cloud_at).shape self.old) request.now ≡ Ok r
-            → (content : List ℕ) × OnOk result (reply.new ≡ content) × IsSomeAnd (server_at self.old.servers cloud.0) (λ server. ¬ IsOpen server.state
-            → CanOpen server.state (V.cloud_at self.old.shelf.now cloud.0) ⊎ Refused server.state (V.cloud_at self.old.shelf.now cloud.0) (V.cloud_at self.new.shelf.now cloud.0) content) }
+            → (content : List ℕ) × OnOk result (reply.new ≡ content)
+            × Replied ((telling V.cloud_at).shape self.old) (V.cloud_at self.old.shelf.now cloud.0)
+            (V.cloud_at self.new.shelf.now cloud.0) (V.faults self.old.shelf.now)
+            (V.faults self.new.shelf.now) r content }
 
-        // An open server never replies Damaged; and a reply that says that nothing is stored, entered or read comes with no call of a device.
+        // A closed server of a told cloud whose bytes come to no list replies with the error of its opening, by the
+        // place and the byte, and the cloud's areas are spared.
+        ensures closed { self.old.fate ≢ LoseRequest → (r : Request)
+            → IsTrue ((telling V.cloud_at).told self.old cloud.0)
+            → asked_at ((telling V.cloud_at).shape self.old) request.now ≡ Ok r
+            → (content : List ℕ) × OnOk result (reply.new ≡ content)
+            × IsSomeAnd (server_at self.old.servers cloud.0) (λ server. ¬ IsOpen server.state
+            → CanOpen server.state (V.cloud_at self.old.shelf.now cloud.0)
+            ⊎ Refused server.state (V.cloud_at self.old.shelf.now cloud.0)
+            (V.cloud_at self.new.shelf.now cloud.0) content) }
+
+        // An open server never replies Damaged; and a reply that says that nothing is stored, entered or read comes
+        // with no call of a device.
         ensures opened { self.old.fate ≢ LoseRequest → (r : Request)
             → asked_at ((telling V.cloud_at).shape self.old) request.now ≡ Ok r
             → (content : List ℕ) × OnOk result (reply.new ≡ content)
@@ -345,9 +396,11 @@ impl<'a, V: Shelf> LocalLink<'a, V> {
             → IsFound (V.cloud_at self.new.shelf.now cloud.0) server.state.index r named what) }
 
         // Any request that wasn't lost on its way there is executed.
-        ensures executed { self.old.fate ≢ LoseRequest → (r : Request) → asked_at ((telling V.cloud_at).shape self.old) request.now ≡ Ok r
+        ensures executed { self.old.fate ≢ LoseRequest → (r : Request)
+            → asked_at ((telling V.cloud_at).shape self.old) request.now ≡ Ok r
             → (p : Peer) → (telling V.cloud_at).stands self.old cloud.0 p
-            → (q : Peer) × (answer : Reply) × (telling V.cloud_at).stands self.new cloud.0 q × Does (telling V.cloud_at) cloud.0 self.old p r answer q }
+            → (q : Peer) × (answer : Reply) × (telling V.cloud_at).stands self.new cloud.0 q
+            × Does (telling V.cloud_at) cloud.0 self.old p r answer q }
 
         // As the trait says.
         ensures exec { (r : Request) → asked_at ((telling V.cloud_at).shape self.old) request.now ≡ Ok r
@@ -356,10 +409,13 @@ impl<'a, V: Shelf> LocalLink<'a, V> {
             → AsksNothing (telling V.cloud_at) cloud.0 self.old at reply.new result self.new }
         ensures others { LeavesOthers (telling V.cloud_at) cloud.0 self.old self.new }
 
-        // Whenever a crash comes it leaves a list that the cloud might have settled as, or one with the command that the request adds.
-        ensures images { (p : Peer) (r : Request) → IsTrue ((telling V.cloud_at).told self.old cloud.0) → (telling V.cloud_at).stands self.old cloud.0 p
+        // Whenever a crash comes it leaves a list that the cloud might have settled as, or one with the command that
+        // the request adds.
+        ensures images { (p : Peer) (r : Request) → IsTrue ((telling V.cloud_at).told self.old cloud.0)
+            → (telling V.cloud_at).stands self.old cloud.0 p
             → asked_at ((telling V.cloud_at).shape self.old) request.now ≡ Ok r
-            → IsSomeAnd (server_at self.old.servers cloud.0) (λ server. ImagesSince (V.cloud_at self.old.shelf.now cloud.0) (V.cloud_at self.new.shelf.now cloud.0)
+            → IsSomeAnd (server_at self.old.servers cloud.0)
+            (λ server. ImagesSince (V.cloud_at self.old.shelf.now cloud.0) (V.cloud_at self.new.shelf.now cloud.0)
             server.state.header (MayBecome (serves (telling V.cloud_at) self.old cloud.0) p r)) }
 
         ensures rest { LeavesRest V.cloud_at cloud.0 self.old self.new }
@@ -388,23 +444,33 @@ impl<'a, V: Shelf> LocalLink<'a, V> {
 /// What asks leave that add nothing, one after another.
 pub fn law_of_readings<V: Shelf>()
     // each image since then stands for a list that the cloud might have settled as
-    ensures images { (named : List ℕ) (asks : List Exchange) (old new : LocalLink V) (cloud : ℕ) (p : Peer) → Passes (telling V.cloud_at) (ReadsFrom named) old asks new
+    ensures images { (named : List ℕ) (asks : List Exchange) (old new : LocalLink V) (cloud : ℕ) (p : Peer)
+        → Passes (telling V.cloud_at) (ReadsFrom named) old asks new
         → cloud < old.servers.shape.n → IsTrue (V.cloud_at old.shelf.now cloud).told → StandsAt V.cloud_at old cloud p
-        → ImagesSince (V.cloud_at old.shelf.now cloud) (V.cloud_at new.shelf.now cloud) (header_of old.servers.shape cloud) (MaySettleAs p) }
+        → ImagesSince (V.cloud_at old.shelf.now cloud) (V.cloud_at new.shelf.now cloud)
+        (header_of old.servers.shape cloud) (MaySettleAs p) }
     // the clouds that aren't named are as they were
-    ensures others { (named : List ℕ) (asks : List Exchange) (old new : LocalLink V) (cloud : ℕ) → Passes (telling V.cloud_at) (ReadsFrom named) old asks new
+    ensures others { (named : List ℕ) (asks : List Exchange) (old new : LocalLink V) (cloud : ℕ)
+        → Passes (telling V.cloud_at) (ReadsFrom named) old asks new
         → ¬ Contains named cloud → V.cloud_at new.shelf.now cloud ≡ V.cloud_at old.shelf.now cloud }
     // and it is the same shelf
-    ensures same_reference { (named : List ℕ) (asks : List Exchange) (old new : LocalLink V) → Passes (telling V.cloud_at) (ReadsFrom named) old asks new
+    ensures same_reference { (named : List ℕ) (asks : List Exchange) (old new : LocalLink V)
+        → Passes (telling V.cloud_at) (ReadsFrom named) old asks new
         → new.shelf.ghost_name ≡ old.shelf.ghost_name }
 {}
 
-/// Areas that stay keep a server's conditions: over a cloud whose areas are as they were, with each image that a crash may leave, a server
-/// serves the peer that it served, with the cloud's counts. So no call of a shelf on another cloud, no read and no arming ends them.
+/// Areas that stay keep a server's conditions: over a cloud whose areas are as they were, with each image that a crash
+/// may leave, a server serves the peer that it served, with the cloud's counts. So no call of a shelf on another cloud,
+/// no read and no arming ends them.
 pub fn law_of_areas()
     ensures { (server : Server) (old new : Cloud) (p : Peer) → new.told ≡ old.told → new.now ≡ old.now
         → IsServing server old p
-        → IsServing server new (record { list = p.list; pending = p.pending; faults = new.faults; armings = new.armings }) }
+        → IsServing server new (record {
+          list = p.list;
+          pending = p.pending;
+          faults = new.faults;
+          armings = new.armings;
+        }) }
 {}
 
 /// The header of each server is that of its cloud's number in a store of the servers' shape.

@@ -18,6 +18,7 @@ pub struct Servers {
 
 impl Servers {
     ghost use Rattle.std.specs.Prelude.{◌≡◌, ◌<◌, ◌≤◌, ℕ, slice_get, length, IfOk, OnOk, OnErr, Some};
+    ghost use Rattle.frames.specs.Frames.{frame_limit};
     ghost use Rattle.cloud_state.specs.State.{AreRooms};
     ghost use Rattle.share_server.specs.declared.server.Server.{Server};
     ghost use Rattle.local_link.specs.Tells.{server_at};
@@ -27,7 +28,8 @@ impl Servers {
     pub fn make(alloc: Global, shape: Shape, rooms: Rooms) -> Result<Servers, NoMemory>
         requires { AreRooms rooms }
         ensures shape { IfOk result (λ servers. servers.shape ≡ shape) }
-        ensures closed { IfOk result (λ servers. (cloud : ℕ) (server : Server) → server_at servers cloud ≡ Some server → IsClosedIn rooms server) }
+        ensures closed { IfOk result (λ servers. (cloud : ℕ) (server : Server) → server_at servers cloud ≡ Some server
+            → IsClosedIn rooms server) }
     {
         let mut list = Vec::new(alloc);
         for number in 0..shape.n {
@@ -40,7 +42,8 @@ impl Servers {
     pub fn renew(&mut self, alloc: Global, cloud: CloudNo, rooms: Rooms) -> Result<(), NoMemory>
         requires reached { cloud.0 < self.old.shape.n }
         requires rooms { AreRooms rooms }
-        ensures put { OnOk result ((before : Server) × (after : Server) × Puts self.old self.new cloud.0 before after × IsClosedIn rooms after) }
+        ensures put { OnOk result ((before : Server) × (after : Server) × Puts self.old self.new cloud.0 before after
+            × IsClosedIn rooms after) }
         ensures err { OnErr result (self.new ≡ self.old) }
     {
         let server = Server::make(alloc, cloud, self.shape, rooms)?;
@@ -51,7 +54,8 @@ impl Servers {
     /// Closes the cloud's server.
     pub fn close(&mut self, cloud: CloudNo)
         requires { cloud.0 < self.old.shape.n }
-        ensures { (before : Server) × (after : Server) × Puts self.old self.new cloud.0 before after × Closes before after }
+        ensures { (before : Server) × (after : Server) × Puts self.old self.new cloud.0 before after
+            × Closes before after }
     {
         self.list[cloud.0 as usize].close();
     }
@@ -65,7 +69,8 @@ impl Servers {
     ) -> Result<u64, OpenErr>
         requires { cloud.0 < self.old.shape.n }
         ensures { (before : Server) × (after : Server) × Puts self.old self.new cloud.0 before after
-            × Reopens before after (V.cloud_at shelf.old) (V.cloud_at shelf.new) (V.faults shelf.old) (V.faults shelf.new) begin result }
+            × Reopens before after (V.cloud_at shelf.old) (V.cloud_at shelf.new) (V.faults shelf.old)
+            (V.faults shelf.new) begin result }
     {
         self.list[cloud.0 as usize].reopen(shelf, begin)
     }
@@ -79,9 +84,10 @@ impl Servers {
         reply: &mut ReplyBuf,
     )
         requires reached { cloud.0 < self.old.shape.n }
-        requires framed { length request.now ≤ 4194304 }
+        requires framed { length request.now ≤ frame_limit }
         ensures { (before : Server) × (after : Server) × Puts self.old self.new cloud.0 before after
-            × Executes before after (V.cloud_at shelf.old) (V.cloud_at shelf.new) (V.faults shelf.old) (V.faults shelf.new) request.now reply.new }
+            × Executes before after (V.cloud_at shelf.old) (V.cloud_at shelf.new) (V.faults shelf.old)
+            (V.faults shelf.new) request.now reply.new }
     {
         self.list[cloud.0 as usize].execute(shelf, request, reply);
     }

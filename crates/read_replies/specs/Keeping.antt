@@ -1,6 +1,7 @@
 -- What a cloud's areas and a server's memory keep of a list.
 use Rattle.std.specs.Prelude.{◌≡◌, ◌≢◌, ◌⊎◌, ℕ, ◌+◌, ◌<◌, ◌≤◌, List, [], length, take, drop, Some, None, IsTrue}
 use Rattle.std.specs.FinMap.{get}
+use Rattle.cd_base.specs.Limits.{recipe_limit}
 use Rattle.cd_base.specs.declared.ids.Fp.{Fp}
 use Rattle.cd_edges.specs.declared.area.Area.TheVariants.{Shares, Recipes}
 use Rattle.cd_edges.specs.Disk.{Cloud, Image, reads}
@@ -8,6 +9,7 @@ use Rattle.commit_journal.specs.declared.header.Header.{Header}
 use Rattle.container_log.specs.States.{State, Agrees}
 use Rattle.file_index.specs.declared.key.Entry.{Entry}
 use Rattle.file_index.specs.declared.key.FileKey.{FileKey}
+use Rattle.message_fields.specs.Shares.{share_limit}
 use Rattle.share_index.specs.declared.key.Place.{Place}
 use Rattle.user_dedup.specs.declared.command.Command.{Command}
 use Rattle.user_dedup.specs.Cloud.{fingerprint}
@@ -37,10 +39,10 @@ pub record IsOther (area : List ℕ) (at len : ℕ) (named found : Fp) : Type 0 
 -- second fingerprint is that of no bytes.
 pub record IsFoundShare (cloud : Cloud) (index : CloudIndex) (named found : Fp) : Type 0 where
   pub lies : IsTrue cloud.told → (place : Place) → get index.shares.places named.0 ≡ Some place → 1 ≤ place.len
-      → place.len ≤ 8208
+      → place.len ≤ share_limit
       → IsOther (reads cloud.now Shares) place.at place.len named found
   pub none : get index.shares.places named.0 ≡ None → found ≡ fingerprint []
-  pub unfit : (place : Place) → get index.shares.places named.0 ≡ Some place → (place.len < 1) ⊎ (8208 < place.len)
+  pub unfit : (place : Place) → get index.shares.places named.0 ≡ Some place → (place.len < 1) ⊎ (share_limit < place.len)
       → found ≡ fingerprint []
 
 -- The bytes have the fingerprint of the entry that the index has.
@@ -57,9 +59,9 @@ pub record IsFoundRecipe (cloud : Cloud) (index : CloudIndex) (key : FileKey) (n
   pub entry : Entry
   pub kept : get index.files.files key ≡ Some entry
   pub named_is : named ≡ entry.fp
-  pub lies : IsTrue cloud.told → 1 ≤ entry.len → entry.len ≤ 1180190
+  pub lies : IsTrue cloud.told → 1 ≤ entry.len → entry.len ≤ recipe_limit
       → IsOther (reads cloud.now Recipes) entry.at entry.len named found
-  pub unfit : (entry.len < 1) ⊎ (1180190 < entry.len) → found ≡ fingerprint []
+  pub unfit : (entry.len < 1) ⊎ (recipe_limit < entry.len) → found ≡ fingerprint []
 
 -- Of a log only the containers that it keeps have changed. Where they were what the told cloud's area has there, they still are.
 pub record ReadsLog (old new : State) (before after : Cloud) : Type 0 where

@@ -91,7 +91,8 @@ fn read_device<V: Shelf>(
     ensures whole { IsTrue (V.cloud_at shelf.old cloud.0).told
         → (b : Placed) → b.place ≡ at → length b.blob ≡ length out.old → fingerprint b.blob ≡ fp.now
         → IsAt ((V.cloud_at shelf.old cloud.0).now log.old.area).read b → IfRotten result (λ named found. ⊥) }
-    ensures blob { IsTrue (V.cloud_at shelf.old cloud.0).told → (b : Placed) → b.place ≡ at → length b.blob ≡ length out.old → fingerprint b.blob ≡ fp.now
+    ensures blob { IsTrue (V.cloud_at shelf.old cloud.0).told → (b : Placed) → b.place ≡ at
+        → length b.blob ≡ length out.old → fingerprint b.blob ≡ fp.now
         → IsAt ((V.cloud_at shelf.old cloud.0).now log.old.area).read b → OnOk result (out.new ≡ b.blob) }
     ensures log { log.new ≡ log.old }
     ensures reads { HasRead (V.cloud_at shelf.old) (V.cloud_at shelf.new) cloud.0

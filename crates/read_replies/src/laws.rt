@@ -19,15 +19,19 @@ ghost use Rattle.read_replies.specs.Allowed.{KnownReply, EntriesReply, SharesRep
 ghost use Rattle.read_replies.specs.Keeping.{IsFoundShare, IsNamed, HasNone, IsFoundRecipe};
 ghost use Rattle.read_replies.specs.Owned.{first_unowned};
 
-/// Each reply that may come is one that an open server that keeps to the rules gives to its request, and says neither that a device
-/// failed, nor that the journal is damaged, nor that memory ran out.
+/// Each reply that may come is one that an open server that keeps to the rules gives to its request, and says neither
+/// that a device failed, nor that the journal is damaged, nor that memory ran out.
 pub fn law_of_kinds()
-    ensures known { (user : UserId) (fps : List Fp) (reply : Reply) → KnownReply fps reply → IsPlain (requests.Query user fps) reply }
-    ensures entries { (user : UserId) (last : Option (Tag × Version)) (reply : Reply) → EntriesReply last reply → IsPlain (requests.List user last) reply }
+    ensures known { (user : UserId) (fps : List Fp) (reply : Reply) → KnownReply fps reply
+        → IsPlain (requests.Query user fps) reply }
+    ensures entries { (user : UserId) (last : Option (Tag × Version)) (reply : Reply) → EntriesReply last reply
+        → IsPlain (requests.List user last) reply }
     ensures shares { (user : UserId) (fps : List Fp) (cloud : Cloud) (index : CloudIndex) (reply : Reply)
         → SharesReply fps (IsFoundShare cloud index) reply → IsPlain (requests.GetShares user fps) reply }
-    ensures recipe { (user : UserId) (tag : Tag) (version : Version) (cloud : Cloud) (index : CloudIndex) (key : FileKey) (reply : Reply)
-        → RecipeReply (IsNamed index key) (HasNone index key) (IsFoundRecipe cloud index key) reply → IsPlain (requests.GetRecipe user tag version) reply }
+    ensures recipe { (user : UserId) (tag : Tag) (version : Version) (cloud : Cloud) (index : CloudIndex)
+        (key : FileKey) (reply : Reply)
+        → RecipeReply (IsNamed index key) (HasNone index key) (IsFoundRecipe cloud index key) reply
+        → IsPlain (requests.GetRecipe user tag version) reply }
 {}
 
 /// Of a list that an index remembers, the first fingerprint that isn't the user's as the index has it is the first that the list

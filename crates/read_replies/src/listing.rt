@@ -14,11 +14,8 @@ ghost use Rattle.read_replies.specs.Allowed.{Replies, EntriesReply};
 use cd_base::{Tag, UserId, Version};
 use cloud_index::CloudIndex;
 use frames::ReplyBuf;
-use message_fields::is_key_above;
+use message_fields::{KEY_LIMIT, is_key_above};
 use messages::write_entries;
-
-// The most keys in one reply.
-const PAGE: usize = 256;
 
 // The user's least key above the last one.
 fn next_key(
@@ -98,6 +95,6 @@ pub fn entries(
         → reply.new ≡ reply_bytes (answer_over shape cloud list (requests.List user after)).reply }
     ensures kind { Replies reply.new (EntriesReply after) }
 {
-    let mut keys = [(Tag([0; 32]), Version(0)); PAGE];
+    let mut keys = [(Tag([0; 32]), Version(0)); KEY_LIMIT];
     put_keys(index, user, after, &mut keys, reply);
 }

@@ -2,6 +2,7 @@
 
 ghost use Rattle.std.specs.Prelude.{◌≡◌, ℕ, ◌+◌, ◌≤◌, ◌<◌, List, ◌∷◌, [], ◌++◌, length, slice_get, Some, IfSome};
 ghost use Rattle.cd_base.specs.declared.shape.Shape.{Shape};
+ghost use Rattle.frames.specs.Frames.{frame_limit};
 ghost use Rattle.message_fields.specs.Fingerprints.{IsBatch};
 ghost use Rattle.messages.specs.declared.request.Request.TheVariants as requests;
 ghost use Rattle.messages.specs.Replies.{reply_bytes};
@@ -40,7 +41,7 @@ fn mark_of(index: &CloudIndex, user: UserId, fp: &Fp) -> u8
 
 // Puts a flag for each fingerprint.
 fn put_marks(index: &CloudIndex, user: UserId, fps: &FpsView<'_>, reply: &mut ReplyBuf)
-    requires { length reply.old + length fps.now ≤ 4194304 }
+    requires { length reply.old + length fps.now ≤ frame_limit }
     ensures { (marks : List ℕ) × (reply.new ≡ reply.old ++ marks) × Flagged index.now user fps.now marks }
 {
     for place in 0..fps.len() {

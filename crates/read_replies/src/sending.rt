@@ -1,6 +1,7 @@
 //! The reply to GetShares.
 
-ghost use Rattle.std.specs.Prelude.{◌≡◌, ◌⊎◌, ℕ, ◌+◌, ◌*◌, ◌≤◌, ◌<◌, List, [], ◌++◌, length, map, unwrap_or, All, IsTrue, OnOk, OnErr, Some, None};
+ghost use Rattle.std.specs.Prelude.{◌≡◌, ◌⊎◌, ℕ, ◌+◌, ◌*◌, ◌≤◌, ◌<◌, List, [], ◌++◌, length, map, unwrap_or, All};
+ghost use Rattle.std.specs.Prelude.{IsTrue, OnOk, OnErr, Some, None};
 ghost use Rattle.std.specs.List.{Contains, flat_map};
 ghost use Rattle.cd_base.specs.declared.ids.Fp.{Fp};
 ghost use Rattle.cd_base.specs.declared.ids.UserId.{UserId};
@@ -11,8 +12,9 @@ ghost use Rattle.cd_edges.specs.Shelf.{IsCall, HasFailed, KeepsCounts, Stays};
 ghost use Rattle.commit_journal.specs.declared.header.Header.{Header};
 ghost use Rattle.container_log.specs.Laying.{Placed, IsAt};
 ghost use Rattle.container_log.specs.States.{Agrees};
+ghost use Rattle.frames.specs.Frames.{frame_limit};
 ghost use Rattle.message_fields.specs.Fingerprints.{IsBatch};
-ghost use Rattle.message_fields.specs.Shares.{IsShare, share_bytes};
+ghost use Rattle.message_fields.specs.Shares.{IsShare, share_bytes, share_limit};
 ghost use Rattle.messages.specs.declared.request.Request.TheVariants as requests;
 ghost use Rattle.messages.specs.declared.reply.Reply.TheVariants as replies;
 ghost use Rattle.messages.specs.Replies.{reply_bytes, IsReply};
@@ -32,7 +34,7 @@ use cd_edges::{Failed, Shelf};
 use cloud_index::CloudIndex;
 use container_log::Log;
 use frames::ReplyBuf;
-use message_fields::FpsView;
+use message_fields::{FpsView, SHARE_LIMIT};
 use messages::{append_share, begin_shares, write_not_yours, write_rotten};
 use share_index::Place;
 
@@ -47,21 +49,25 @@ fn put_from<V: Shelf>(
     reply: &mut ReplyBuf,
 ) -> Result<(), Stop>
     requires some { 1 ≤ place.len }
-    requires few { place.len ≤ 8208 }
-    requires buffer { 8208 ≤ length buffer.old }
-    requires room { length reply.old + 8212 ≤ 4194304 }
+    requires few { place.len ≤ share_limit }
+    requires buffer { share_limit ≤ length buffer.old }
+    requires room { length reply.old + (share_limit + 4) ≤ frame_limit }
     ensures ok { OnOk result (SentOne fp.now reply.old reply.new) }
     ensures named { IfRotten result (λ named found. named ≡ fp.now) }
     ensures found { IsTrue (V.cloud_at shelf.old cloud.0).told
-        → IfRotten result (λ named found. IsOther ((V.cloud_at shelf.old cloud.0).now log.old.area).read place.at place.len named found) }
-    ensures whole { IsTrue (V.cloud_at shelf.old cloud.0).told → (b : Placed) → b.place ≡ place.at → length b.blob ≡ place.len → fingerprint b.blob ≡ fp.now
+        → IfRotten result (λ named found. IsOther
+        ((V.cloud_at shelf.old cloud.0).now log.old.area).read place.at place.len named found) }
+    ensures whole { IsTrue (V.cloud_at shelf.old cloud.0).told → (b : Placed) → b.place ≡ place.at
+        → length b.blob ≡ place.len → fingerprint b.blob ≡ fp.now
         → IsAt ((V.cloud_at shelf.old cloud.0).now log.old.area).read b → IfRotten result (λ named found. ⊥) }
     ensures blob { IsTrue (V.cloud_at shelf.old cloud.0).told
         → Agrees log.old ((V.cloud_at shelf.old cloud.0).now log.old.area).read
         → (b : Placed) → b.place ≡ place.at → length b.blob ≡ place.len → fingerprint b.blob ≡ fp.now
-        → IsAt ((V.cloud_at shelf.old cloud.0).now log.old.area).read b → OnOk result (reply.new ≡ reply.old ++ share_bytes b.blob) }
+        → IsAt ((V.cloud_at shelf.old cloud.0).now log.old.area).read b
+        → OnOk result (reply.new ≡ reply.old ++ share_bytes b.blob) }
     ensures log { ReadsLog log.old log.new (V.cloud_at shelf.old cloud.0) (V.cloud_at shelf.new cloud.0) }
-    ensures reads { HasRead (V.cloud_at shelf.old) (V.cloud_at shelf.new) cloud.0 (V.faults shelf.old) (V.faults shelf.new) result }
+    ensures reads { HasRead (V.cloud_at shelf.old) (V.cloud_at shelf.new) cloud.0 (V.faults shelf.old)
+        (V.faults shelf.new) result }
 {
     let (share, _) = buffer.split_at_mut(place.len as usize);
     match read_blob(log, shelf, cloud, place.at, fp, share) {
@@ -83,27 +89,33 @@ fn put_share<V: Shelf>(
     buffer: &mut [u8],
     reply: &mut ReplyBuf,
 ) -> Result<(), Stop>
-    requires buffer { 8208 ≤ length buffer.old }
-    requires room { length reply.old + 8212 ≤ 4194304 }
+    requires buffer { share_limit ≤ length buffer.old }
+    requires room { length reply.old + (share_limit + 4) ≤ frame_limit }
     ensures ok { OnOk result (SentOne fp.now reply.old reply.new) }
     ensures named { IfRotten result (λ named found. named ≡ fp.now) }
-    ensures found { IsTrue (V.cloud_at shelf.old cloud.0).told → (p : Place) → place ≡ Some p → 1 ≤ p.len → p.len ≤ 8208
-        → IfRotten result (λ named found. IsOther ((V.cloud_at shelf.old cloud.0).now log.old.area).read p.at p.len named found) }
+    ensures found { IsTrue (V.cloud_at shelf.old cloud.0).told → (p : Place) → place ≡ Some p → 1 ≤ p.len
+        → p.len ≤ share_limit
+        → IfRotten result (λ named found. IsOther
+        ((V.cloud_at shelf.old cloud.0).now log.old.area).read p.at p.len named found) }
     ensures none { place ≡ None → IfRotten result (λ named found. found ≡ fingerprint []) }
-    ensures unfit { (p : Place) → place ≡ Some p → (p.len < 1) ⊎ (8208 < p.len)
+    ensures unfit { (p : Place) → place ≡ Some p → (p.len < 1) ⊎ (share_limit < p.len)
         → IfRotten result (λ named found. found ≡ fingerprint []) }
-    ensures whole { IsTrue (V.cloud_at shelf.old cloud.0).told → (p : Place) → place ≡ Some p → (b : Placed) → b.place ≡ p.at → length b.blob ≡ p.len → IsShare b.blob
-        → fingerprint b.blob ≡ fp.now → IsAt ((V.cloud_at shelf.old cloud.0).now log.old.area).read b → IfRotten result (λ named found. ⊥) }
+    ensures whole { IsTrue (V.cloud_at shelf.old cloud.0).told → (p : Place) → place ≡ Some p → (b : Placed)
+        → b.place ≡ p.at → length b.blob ≡ p.len → IsShare b.blob
+        → fingerprint b.blob ≡ fp.now → IsAt ((V.cloud_at shelf.old cloud.0).now log.old.area).read b
+        → IfRotten result (λ named found. ⊥) }
     ensures blob { IsTrue (V.cloud_at shelf.old cloud.0).told
         → Agrees log.old ((V.cloud_at shelf.old cloud.0).now log.old.area).read
         → (p : Place) → place ≡ Some p → (b : Placed) → b.place ≡ p.at → length b.blob ≡ p.len → IsShare b.blob
-        → fingerprint b.blob ≡ fp.now → IsAt ((V.cloud_at shelf.old cloud.0).now log.old.area).read b → OnOk result (reply.new ≡ reply.old ++ share_bytes b.blob) }
+        → fingerprint b.blob ≡ fp.now → IsAt ((V.cloud_at shelf.old cloud.0).now log.old.area).read b
+        → OnOk result (reply.new ≡ reply.old ++ share_bytes b.blob) }
     ensures log { ReadsLog log.old log.new (V.cloud_at shelf.old cloud.0) (V.cloud_at shelf.new cloud.0) }
-    ensures reads { HasRead (V.cloud_at shelf.old) (V.cloud_at shelf.new) cloud.0 (V.faults shelf.old) (V.faults shelf.new) result }
+    ensures reads { HasRead (V.cloud_at shelf.old) (V.cloud_at shelf.new) cloud.0 (V.faults shelf.old)
+        (V.faults shelf.new) result }
 {
     match place {
         Some(place) => {
-            if 1 <= place.len && place.len <= 8208 {
+            if 1 <= place.len && place.len as usize <= SHARE_LIMIT {
                 match put_from(log, shelf, cloud, place, fp, buffer, reply) {
                     Ok(()) => Ok(()),
                     Err(stop) => Err(stop),
@@ -127,20 +139,25 @@ fn put_each<V: Shelf>(
     reply: &mut ReplyBuf,
 ) -> Result<(), Stop>
     requires area { log.old.area ≡ areas.Shares }
-    requires buffer { 8208 ≤ length buffer.old }
-    requires room { length reply.old + length fps.now * 8212 ≤ 4194304 }
+    requires buffer { share_limit ≤ length buffer.old }
+    requires room { length reply.old + length fps.now * (share_limit + 4) ≤ frame_limit }
     ensures ok { OnOk result (Sent fps.now reply.old reply.new) }
-    ensures rotten { IfRotten result (λ named found. Contains fps.now named × IsFoundShare (V.cloud_at shelf.old cloud.0) index.now named found) }
+    ensures rotten { IfRotten result (λ named found. Contains fps.now named
+        × IsFoundShare (V.cloud_at shelf.old cloud.0) index.now named found) }
     ensures whole { IsTrue (V.cloud_at shelf.old cloud.0).told → (header : Header) (list : List Command) (user : UserId)
-        → Keeps (reads (V.cloud_at shelf.old cloud.0).now) header list index.now → All (Contains (user_view header.shape list user).own) fps.now
+        → Keeps (reads (V.cloud_at shelf.old cloud.0).now) header list index.now
+        → All (Contains (user_view header.shape list user).own) fps.now
         → IfRotten result (λ named found. ⊥) }
     ensures held { IsTrue (V.cloud_at shelf.old cloud.0).told
         → Agrees log.old ((V.cloud_at shelf.old cloud.0).now log.old.area).read
         → (header : Header) (list : List Command) (user : UserId)
-        → Keeps (reads (V.cloud_at shelf.old cloud.0).now) header list index.now → All (Contains (user_view header.shape list user).own) fps.now
-        → OnOk result (reply.new ≡ reply.old ++ flat_map share_bytes (map (λ fp. unwrap_or (held_string list fp) []) fps.now)) }
+        → Keeps (reads (V.cloud_at shelf.old cloud.0).now) header list index.now
+        → All (Contains (user_view header.shape list user).own) fps.now
+        → OnOk result (reply.new ≡ reply.old ++ flat_map share_bytes
+        (map (λ fp. unwrap_or (held_string list fp) []) fps.now)) }
     ensures log { ReadsLog log.old log.new (V.cloud_at shelf.old cloud.0) (V.cloud_at shelf.new cloud.0) }
-    ensures reads { HasRead (V.cloud_at shelf.old) (V.cloud_at shelf.new) cloud.0 (V.faults shelf.old) (V.faults shelf.new) result }
+    ensures reads { HasRead (V.cloud_at shelf.old) (V.cloud_at shelf.new) cloud.0 (V.faults shelf.old)
+        (V.faults shelf.new) result }
 {
     for place in 0..fps.len() {
         let fp = fp_at(fps, place);
@@ -165,19 +182,24 @@ fn put_shares<V: Shelf>(
 ) -> Result<(), Stop>
     requires batch { IsBatch fps.now }
     requires area { log.old.area ≡ areas.Shares }
-    requires buffer { 8208 ≤ length buffer.old }
+    requires buffer { share_limit ≤ length buffer.old }
     ensures ok { OnOk result (SentAll fps.now reply.new) }
-    ensures rotten { IfRotten result (λ named found. Contains fps.now named × IsFoundShare (V.cloud_at shelf.old cloud.0) index.now named found) }
+    ensures rotten { IfRotten result (λ named found. Contains fps.now named
+        × IsFoundShare (V.cloud_at shelf.old cloud.0) index.now named found) }
     ensures whole { IsTrue (V.cloud_at shelf.old cloud.0).told → (header : Header) (list : List Command) (user : UserId)
-        → Keeps (reads (V.cloud_at shelf.old cloud.0).now) header list index.now → All (Contains (user_view header.shape list user).own) fps.now
+        → Keeps (reads (V.cloud_at shelf.old cloud.0).now) header list index.now
+        → All (Contains (user_view header.shape list user).own) fps.now
         → IfRotten result (λ named found. ⊥) }
     ensures held { IsTrue (V.cloud_at shelf.old cloud.0).told
         → Agrees log.old ((V.cloud_at shelf.old cloud.0).now log.old.area).read
         → (header : Header) (list : List Command) (user : UserId)
-        → Keeps (reads (V.cloud_at shelf.old cloud.0).now) header list index.now → All (Contains (user_view header.shape list user).own) fps.now
-        → OnOk result (reply.new ≡ reply_bytes (replies.Shares (map (λ fp. unwrap_or (held_string list fp) []) fps.now))) }
+        → Keeps (reads (V.cloud_at shelf.old cloud.0).now) header list index.now
+        → All (Contains (user_view header.shape list user).own) fps.now
+        → OnOk result (reply.new ≡ reply_bytes
+        (replies.Shares (map (λ fp. unwrap_or (held_string list fp) []) fps.now))) }
     ensures log { ReadsLog log.old log.new (V.cloud_at shelf.old cloud.0) (V.cloud_at shelf.new cloud.0) }
-    ensures reads { HasRead (V.cloud_at shelf.old) (V.cloud_at shelf.new) cloud.0 (V.faults shelf.old) (V.faults shelf.new) result }
+    ensures reads { HasRead (V.cloud_at shelf.old) (V.cloud_at shelf.new) cloud.0 (V.faults shelf.old)
+        (V.faults shelf.new) result }
 {
     begin_shares(reply, fps.len());
     match put_each(index, log, shelf, cloud, fps, buffer, reply) {
@@ -188,8 +210,8 @@ fn put_shares<V: Shelf>(
 
 /// The reply to GetShares becomes the content. Where the user doesn't own each fingerprint it is NotYours, with the place of the
 /// first, and no device is called. Else it is Shares, with the share of each fingerprint, read back and compared with the
-/// fingerprint; or Rotten where fewer bytes lie there than were kept, or others. Rotten names the fingerprint, and that of what was
-/// found at the place that the memory has for it, whatever the memory has.
+/// fingerprint; or Rotten where fewer bytes lie there than were kept, or others. Rotten names the fingerprint, and that
+/// of what was found at the place that the memory has for it, whatever the memory has.
 ///
 /// Over a told cloud whose areas have the list that the memory has, and with which the log agrees, it is the reply of that list.
 /// Failed comes only where the cloud's count of faults rose; nothing is known of the content then. The cloud's areas stay in any
@@ -209,13 +231,15 @@ pub fn shares<V: Shelf>(
 ) -> Result<(), Failed>
     requires batch { IsBatch fps.now }
     requires area { log.old.area ≡ areas.Shares }
-    requires buffer { 8208 ≤ length buffer.old }
+    requires buffer { share_limit ≤ length buffer.old }
     ensures value { IsTrue (V.cloud_at shelf.old cloud.0).told
         → Agrees log.old ((V.cloud_at shelf.old cloud.0).now log.old.area).read
         → (header : Header) (list : List Command)
         → Keeps (reads (V.cloud_at shelf.old cloud.0).now) header list index.now
-        → OnOk result (reply.new ≡ reply_bytes (answer_over header.shape header.cloud.0 list (requests.GetShares user fps.now)).reply) }
-    ensures kind { OnOk result (Replies reply.new (SharesReply fps.now (IsFoundShare (V.cloud_at shelf.old cloud.0) index.now))) }
+        → OnOk result (reply.new ≡ reply_bytes
+        (answer_over header.shape header.cloud.0 list (requests.GetShares user fps.now)).reply) }
+    ensures kind { OnOk result
+        (Replies reply.new (SharesReply fps.now (IsFoundShare (V.cloud_at shelf.old cloud.0) index.now))) }
     ensures foreign { (place : ℕ) → first_unowned index.now user fps.now ≡ Some place
         → (shelf.new ≡ shelf.old) × (log.new ≡ log.old)
         × OnOk result (reply.new ≡ reply_bytes (replies.NotYours place)) }
@@ -223,9 +247,14 @@ pub fn shares<V: Shelf>(
         → (shelf.new ≡ shelf.old) × (log.new ≡ log.old)) }
     ensures log { ReadsLog log.old log.new (V.cloud_at shelf.old cloud.0) (V.cloud_at shelf.new cloud.0) }
     ensures stays { Stays (V.cloud_at shelf.old cloud.0) (V.cloud_at shelf.new cloud.0) }
-    ensures call { IsCall (V.cloud_at shelf.old) (V.cloud_at shelf.new) cloud.0 (V.faults shelf.old) (V.faults shelf.new) }
-    ensures failed { OnErr result (HasFailed (V.cloud_at shelf.old cloud.0) (V.cloud_at shelf.new cloud.0) (V.faults shelf.old) (V.faults shelf.new)) }
-    ensures uncounted { OnOk result (KeepsCounts (V.cloud_at shelf.old cloud.0) (V.cloud_at shelf.new cloud.0) (V.faults shelf.old) (V.faults shelf.new)) }
+    ensures call { IsCall (V.cloud_at shelf.old) (V.cloud_at shelf.new) cloud.0 (V.faults shelf.old)
+        (V.faults shelf.new) }
+    ensures failed { OnErr result
+        (HasFailed (V.cloud_at shelf.old cloud.0) (V.cloud_at shelf.new cloud.0) (V.faults shelf.old)
+        (V.faults shelf.new)) }
+    ensures uncounted { OnOk result
+        (KeepsCounts (V.cloud_at shelf.old cloud.0) (V.cloud_at shelf.new cloud.0) (V.faults shelf.old)
+        (V.faults shelf.new)) }
 {
     match first_foreign(index, user, fps) {
         Some(place) => {

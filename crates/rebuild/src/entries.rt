@@ -121,13 +121,15 @@ pub fn rebuild_entry<L: Link>(
     told: &mut Vec<LaneNews>,
 ) -> Result<Option<SkipWhy>, RebuildErr>
     requires shape { L.tells.shape link.old ≡ shape }
-    requires reached { (cloud : ℕ) → Contains (target.0 ∷ numbers_of clouds.now) cloud → IsTrue (L.tells.reaches link.old cloud) }
+    requires reached { (cloud : ℕ) → Contains (target.0 ∷ numbers_of clouds.now) cloud
+        → IsTrue (L.tells.reaches link.old cloud) }
     requires choice { AreChoice shape (numbers_of clouds.now) }
     requires within { target.0 < shape.n }
     requires apart { ¬ Contains (numbers_of clouds.now) target.0 }
     ensures rebuilt { Leads L.tells L.talk target.0 (numbers_of clouds.now) link.old link.new result
         (Holds L.tells link.old shape user target.0 result)
-        (EntryTold shape user target.0 (serves L.tells link.old target.0) (numbers_of clouds.now) (tag, version) result) }
+        (EntryTold shape user target.0 (serves L.tells link.old target.0) (numbers_of clouds.now)
+        (tag, version) result) }
     ensures hands_on { HandsOn (numbers_of clouds.now) result }
     ensures asked { Asked L.tells target.0 (numbers_of clouds.now) link.old link.new (is_lost result) }
     ensures lanes { BringsOwn L.tells shape user target.0 (numbers_of clouds.now) link.old link.new }

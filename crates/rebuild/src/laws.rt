@@ -1,12 +1,14 @@
 //! What a rebuild finds of kept versions.
 
-ghost use Rattle.std.specs.Prelude.{◌≡◌, ◌<◌, ◌≤◌, ◌++◌, ◌∷◌, [], ℕ, List, Option, Some, None, true, length, map, slice_index, Ok};
+ghost use Rattle.std.specs.Prelude.{◌≡◌, ◌<◌, ◌≤◌, ◌++◌, ◌∷◌, [], ℕ, List, Option, Some, None, true, length, map};
+ghost use Rattle.std.specs.Prelude.{slice_index, Ok};
 ghost use Rattle.std.specs.List.{Contains};
 ghost use Rattle.cd_base.specs.Limits.{IsPath};
 ghost use Rattle.cd_base.specs.declared.ids.Tag.{Tag};
 ghost use Rattle.cd_base.specs.declared.ids.UserId.{UserId};
 ghost use Rattle.cd_base.specs.declared.ids.Version.{Version};
 ghost use Rattle.cd_base.specs.declared.shape.Shape.{Shape};
+ghost use Rattle.message_fields.specs.Keys.{key_limit};
 ghost use Rattle.recipe.specs.Spelling.{file_limit};
 ghost use Rattle.reed_solomon.specs.Dispersal.{AreChoice};
 ghost use Rattle.user_dedup.specs.declared.command.Command.{Command};
@@ -27,17 +29,23 @@ ghost use Rattle.rebuild.specs.declared.skips.Rebuilt.{Rebuilt};
 
 /// Where each of k clouds keeps a version of a file, that version is found under its key, path and all.
 pub fn law_of_found_versions()
-    ensures { (shape : Shape) (lists : ℕ → List Command) (user : UserId) (path : List ℕ) (version : Version) (file from : List ℕ)
-        → IsPath path → ((i : ℕ) → slice_index path i < 256) → ((i : ℕ) → slice_index file i < 256) → length file ≤ file_limit → AreChoice shape from
+    ensures { (shape : Shape) (lists : ℕ → List Command) (user : UserId) (path : List ℕ) (version : Version)
+        (file from : List ℕ)
+        → IsPath path → ((i : ℕ) → slice_index path i < 256) → ((i : ℕ) → slice_index file i < 256)
+        → length file ≤ file_limit → AreChoice shape from
         → ((cloud : ℕ) → Contains from cloud → Keeps shape cloud (lists cloud) user path version file)
-        → version_under shape lists from user (key_of shape path version) ≡ Ok (record { user = user; path = path; number = version; file = file }) }
+        → version_under shape lists from user (key_of shape path version)
+        ≡ Ok (record { user = user; path = path; number = version; file = file }) }
 {}
 
-/// What an answered rebuild over told clouds finds, brings and skips, leaves at the target what was promised: each version that all of
-/// the k clouds keep stands there, or is skipped since the target has another; and each skip has its cause.
+/// What an answered rebuild over told clouds finds, brings and skips, leaves at the target what was promised: each
+/// version that all of the k clouds keep stands there, or is skipped since the target has another; and each skip has
+/// its cause.
 pub fn law_of_refills()
-    ensures { (shape : Shape) (user : UserId) (target : ℕ) (full : List Command → Command → Option FullRoom) (from : List ℕ) (turns : List (Turn Peer)) (rebuilt : Rebuilt) (before after : ℕ → Peer)
-        → AreChoice shape from → Rebuilds shape user target (served shape target full) from turns (Ok rebuilt) before after
+    ensures { (shape : Shape) (user : UserId) (target : ℕ) (full : List Command → Command → Option FullRoom)
+        (from : List ℕ) (turns : List (Turn Peer)) (rebuilt : Rebuilt) (before after : ℕ → Peer)
+        → AreChoice shape from → Rebuilds shape user target (served shape target full) from turns
+        (Ok rebuilt) before after
         → RefillsKept shape target from user after rebuilt × SkipsCaused shape target from user after rebuilt }
 {}
 
@@ -48,11 +56,13 @@ pub fn law_of_own_lanes()
         → (asker turn.request ≡ user) × IsOfLane shape user target (request_bytes turn.request) }
 {}
 
-/// A user's keys are their pages, one after another: a page of fewer than 256 keys has all that are left, and behind any other page
-/// come the keys above its last one.
+/// A user's keys are their pages, one after another: a page of fewer than 256 keys has all that are left, and behind
+/// any other page come the keys above its last one.
 pub fn law_of_pages()
     ensures start { (files : List FileEntry) → keys_above files None ≡ sorted_keys (map key_of_entry files) }
-    ensures last { (files : List FileEntry) (after : Option (Tag × Version)) → length (page_of files after) < 256 → keys_above files after ≡ page_of files after }
-    ensures next { (files : List FileEntry) (after : Option (Tag × Version)) (front : List (Tag × Version)) (last : Tag × Version) → page_of files after ≡ front ++ last ∷ []
+    ensures last { (files : List FileEntry) (after : Option (Tag × Version)) → length (page_of files after) < key_limit
+        → keys_above files after ≡ page_of files after }
+    ensures next { (files : List FileEntry) (after : Option (Tag × Version)) (front : List (Tag × Version))
+        (last : Tag × Version) → page_of files after ≡ front ++ last ∷ []
         → keys_above files after ≡ page_of files after ++ keys_above files (Some last) }
 {}

@@ -2,6 +2,7 @@
 
 ghost use Rattle.std.specs.Prelude.{◌≡◌, ◌≤◌, ◌<◌, ◌^◌, ◌∷◌, [], ℕ, length, IsTrue, IfOk, IfErr, Ok, OnErr, Err, None};
 ghost use Rattle.cd_base.specs.Reading.{AreBytes};
+ghost use Rattle.frames.specs.Frames.{frame_limit};
 ghost use Rattle.messages.specs.ReplyReading.{reply_at};
 ghost use Rattle.messages.specs.Requests.{IsRequest};
 ghost use Rattle.messages.specs.declared.request.Request.{Request};
@@ -29,10 +30,11 @@ fn ask<L: Link>(
 ) -> Result<(), RestoreErr>
     requires reached { IsTrue (L.tells.reaches link.old cloud.0) }
     requires some { 1 ≤ length request.now }
-    requires framed { length request.now ≤ 4194304 }
+    requires framed { length request.now ≤ frame_limit }
     requires reading { IsReading request.now }
     ensures asked { Asked L.tells (cloud.0 ∷ []) link.old link.new (is_lost result) }
-    ensures exec { (r : Request) → IsAsked (L.tells.shape link.old) request.now r → Asks L.tells cloud.0 link.old r reply.new result link.new }
+    ensures exec { (r : Request) → IsAsked (L.tells.shape link.old) request.now r
+        → Asks L.tells cloud.0 link.old r reply.new result link.new }
     ensures others { LeavesOthers L.tells cloud.0 link.old link.new }
     ensures lost { OnErr result (result ≡ Err (RestoreErr.Lost cloud)) }
 {
@@ -49,7 +51,7 @@ fn page_request(
     after: Option<(Tag, Version)>,
 ) -> Result<Bytes, NoMemory>
     ensures asks { IfOk result (λ content. IsRequest content (requests.List user after)) }
-    ensures framed { IfOk result (λ content. (1 ≤ length content) × (length content ≤ 4194304)) }
+    ensures framed { IfOk result (λ content. (1 ≤ length content) × (length content ≤ frame_limit)) }
 {
     let mut content = Bytes::new(alloc);
     Request::List { user, after }.write(&mut content)?;
@@ -138,7 +140,8 @@ pub fn fetch_page<L: Link>(
     requires shape { L.tells.shape link.old ≡ shape }
     requires reached { IsTrue (L.tells.reaches link.old cloud.0) }
     ensures asked { Asked L.tells (cloud.0 ∷ []) link.old link.new (is_lost result) }
-    ensures told { Leads L.tells (cloud.0 ∷ []) link.old link.new (ReadCauses L.tells link.old result) (PageTold shape user cloud after result) }
+    ensures told { Leads L.tells (cloud.0 ∷ []) link.old link.new (ReadCauses L.tells link.old result)
+        (PageTold shape user cloud after result) }
     ensures named { IfErr result (Names (λ c. c ≡ cloud.0)) }
     ensures refusal { IfErr result (λ e. skip_as e ≡ None) }
 {

@@ -1,13 +1,14 @@
 //! The path of a version, from the name shares of its recipes.
 
-ghost use Rattle.std.specs.Prelude.{◌≡◌, ◌==◌, ◌*◌, ◌≤◌, ◌++◌, ◌∷◌, [], ℕ, List, None, MatchOption, length, position, All, IfOk, OnOk, IfSome, ◌<◌};
+ghost use Rattle.std.specs.Prelude.{◌≡◌, ◌==◌, ◌*◌, ◌≤◌, ◌++◌, ◌∷◌, [], ℕ, List, None, MatchOption, length, position};
+ghost use Rattle.std.specs.Prelude.{All, IfOk, OnOk, IfSome, ◌<◌};
 ghost use Rattle.std.specs.List.{flat_map};
 ghost use Rattle.cd_base.specs.Lengths.{share_len_of};
 ghost use Rattle.cd_base.specs.Limits.{IsPath};
 ghost use Rattle.cd_base.specs.Numbers.{numbers_of};
 ghost use Rattle.cd_base.specs.declared.ids.Version.{Version};
 ghost use Rattle.caont_rs.specs.Opening.{opened};
-ghost use Rattle.recipe.specs.Spelling.{Fits};
+ghost use Rattle.recipe.specs.Spelling.{Fits, item_limit};
 ghost use Rattle.reed_solomon.specs.Dispersal.{AreChoice};
 ghost use Rattle.rebuild.specs.Found.{name_judged, path_judged};
 ghost use Rattle.restore_job.specs.Restored.{differing};
@@ -105,7 +106,9 @@ fn test_tag(alloc: Global, shape: Shape, tag: Tag, path: &[u8]) -> Result<(), Na
 fn test_path(alloc: Global, shape: Shape, tag: Tag, path: &[u8]) -> Result<(), NameErr>
     requires some { 1 ≤ length path.now }
     requires few { length path.now ≤ 1024 }
-    ensures judges { (version : Version) → NameIs (path_judged shape (tag, version) path.now (position (λ byte. byte == 0) path.now)) (tested path.now result) }
+    ensures judges { (version : Version)
+        → NameIs (path_judged shape (tag, version) path.now (position (λ byte. byte == 0) path.now))
+        (tested path.now result) }
     ensures path { OnOk result (IsPath path.now) }
 {
     match first_zero(path) {
@@ -126,8 +129,11 @@ fn path_of(
     requires some { 1 ≤ name_len }
     requires few { name_len ≤ 1024 }
     requires choice { AreChoice shape points.now }
-    requires whole { length (flat_map (λ recipe. recipe.name_share) recipes.now) ≡ shape.k * share_len_of shape.k name_len }
-    ensures judges { (version : Version) → NameIs (name_judged shape (tag, version) (opened shape name_len points.now (flat_map (λ recipe. recipe.name_share) recipes.now))) result }
+    requires whole { length (flat_map (λ recipe. recipe.name_share) recipes.now)
+        ≡ shape.k * share_len_of shape.k name_len }
+    ensures judges { (version : Version)
+        → NameIs (name_judged shape (tag, version)
+        (opened shape name_len points.now (flat_map (λ recipe. recipe.name_share) recipes.now))) result }
     ensures path { IfOk result IsPath }
 {
     let shares = match shares_of(alloc, recipes) {
@@ -151,7 +157,7 @@ fn compared(
     clouds: &[CloudNo],
     recipes: &[Recipe],
 ) -> Result<(), NameErr>
-    requires few { length recipe.now.items ≤ 32768 }
+    requires few { length recipe.now.items ≤ item_limit }
     requires pairs { length clouds.now ≡ length recipes.now }
     ensures { ComparesAs (differing cloud.0 recipe.now (numbers_of clouds.now) recipes.now) result }
 {
@@ -209,7 +215,8 @@ pub fn named(
     requires choice { AreChoice shape (numbers_of clouds.now) }
     requires pairs { length clouds.now ≡ length recipes.now }
     requires fits { All (Fits shape) recipes.now }
-    ensures judges { (version : Version) → NameIs (judged_by shape (tag, version) (numbers_of clouds.now) recipes.now) result }
+    ensures judges { (version : Version)
+        → NameIs (judged_by shape (tag, version) (numbers_of clouds.now) recipes.now) result }
     ensures path { IfOk result IsPath }
 {
     let Some((cloud, recipe, others, rest)) = first_of(clouds, recipes) else {

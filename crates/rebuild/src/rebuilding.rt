@@ -5,6 +5,7 @@ ghost use Rattle.std.specs.List.{Contains};
 ghost use Rattle.cd_base.specs.Numbers.{numbers_of};
 ghost use Rattle.cd_base.specs.declared.ids.Tag.{Tag};
 ghost use Rattle.cd_base.specs.declared.ids.Version.{Version};
+ghost use Rattle.message_fields.specs.Keys.{key_limit};
 ghost use Rattle.reed_solomon.specs.Dispersal.{AreChoice};
 ghost use Rattle.user_dedup.specs.Exec.{Peer};
 ghost use Rattle.user_dedup.specs.Link.{serves};
@@ -18,12 +19,10 @@ use crate::entries::stopped;
 use crate::{RebuildErr, Rebuilt, Skips, fetch_page, rebuild_keys};
 use cd_base::{Bytes, CloudNo, Clouds, NoMemory, Shape, Tag, UserId, Version};
 use frames::ReplyBuf;
+use message_fields::KEY_LIMIT;
 use std::alloc::Global;
 use upload_job::LaneNews;
 use user_dedup::Link;
-
-// The entries of a page that isn't the last one.
-const FULL_PAGE: usize = 256;
 
 // The first of some clouds.
 fn first_of(clouds: &[CloudNo]) -> CloudNo
@@ -38,10 +37,10 @@ fn first_of(clouds: &[CloudNo]) -> CloudNo
 
 // The key above which the next page begins, or None where this one is the last.
 fn next_above(page: &[(Tag, Version)]) -> Option<(Tag, Version)>
-    ensures { MatchOption result (length page.now < 256)
+    ensures { MatchOption result (length page.now < key_limit)
         (λ last. (front : List (Tag × Version)) × (page.now ≡ front ++ last ∷ [])) }
 {
-    if page.len() < FULL_PAGE {
+    if page.len() < KEY_LIMIT {
         return None;
     }
     match page {

@@ -74,10 +74,10 @@ fn failed(e: StepErr) -> RebuildErr
 /// Brings a version of a file of at most 67,108,864 bytes to the target: a job of it is made for the target alone, whose lane
 /// goes on to its end. True where the version is entered there, false where it stands with another recipe.
 ///
-/// TargetLost comes only where the link's count of losses rose, and TargetStrange where what came is no reply that a server which keeps to
-/// the rules gives; the other errors but want of memory are the reply that stopped the lane: TargetFull, TargetFault,
-/// TargetDamaged, TargetRotten, TargetNoMemory, and TargetLacking the second time that the target lacks a share. Nothing
-/// is said of what is left in `content`, `reply` and `told`.
+/// TargetLost comes only where the link's count of losses rose, and TargetStrange where what came is no reply that a
+/// server which keeps to the rules gives; the other errors but want of memory are the reply that stopped the lane:
+/// TargetFull, TargetFault, TargetDamaged, TargetRotten, TargetNoMemory, and TargetLacking the second time that the
+/// target lacks a share. Nothing is said of what is left in `content`, `reply` and `told`.
 pub fn bring<L: Link>(
     alloc: Global,
     link: &mut L,
@@ -96,12 +96,14 @@ pub fn bring<L: Link>(
     requires within { target.0 < shape.n }
     requires path { IsPath path.now }
     requires few { length file.now ≤ file_limit }
-    ensures brings { (from : List ℕ) → ¬ Contains from target.0 → Leads L.tells L.talk target.0 from link.old link.new result
+    ensures brings { (from : List ℕ) → ¬ Contains from target.0
+        → Leads L.tells L.talk target.0 from link.old link.new result
         (λ turns before after. BringHolds (L.tells.told link.old target.0)
         (LaneGoes (lane_of shape target.0 (record { user = user; path = path.now; number = version; file = file.now })))
         result turns (before target.0) (after target.0))
         (λ turns before at after. BringsTold shape target.0 (serves L.tells link.old target.0)
-        (record { user = user; path = path.now; number = version; file = file.now }) result turns (before target.0) at (after target.0)) }
+        (record { user = user; path = path.now; number = version; file = file.now }) result turns (before target.0) at
+        (after target.0)) }
     ensures own { OfTarget result }
     ensures asked { Asked L.tells target.0 [] link.old link.new (is_lost result) }
     ensures lanes { BringsOwn L.tells shape user target.0 [] link.old link.new }

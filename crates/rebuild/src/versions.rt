@@ -8,7 +8,8 @@ ghost use Rattle.recipe.specs.Spelling.{Fits};
 ghost use Rattle.reed_solomon.specs.Dispersal.{AreChoice};
 ghost use Rattle.restore_job.specs.Asking.{Asked, Leads, is_lost};
 ghost use Rattle.restore_job.specs.Refusals.{Names};
-ghost use Rattle.rebuild.specs.Steps.{FindsTold, OpensCaused, OpensTold, ReadCauses, RefusedAs, UnnamedAs, VersionFits, judged_by, skip_as};
+ghost use Rattle.rebuild.specs.Steps.{FindsTold, OpensCaused, OpensTold, ReadCauses, RefusedAs, UnnamedAs, VersionFits};
+ghost use Rattle.rebuild.specs.Steps.{judged_by, skip_as};
 
 use crate::SkipWhy;
 use crate::naming::{NameErr, named};
@@ -143,7 +144,8 @@ fn open_version<L: Link>(
     ensures asked { Asked L.tells (numbers_of clouds.now) link.old link.new (is_lost result) }
     ensures told { (version : Version) → Leads L.tells (numbers_of clouds.now) link.old link.new
         (OpensCaused L.tells link.old shape user (tag, version) (numbers_of clouds.now) recipes.now result)
-        (OpensTold shape user (tag, version) (numbers_of clouds.now) recipes.now (judged_by shape (tag, version) (numbers_of clouds.now) recipes.now) result) }
+        (OpensTold shape user (tag, version) (numbers_of clouds.now) recipes.now
+        (judged_by shape (tag, version) (numbers_of clouds.now) recipes.now) result) }
     ensures named { IfErr result (Names (Contains (numbers_of clouds.now))) }
     ensures refusal { IfErr result (λ e. skip_as e ≡ None) }
     ensures fit { IfOk result VersionFits }

@@ -66,7 +66,8 @@ fn commit_of(
 ) -> Result<Asked<'_>, u32>
     requires { recipe_place + length recipe.now < 2 ^ 32 }
     ensures reads { MatchResult result
-        (λ asked. recipe_read (requests.Commit user tag version recipe.now) (recipe_at shape recipe.now) ≡ Ok (request_of asked))
+        (λ asked. recipe_read (requests.Commit user tag version recipe.now) (recipe_at shape recipe.now)
+        ≡ Ok (request_of asked))
         (λ at. recipe_read (requests.Commit user tag version recipe.now) (recipe_at shape recipe.now) ≡ Err at) }
     ensures recipe { IfOk result (IsOfShape shape) }
 {
@@ -118,7 +119,8 @@ impl<'a> Asked<'a> {
     /// What is asked has each field in its range, and a Commit's recipe is one of this shape. It takes no memory.
     pub fn read(shape: Shape, content: &'a [u8]) -> Result<Asked<'a>, u32>
         requires { length content.now < 2 ^ 32 }
-        ensures reads { MatchResult result (λ asked. asked_at shape content.now ≡ Ok (request_of asked)) (λ at. asked_at shape content.now ≡ Err at) }
+        ensures reads { MatchResult result (λ asked. asked_at shape content.now ≡ Ok (request_of asked))
+            (λ at. asked_at shape content.now ≡ Err at) }
         ensures range { IfOk result (λ asked. FitsRequest (request_of asked) × HasRecipe shape (request_of asked)) }
         ensures recipe { IfOk result (IsOfShape shape) }
     {

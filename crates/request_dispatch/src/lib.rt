@@ -7,6 +7,3 @@ mod serving;
 
 pub use asked::Asked;
 pub use serving::dispatch;
-
-#[cfg(test)]
-mod tests;

@@ -1,12 +1,14 @@
 //! The requests that ask for what lies on the disk.
 
 ghost use Rattle.std.specs.Prelude.{◌≡◌, ℕ, ◌≤◌, List, length, IsTrue, OnOk, OnErr};
+ghost use Rattle.cd_base.specs.Limits.{recipe_limit};
 ghost use Rattle.cd_edges.specs.declared.area.Area.TheVariants as areas;
 ghost use Rattle.cd_edges.specs.Disk.{Cloud, reads};
 ghost use Rattle.cd_edges.specs.Shelf.{IsCall, HasFailed, KeepsCounts, Stays};
 ghost use Rattle.commit_journal.specs.declared.header.Header.{Header};
 ghost use Rattle.file_index.specs.Files.{key_of};
 ghost use Rattle.message_fields.specs.Fingerprints.{IsBatch};
+ghost use Rattle.message_fields.specs.Shares.{share_limit};
 ghost use Rattle.messages.specs.declared.request.Request.TheVariants as requests;
 ghost use Rattle.messages.specs.declared.reply.Reply.TheVariants as replies;
 ghost use Rattle.messages.specs.Replies.{reply_bytes, IsReply};
@@ -55,20 +57,27 @@ fn shares_by<V: Shelf>(
 ) -> Result<(), Failed>
     requires batch { IsBatch fps.now }
     requires area { log.old.shares.area ≡ areas.Shares }
-    requires buffer { 8208 ≤ length buffer.old }
+    requires buffer { share_limit ≤ length buffer.old }
     ensures value { IsTrue (V.cloud_at shelf.old cloud.0).told
         → IsCurrent log.old.shares (V.cloud_at shelf.old cloud.0).now
         → (header : Header) (list : List Command)
         → Keeps (reads (V.cloud_at shelf.old cloud.0).now) header list index.now
-        → OnOk result (reply.new ≡ reply_bytes (answer_over header.shape header.cloud.0 list (requests.GetShares user fps.now)).reply) }
-    ensures kind { OnOk result (Replies reply.new (SharesReply fps.now (IsFoundShare (V.cloud_at shelf.old cloud.0) index.now))) }
+        → OnOk result (reply.new ≡ reply_bytes
+        (answer_over header.shape header.cloud.0 list (requests.GetShares user fps.now)).reply) }
+    ensures kind { OnOk result
+        (Replies reply.new (SharesReply fps.now (IsFoundShare (V.cloud_at shelf.old cloud.0) index.now))) }
     ensures untouched { (place : ℕ) → OnOk result (IsReply reply.new (replies.NotYours place)
         → (shelf.new ≡ shelf.old) × (log.new ≡ log.old)) }
     ensures log { ReadsLogs log.old log.new (V.cloud_at shelf.old cloud.0) (V.cloud_at shelf.new cloud.0) result }
     ensures stays { Stays (V.cloud_at shelf.old cloud.0) (V.cloud_at shelf.new cloud.0) }
-    ensures call { IsCall (V.cloud_at shelf.old) (V.cloud_at shelf.new) cloud.0 (V.faults shelf.old) (V.faults shelf.new) }
-    ensures failed { OnErr result (HasFailed (V.cloud_at shelf.old cloud.0) (V.cloud_at shelf.new cloud.0) (V.faults shelf.old) (V.faults shelf.new)) }
-    ensures uncounted { OnOk result (KeepsCounts (V.cloud_at shelf.old cloud.0) (V.cloud_at shelf.new cloud.0) (V.faults shelf.old) (V.faults shelf.new)) }
+    ensures call { IsCall (V.cloud_at shelf.old) (V.cloud_at shelf.new) cloud.0 (V.faults shelf.old)
+        (V.faults shelf.new) }
+    ensures failed { OnErr result
+        (HasFailed (V.cloud_at shelf.old cloud.0) (V.cloud_at shelf.new cloud.0) (V.faults shelf.old)
+        (V.faults shelf.new)) }
+    ensures uncounted { OnOk result
+        (KeepsCounts (V.cloud_at shelf.old cloud.0) (V.cloud_at shelf.new cloud.0) (V.faults shelf.old)
+        (V.faults shelf.new)) }
 {
     let read = shares(
         index,
@@ -96,21 +105,29 @@ fn recipe_by<V: Shelf>(
     reply: &mut ReplyBuf,
 ) -> Result<(), Failed>
     requires area { log.old.recipes.area ≡ areas.Recipes }
-    requires buffer { 1180190 ≤ length buffer.old }
+    requires buffer { recipe_limit ≤ length buffer.old }
     ensures value { IsTrue (V.cloud_at shelf.old cloud.0).told
         → IsCurrent log.old.recipes (V.cloud_at shelf.old cloud.0).now
         → (header : Header) (list : List Command)
         → Keeps (reads (V.cloud_at shelf.old cloud.0).now) header list index.now
-        → OnOk result (reply.new ≡ reply_bytes (answer_over header.shape header.cloud.0 list (requests.GetRecipe user tag.now version)).reply) }
-    ensures kind { OnOk result (Replies reply.new (RecipeReply (IsNamed index.now (key_of user.0 tag.now.0 version.0)) (HasNone index.now (key_of user.0 tag.now.0 version.0))
+        → OnOk result (reply.new ≡ reply_bytes
+        (answer_over header.shape header.cloud.0 list (requests.GetRecipe user tag.now version)).reply) }
+    ensures kind { OnOk result
+        (Replies reply.new (RecipeReply (IsNamed index.now (key_of user.0 tag.now.0 version.0))
+        (HasNone index.now (key_of user.0 tag.now.0 version.0))
         (IsFoundRecipe (V.cloud_at shelf.old cloud.0) index.now (key_of user.0 tag.now.0 version.0)))) }
     ensures untouched { OnOk result (IsReply reply.new replies.Missing
         → (shelf.new ≡ shelf.old) × (log.new ≡ log.old)) }
     ensures log { ReadsLogs log.old log.new (V.cloud_at shelf.old cloud.0) (V.cloud_at shelf.new cloud.0) result }
     ensures stays { Stays (V.cloud_at shelf.old cloud.0) (V.cloud_at shelf.new cloud.0) }
-    ensures call { IsCall (V.cloud_at shelf.old) (V.cloud_at shelf.new) cloud.0 (V.faults shelf.old) (V.faults shelf.new) }
-    ensures failed { OnErr result (HasFailed (V.cloud_at shelf.old cloud.0) (V.cloud_at shelf.new cloud.0) (V.faults shelf.old) (V.faults shelf.new)) }
-    ensures uncounted { OnOk result (KeepsCounts (V.cloud_at shelf.old cloud.0) (V.cloud_at shelf.new cloud.0) (V.faults shelf.old) (V.faults shelf.new)) }
+    ensures call { IsCall (V.cloud_at shelf.old) (V.cloud_at shelf.new) cloud.0 (V.faults shelf.old)
+        (V.faults shelf.new) }
+    ensures failed { OnErr result
+        (HasFailed (V.cloud_at shelf.old cloud.0) (V.cloud_at shelf.new cloud.0) (V.faults shelf.old)
+        (V.faults shelf.new)) }
+    ensures uncounted { OnOk result
+        (KeepsCounts (V.cloud_at shelf.old cloud.0) (V.cloud_at shelf.new cloud.0) (V.faults shelf.old)
+        (V.faults shelf.new)) }
 {
     let read = recipe(
         index,

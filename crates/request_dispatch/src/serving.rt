@@ -31,10 +31,10 @@ use read_replies::{entries, hello, known};
 /// the memory as they were; Hello, Query and List call no device.
 ///
 /// Over a cloud of which nothing is known the reply is still one for the request, and neither Fault nor Damaged nor NoMemory. A
-/// reply that says that nothing is stored, entered or read (Stored with 0, Full, Lacking, Missing, NotYours) comes with no call of
-/// a device, and leaves memory and logs as they were; one that says Rotten names what lies there then. Failed comes only where the
-/// cloud's count of faults rose; the server is shut then, nothing is known of the content, and the cloud stands for the list
-/// without the command or with it.
+/// reply that says that nothing is stored, entered or read (Stored with 0, Full, Lacking, Missing, NotYours) comes with
+/// no call of a device, and leaves memory and logs as they were; one that says Rotten names what lies there then.
+/// Failed comes only where the cloud's count of faults rose; the server is shut then, nothing is known of the content,
+/// and the cloud stands for the list without the command or with it.
 ///
 /// It asks for a settled and open server, and for a request that `Asked::read` read for its shape. It takes no memory but for
 /// the containers that the logs keep, and goes on without where there is none for them.
@@ -56,17 +56,24 @@ pub fn dispatch<V: Shelf>(
     ensures shut { OnErr result (state.new.log.journal.stage ≡ Shut) }
 
     // by the list on which server and cloud agree
-    ensures any_moment { (list : List Command) → Agrees state.old (V.cloud_at shelf.old state.old.header.cloud.0) list → IsWithin state.old.rooms list
+    ensures any_moment { (list : List Command) → Agrees state.old (V.cloud_at shelf.old state.old.header.cloud.0) list
+        → IsWithin state.old.rooms list
         → LeavesOnly (V.cloud_at shelf.old state.old.header.cloud.0) (V.cloud_at shelf.new state.old.header.cloud.0)
         (StandsForSome state.old.header (IsServedOrNot state.old list (request_of asked.now))) }
-    ensures served { (list : List Command) → Agrees state.old (V.cloud_at shelf.old state.old.header.cloud.0) list → IsWithin state.old.rooms list
-        → OnOk result (Served state.old state.new (V.cloud_at shelf.new state.old.header.cloud.0) list (request_of asked.now) reply.new) }
-    ensures moments { (list : List Command) → Agrees state.old (V.cloud_at shelf.old state.old.header.cloud.0) list → IsWithin state.old.rooms list
-        → OnOk result (moment (V.cloud_at shelf.new state.old.header.cloud.0) ≡ moment (V.cloud_at shelf.old state.old.header.cloud.0)
+    ensures served { (list : List Command) → Agrees state.old (V.cloud_at shelf.old state.old.header.cloud.0) list
+        → IsWithin state.old.rooms list
+        → OnOk result (Served state.old state.new (V.cloud_at shelf.new state.old.header.cloud.0) list
+        (request_of asked.now) reply.new) }
+    ensures moments { (list : List Command) → Agrees state.old (V.cloud_at shelf.old state.old.header.cloud.0) list
+        → IsWithin state.old.rooms list
+        → OnOk result (moment (V.cloud_at shelf.new state.old.header.cloud.0)
+        ≡ moment (V.cloud_at shelf.old state.old.header.cloud.0)
         + moments_of list (serves state.old list (request_of asked.now)).adds) }
-    ensures stays { (list : List Command) → Agrees state.old (V.cloud_at shelf.old state.old.header.cloud.0) list → IsWithin state.old.rooms list
+    ensures stays { (list : List Command) → Agrees state.old (V.cloud_at shelf.old state.old.header.cloud.0) list
+        → IsWithin state.old.rooms list
         → (serves state.old list (request_of asked.now)).adds ≡ None
-        → Stays (V.cloud_at shelf.old state.old.header.cloud.0) (V.cloud_at shelf.new state.old.header.cloud.0) × (state.new.index ≡ state.old.index) }
+        → Stays (V.cloud_at shelf.old state.old.header.cloud.0) (V.cloud_at shelf.new state.old.header.cloud.0)
+        × (state.new.index ≡ state.old.index) }
 
     // whatever the cloud has
     ensures rotten { (named found : Fp) → OnOk result (IsReply reply.new (replies.Rotten named found)
@@ -79,10 +86,16 @@ pub fn dispatch<V: Shelf>(
     ensures kind { OnOk result (Gives state.old.header.shape (request_of asked.now) reply.new) }
 
     // the calls of the device
-    ensures no_call { IsForMemory (request_of asked.now) → (shelf.new ≡ shelf.old) × (state.new ≡ state.old) × IsOk result }
-    ensures call { IsCall (V.cloud_at shelf.old) (V.cloud_at shelf.new) state.old.header.cloud.0 (V.faults shelf.old) (V.faults shelf.new) }
-    ensures failed { OnErr result (HasFailed (V.cloud_at shelf.old state.old.header.cloud.0) (V.cloud_at shelf.new state.old.header.cloud.0) (V.faults shelf.old) (V.faults shelf.new)) }
-    ensures uncounted { OnOk result (KeepsCounts (V.cloud_at shelf.old state.old.header.cloud.0) (V.cloud_at shelf.new state.old.header.cloud.0) (V.faults shelf.old) (V.faults shelf.new)) }
+    ensures no_call { IsForMemory (request_of asked.now)
+        → (shelf.new ≡ shelf.old) × (state.new ≡ state.old) × IsOk result }
+    ensures call { IsCall (V.cloud_at shelf.old) (V.cloud_at shelf.new) state.old.header.cloud.0 (V.faults shelf.old)
+        (V.faults shelf.new) }
+    ensures failed { OnErr result
+        (HasFailed (V.cloud_at shelf.old state.old.header.cloud.0) (V.cloud_at shelf.new state.old.header.cloud.0)
+        (V.faults shelf.old) (V.faults shelf.new)) }
+    ensures uncounted { OnOk result
+        (KeepsCounts (V.cloud_at shelf.old state.old.header.cloud.0) (V.cloud_at shelf.new state.old.header.cloud.0)
+        (V.faults shelf.old) (V.faults shelf.new)) }
 {
     match asked {
         Asked::Hello => {

@@ -1,6 +1,7 @@
 -- What was said with the clouds of a link: which replies came to which requests, in order.
 use Rattle.std.specs.Prelude.{◌≡◌, ◌≢◌, ℕ, ◌+◌, ◌-◌, ◌<◌, ◌≤◌, min, length, ◌==◌, List, [], ◌∷◌, ◌++◌, take, drop, if◌then◌else◌, Result, Ok, Err, OnOk}
 use Rattle.cd_base.specs.declared.ids.UserId.{UserId}
+use Rattle.message_fields.specs.Fingerprints.{batch_limit}
 use Rattle.messages.specs.Requests.{IsRequest}
 use Rattle.messages.specs.declared.request.Request.TheVariants as requests
 use Rattle.recipe.specs.declared.items.Item.{Item}
@@ -151,11 +152,11 @@ pub data BatchRun (shape : Shape) (user : UserId) (clouds : List CloudNo) (point
 pub data ItemsRun (shape : Shape) (user : UserId) (clouds : List CloudNo) (points : List ℕ) (firsts : List Item) (recipes : List Recipe) : ℕ → List Exchange → List ℕ → List ℕ → Result (Unit {0}) RestoreErr → Type 0 where
   ItemsDone : (place : ℕ) (out : List ℕ) → length firsts ≤ place → ItemsRun shape user clouds points firsts recipes place [] out out (Ok tt)
   ItemsNext : (place : ℕ) (log more : List Exchange) (old mid new : List ℕ) (result : Result (Unit {0}) RestoreErr) → place < length firsts
-      → BatchRun shape user clouds points firsts recipes place (min 256 (length firsts - place)) log old mid (Ok tt)
-      → ItemsRun shape user clouds points firsts recipes (place + min 256 (length firsts - place)) more mid new result
+      → BatchRun shape user clouds points firsts recipes place (min batch_limit (length firsts - place)) log old mid (Ok tt)
+      → ItemsRun shape user clouds points firsts recipes (place + min batch_limit (length firsts - place)) more mid new result
       → ItemsRun shape user clouds points firsts recipes place (log ++ more) old new result
   ItemsStop : (place : ℕ) (log : List Exchange) (old new : List ℕ) (e : RestoreErr) → place < length firsts
-      → BatchRun shape user clouds points firsts recipes place (min 256 (length firsts - place)) log old new (Err e)
+      → BatchRun shape user clouds points firsts recipes place (min batch_limit (length firsts - place)) log old new (Err e)
       → ItemsRun shape user clouds points firsts recipes place log old new (Err e)
 
 -- ---- a restore

@@ -3,6 +3,7 @@ use Rattle.std.specs.Prelude.{◌≡◌, ◌≢◌, ℕ, ◌+◌, ◌<◌, ◌�
 use Rattle.std.specs.List.{Contains, flat_map}
 use Rattle.sha2.specs.Sha256.{sha256 as sha256_of}
 use Rattle.cd_base.specs.Lengths.{share_len_of}
+use Rattle.cd_base.specs.Limits.{secret_limit}
 use Rattle.cd_base.specs.declared.ids.CloudNo.{CloudNo}
 use Rattle.cd_base.specs.declared.ids.Tag.{Tag}
 use Rattle.cd_base.specs.declared.ids.UserId.{UserId}
@@ -252,7 +253,7 @@ Grows old new = (more : List ℕ) × (new ≡ old ++ more)
 -- an item of a recipe
 pub record IsItem (item : Item) : Type 0 where
   pub some : 1 ≤ item.secret_len
-  pub few : item.secret_len ≤ 16384
+  pub few : item.secret_len ≤ secret_limit
   pub fp : length item.fp.0 ≡ 32
 
 abbrev pub AreItemsAt : List Item → Type 0

@@ -5,6 +5,8 @@ ghost use Rattle.std.specs.List.{Contains};
 ghost use Rattle.cd_base.specs.Numbers.{numbers_of};
 ghost use Rattle.cd_base.specs.declared.ids.Tag.{Tag};
 ghost use Rattle.cd_base.specs.declared.ids.Version.{Version};
+ghost use Rattle.message_fields.specs.Fingerprints.{batch_limit};
+ghost use Rattle.recipe.specs.Spelling.{item_limit};
 ghost use Rattle.reed_solomon.specs.Dispersal.{AreChoice};
 ghost use Rattle.restore_job.specs.Asking.{Asked, Leads, is_lost};
 ghost use Rattle.restore_job.specs.Reading.{Ends};
@@ -20,18 +22,20 @@ use crate::opening::open_batch;
 use crate::rooms::Rooms;
 use cd_base::{Bytes, CloudNo, Shape, UserId};
 use frames::ReplyBuf;
+use message_fields::BATCH_LIMIT;
 use recipe::{Item, Recipe};
 use std::alloc::Global;
 use user_dedup::Link;
 
-// The most secrets of a batch.
-const BATCH: usize = 256;
-
 // How many secrets the next batch has, of so many that are left.
 fn size_of(left: usize) -> usize
-    ensures { result ≡ min 256 left }
+    ensures { result ≡ min batch_limit left }
 {
-    if left < BATCH { left } else { BATCH }
+    if left < BATCH_LIMIT {
+        left
+    } else {
+        BATCH_LIMIT
+    }
 }
 
 // Appends a batch of secrets: asks each cloud for its shares of them, and opens them.
@@ -56,22 +60,28 @@ fn restore_batch<L: Link>(
     requires points { points.now ≡ numbers_of clouds.now }
     requires pairs { length clouds.now ≡ length recipes.now }
     requires some { 1 ≤ count }
-    requires batch { count ≤ 256 }
+    requires batch { count ≤ batch_limit }
     requires firsts { place + count ≤ length firsts.now }
     requires same { All (λ recipe. length recipe.items ≡ length firsts.now) recipes.now }
     requires lens { AreItemsAt firsts.now }
     requires items { All (λ recipe. AreItemsAt recipe.items) recipes.now }
-    requires few { length firsts.now ≤ 32768 }
+    requires few { length firsts.now ≤ item_limit }
     requires room { count ≤ length rooms.old }
     ensures asked { Asked L.tells (numbers_of clouds.now) link.old link.new (is_lost result) }
-    ensures told { (tag : Tag) (version : Version) → Leads L.tells (numbers_of clouds.now) link.old link.new (BatchCaused L.tells link.old shape user (tag, version) (numbers_of clouds.now) recipes.now result) (λ before after.
+    ensures told { (tag : Tag) (version : Version)
+        → Leads L.tells (numbers_of clouds.now) link.old link.new
+        (BatchCaused L.tells link.old shape user (tag, version) (numbers_of clouds.now) recipes.now result)
+        (λ before after.
         Ready shape user (tag, version) (numbers_of clouds.now) recipes.now before
-        → Ends (batch_opened shape firsts.now (givens before (numbers_of clouds.now) recipes.now) place count) (numbers_of clouds.now) result out.old out.new before after) }
+        → Ends (batch_opened shape firsts.now (givens before (numbers_of clouds.now) recipes.now) place count)
+        (numbers_of clouds.now) result out.old out.new before after) }
     ensures named { IfErr result (Names (Contains (numbers_of clouds.now))) }
-    ensures brought { OnOk result (Extends shape (numbers_of clouds.now) firsts.now recipes.now place (place + count) out.old out.new) }
+    ensures brought { OnOk result
+        (Extends shape (numbers_of clouds.now) firsts.now recipes.now place (place + count) out.old out.new) }
     ensures grows { Grows out.old out.new }
     ensures rooms { length rooms.new ≡ length rooms.old }
-    ensures said { Unlost result ((log : List Exchange) × HasSpoken L.talk link.old link.new log × BatchRun shape user clouds.now points.now firsts.now recipes.now place count log out.old out.new result) }
+    ensures said { Unlost result ((log : List Exchange) × HasSpoken L.talk link.old link.new log
+        × BatchRun shape user clouds.now points.now firsts.now recipes.now place count log out.old out.new result) }
     ensures beside { LostSaid L.talk link.old link.new result }
 {
     rooms.clear();
@@ -107,18 +117,24 @@ pub fn restore_items<L: Link>(
     requires same { All (λ recipe. length recipe.items ≡ length firsts.now) recipes.now }
     requires lens { AreItemsAt firsts.now }
     requires items { All (λ recipe. AreItemsAt recipe.items) recipes.now }
-    requires few { length firsts.now ≤ 32768 }
+    requires few { length firsts.now ≤ item_limit }
     ensures asked { Asked L.tells (numbers_of clouds.now) link.old link.new (is_lost result) }
-    ensures told { (tag : Tag) (version : Version) → Leads L.tells (numbers_of clouds.now) link.old link.new (BatchCaused L.tells link.old shape user (tag, version) (numbers_of clouds.now) recipes.now result) (λ before after.
+    ensures told { (tag : Tag) (version : Version)
+        → Leads L.tells (numbers_of clouds.now) link.old link.new
+        (BatchCaused L.tells link.old shape user (tag, version) (numbers_of clouds.now) recipes.now result)
+        (λ before after.
         Ready shape user (tag, version) (numbers_of clouds.now) recipes.now before
-        → Ends (items_opened shape firsts.now (givens before (numbers_of clouds.now) recipes.now)) (numbers_of clouds.now) result out.old out.new before after) }
+        → Ends (items_opened shape firsts.now (givens before (numbers_of clouds.now) recipes.now))
+        (numbers_of clouds.now) result out.old out.new before after) }
     ensures named { IfErr result (Names (Contains (numbers_of clouds.now))) }
-    ensures brought { OnOk result ((file : List ℕ) × (out.new ≡ out.old ++ file) × AreSecrets shape (numbers_of clouds.now) firsts.now recipes.now (length firsts.now) file) }
+    ensures brought { OnOk result ((file : List ℕ) × (out.new ≡ out.old ++ file)
+        × AreSecrets shape (numbers_of clouds.now) firsts.now recipes.now (length firsts.now) file) }
     ensures grows { Grows out.old out.new }
-    ensures said { Unlost result ((log : List Exchange) × HasSpoken L.talk link.old link.new log × ItemsRun shape user clouds.now points.now firsts.now recipes.now 0 log out.old out.new result) }
+    ensures said { Unlost result ((log : List Exchange) × HasSpoken L.talk link.old link.new log
+        × ItemsRun shape user clouds.now points.now firsts.now recipes.now 0 log out.old out.new result) }
     ensures beside { LostSaid L.talk link.old link.new result }
 {
-    let mut rooms = match Rooms::make(alloc, BATCH) {
+    let mut rooms = match Rooms::make(alloc, BATCH_LIMIT) {
         Ok(rooms) => rooms,
         Err(_) => return Err(RestoreErr::NoMemory),
     };

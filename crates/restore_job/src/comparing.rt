@@ -2,6 +2,7 @@
 
 ghost use Rattle.std.specs.Prelude.{◌≡◌, ◌+◌, ◌≤◌, ◌<◌, ◌^◌, length, OnOk, All, option_map};
 ghost use Rattle.cd_base.specs.Numbers.{numbers_of};
+ghost use Rattle.recipe.specs.Spelling.{item_limit};
 ghost use Rattle.restore_job.specs.Restored.{items_difference, difference};
 ghost use Rattle.restore_job.specs.Steps.{Compares, NextPair};
 
@@ -45,7 +46,7 @@ fn items_differ(first: u32, one: &[Item], other: &[Item]) -> Option<u32>
 
 // The first place in which two recipes differ.
 fn differ(one: &Recipe, other: &Recipe) -> Option<u32>
-    requires few { length one.now.items ≤ 32768 }
+    requires few { length one.now.items ≤ item_limit }
     ensures { result ≡ difference one.now other.now }
 {
     if one.name_len != other.name_len {
@@ -68,7 +69,7 @@ pub fn compare(
     clouds: &[CloudNo],
     recipes: &[Recipe],
 ) -> Result<(), RestoreErr>
-    requires few { length recipe.now.items ≤ 32768 }
+    requires few { length recipe.now.items ≤ item_limit }
     requires pairs { length clouds.now ≡ length recipes.now }
     ensures compares { Compares first.0 recipe.now (numbers_of clouds.now) recipes.now result }
     ensures counts { OnOk result (All (λ other. length other.items ≡ length recipe.now.items) recipes.now) }

@@ -1,15 +1,18 @@
 //! Asking clouds for recipes and shares.
 
-ghost use Rattle.std.specs.Prelude.{◌≡◌, ◌+◌, ◌≤◌, ◌<◌, ◌*◌, ℕ, [], ◌∷◌, ◌++◌, List, length, map, IsTrue, Ok, Err, All, MatchOption, IfOk, IfErr, OnOk, OnErr};
+ghost use Rattle.std.specs.Prelude.{◌≡◌, ◌+◌, ◌≤◌, ◌<◌, ◌*◌, ℕ, [], ◌∷◌, ◌++◌, List, length, map, IsTrue, Ok, Err, All};
+ghost use Rattle.std.specs.Prelude.{MatchOption, IfOk, IfErr, OnOk, OnErr};
 ghost use Rattle.std.specs.List.{Contains};
 ghost use Rattle.cd_base.specs.Lengths.{share_len_of};
 ghost use Rattle.cd_base.specs.Numbers.{numbers_of};
 ghost use Rattle.cd_base.specs.declared.ids.Tag.{Tag};
 ghost use Rattle.cd_base.specs.declared.ids.Version.{Version};
+ghost use Rattle.frames.specs.Frames.{frame_limit};
+ghost use Rattle.message_fields.specs.Fingerprints.{batch_limit};
 ghost use Rattle.messages.specs.declared.request.Request.{Request};
 ghost use Rattle.messages.specs.declared.request.Request.TheVariants as requests;
 ghost use Rattle.messages.specs.Requests.{IsRequest};
-ghost use Rattle.recipe.specs.Spelling.{Fits};
+ghost use Rattle.recipe.specs.Spelling.{Fits, item_limit};
 ghost use Rattle.sha2.specs.Sha256.{sha256 as sha256_of};
 ghost use Rattle.user_dedup.specs.Link.{Asks, LeavesOthers, IsReading};
 ghost use Rattle.user_dedup.specs.Owning.{fps_in};
@@ -17,9 +20,12 @@ ghost use Rattle.user_dedup.specs.Requests.{IsAsked};
 ghost use Rattle.restore_job.specs.Asking.{Asked, Leads, is_lost};
 ghost use Rattle.restore_job.specs.Brought.{HasShares};
 ghost use Rattle.restore_job.specs.Refusals.{Names};
-ghost use Rattle.restore_job.specs.Exchanges.{BatchSaid, Exchange, HasSpoken, LostSaid, RecipeSaid, RecipesSaid, SharesSaid, Unlost};
+ghost use Rattle.restore_job.specs.Exchanges.{BatchSaid, Exchange, HasSpoken, LostSaid, RecipeSaid, RecipesSaid};
+ghost use Rattle.restore_job.specs.Exchanges.{SharesSaid, Unlost};
 ghost use Rattle.restore_job.specs.Restored.{item_of};
-ghost use Rattle.restore_job.specs.Steps.{AreItemsAt, BatchCaused, BatchTold, Ready, ReadyAt, RecipeCaused, RecipeTold, RecipesCaused, RecipesTold, SharesCaused, SharesTold, given_of, givens, room_of};
+ghost use Rattle.restore_job.specs.Steps.{AreItemsAt, BatchCaused, BatchTold, Ready, ReadyAt, RecipeCaused, RecipeTold};
+ghost use Rattle.restore_job.specs.Steps.{RecipesCaused, RecipesTold, SharesCaused, SharesTold, given_of, givens};
+ghost use Rattle.restore_job.specs.Steps.{room_of};
 
 use crate::RestoreErr;
 use crate::recipes::Recipes;
@@ -42,13 +48,16 @@ fn ask<L: Link>(
 ) -> Result<(), RestoreErr>
     requires reached { IsTrue (L.tells.reaches link.old cloud.0) }
     requires some { 1 ≤ length request.now }
-    requires framed { length request.now ≤ 4194304 }
+    requires framed { length request.now ≤ frame_limit }
     requires reading { IsReading request.now }
     ensures asked { Asked L.tells (cloud.0 ∷ []) link.old link.new (is_lost result) }
-    ensures exec { (r : Request) → IsAsked (L.tells.shape link.old) request.now r → Asks L.tells cloud.0 link.old r reply.new result link.new }
+    ensures exec { (r : Request) → IsAsked (L.tells.shape link.old) request.now r
+        → Asks L.tells cloud.0 link.old r reply.new result link.new }
     ensures others { LeavesOthers L.tells cloud.0 link.old link.new }
     ensures lost { OnErr result (result ≡ Err (RestoreErr.Lost cloud)) }
-    ensures spoken { OnOk result (HasSpoken L.talk link.old link.new (record { cloud = cloud.0; request = request.now; reply = reply.new } ∷ [])) }
+    ensures spoken { OnOk result
+        (HasSpoken L.talk link.old link.new (record { cloud = cloud.0; request = request.now; reply = reply.new }
+        ∷ [])) }
     ensures beside { LostSaid L.talk link.old link.new result }
 {
     match link.ask(cloud, request, reply) {
@@ -69,14 +78,18 @@ fn fetch_recipe<L: Link>(
     requires shape { L.tells.shape link.old ≡ shape }
     requires reached { IsTrue (L.tells.reaches link.old cloud.0) }
     requires some { 1 ≤ length request.now }
-    requires framed { length request.now ≤ 4194304 }
+    requires framed { length request.now ≤ frame_limit }
     requires reading { IsReading request.now }
     ensures asked { Asked L.tells (cloud.0 ∷ []) link.old link.new (is_lost result) }
-    ensures told { (user : UserId) (tag : Tag) (version : Version) → IsRequest request.now (requests.GetRecipe user tag version)
-        → Leads L.tells (cloud.0 ∷ []) link.old link.new (RecipeCaused L.tells link.old shape user (tag, version) cloud.0 result) (λ before after. RecipeTold shape user (tag, version) cloud result (before cloud.0) (after cloud.0)) }
+    ensures told { (user : UserId) (tag : Tag) (version : Version)
+        → IsRequest request.now (requests.GetRecipe user tag version)
+        → Leads L.tells (cloud.0 ∷ []) link.old link.new
+        (RecipeCaused L.tells link.old shape user (tag, version) cloud.0 result)
+        (λ before after. RecipeTold shape user (tag, version) cloud result (before cloud.0) (after cloud.0)) }
     ensures named { IfErr result (Names (λ c. c ≡ cloud.0)) }
     ensures fits { IfOk result (Fits shape) }
-    ensures said { Unlost result ((x : Exchange) × HasSpoken L.talk link.old link.new (x ∷ []) × RecipeSaid shape request.now cloud x result) }
+    ensures said { Unlost result ((x : Exchange) × HasSpoken L.talk link.old link.new (x ∷ [])
+        × RecipeSaid shape request.now cloud x result) }
     ensures beside { LostSaid L.talk link.old link.new result }
 {
     match ask(link, cloud, request, reply) {
@@ -107,15 +120,19 @@ pub fn fetch_recipes<L: Link>(
     requires shape { L.tells.shape link.old ≡ shape }
     requires reached { (cloud : ℕ) → Contains (numbers_of clouds.now) cloud → IsTrue (L.tells.reaches link.old cloud) }
     requires some { 1 ≤ length request.now }
-    requires framed { length request.now ≤ 4194304 }
+    requires framed { length request.now ≤ frame_limit }
     requires reading { IsReading request.now }
     ensures asked { Asked L.tells (numbers_of clouds.now) link.old link.new (is_lost result) }
-    ensures told { (user : UserId) (tag : Tag) (version : Version) → IsRequest request.now (requests.GetRecipe user tag version)
-        → Leads L.tells (numbers_of clouds.now) link.old link.new (RecipesCaused L.tells link.old shape user (tag, version) (numbers_of clouds.now) result) (λ before after. RecipesTold shape user (tag, version) (numbers_of clouds.now) result before after) }
+    ensures told { (user : UserId) (tag : Tag) (version : Version)
+        → IsRequest request.now (requests.GetRecipe user tag version)
+        → Leads L.tells (numbers_of clouds.now) link.old link.new
+        (RecipesCaused L.tells link.old shape user (tag, version) (numbers_of clouds.now) result)
+        (λ before after. RecipesTold shape user (tag, version) (numbers_of clouds.now) result before after) }
     ensures named { IfErr result (Names (Contains (numbers_of clouds.now))) }
     ensures fits { IfOk result (All (Fits shape)) }
     ensures pairs { IfOk result (λ recipes. length recipes ≡ length clouds.now) }
-    ensures said { Unlost result ((log : List Exchange) × HasSpoken L.talk link.old link.new log × RecipesSaid shape request.now clouds.now log result) }
+    ensures said { Unlost result ((log : List Exchange) × HasSpoken L.talk link.old link.new log
+        × RecipesSaid shape request.now clouds.now log result) }
     ensures beside { LostSaid L.talk link.old link.new result }
 {
     let mut recipes = Recipes::new(alloc);
@@ -156,10 +173,10 @@ fn fps_of(alloc: Global, items: &[Item]) -> Result<Fps, NoMemory>
 // The content of a request for the shares of items.
 fn shares_request(alloc: Global, user: UserId, items: &[Item]) -> Result<Bytes, NoMemory>
     requires some { 1 ≤ length items.now }
-    requires few { length items.now ≤ 256 }
+    requires few { length items.now ≤ batch_limit }
     requires items { AreItemsAt items.now }
     ensures asks { IfOk result (λ content. IsRequest content (requests.GetShares user (fps_in items.now))) }
-    ensures framed { IfOk result (λ content. (1 ≤ length content) × (length content ≤ 4194304)) }
+    ensures framed { IfOk result (λ content. (1 ≤ length content) × (length content ≤ frame_limit)) }
 {
     let fps = fps_of(alloc, items)?;
     let mut content = Bytes::new(alloc);
@@ -184,22 +201,31 @@ fn fetch_shares<L: Link>(
     requires shape { L.tells.shape link.old ≡ shape }
     requires reached { IsTrue (L.tells.reaches link.old cloud.0) }
     requires some { 1 ≤ count }
-    requires batch { count ≤ 256 }
+    requires batch { count ≤ batch_limit }
     requires firsts { place + count ≤ length firsts.now }
     requires same { length recipe.now.items ≡ length firsts.now }
     requires lens { AreItemsAt firsts.now }
     requires items { AreItemsAt recipe.now.items }
-    requires few { length firsts.now ≤ 32768 }
+    requires few { length firsts.now ≤ item_limit }
     requires room { count ≤ length rooms.old }
     ensures asked { Asked L.tells (cloud.0 ∷ []) link.old link.new (is_lost result) }
-    ensures told { (tag : Tag) (version : Version) → Leads L.tells (cloud.0 ∷ []) link.old link.new (SharesCaused L.tells link.old shape user (tag, version) cloud.0 recipe.now result) (λ before after.
+    ensures told { (tag : Tag) (version : Version)
+        → Leads L.tells (cloud.0 ∷ []) link.old link.new
+        (SharesCaused L.tells link.old shape user (tag, version) cloud.0 recipe.now result) (λ before after.
         ReadyAt shape user (tag, version) recipe.now (before cloud.0)
-        → SharesTold shape cloud firsts.now (given_of (before cloud.0) cloud.0 recipe.now) place count result rooms.old rooms.new (before cloud.0) (after cloud.0)) }
+        → SharesTold shape cloud firsts.now
+        (given_of (before cloud.0) cloud.0 recipe.now) place count result rooms.old rooms.new (before cloud.0)
+        (after cloud.0)) }
     ensures named { IfErr result (Names (λ c. c ≡ cloud.0)) }
-    ensures came { OnOk result ((j : ℕ) → j < count → (s : List ℕ) × (sha256_of s ≡ (item_of recipe.now.items (place + j)).fp.0) × (room_of rooms.new j ≡ room_of rooms.old j ++ s)) }
-    ensures lens { OnOk result ((j : ℕ) → j < count → length (room_of rooms.new j) ≡ length (room_of rooms.old j) + share_len_of shape.k (item_of firsts.now (place + j)).secret_len) }
+    ensures came { OnOk result ((j : ℕ) → j < count
+        → (s : List ℕ) × (sha256_of s ≡ (item_of recipe.now.items (place + j)).fp.0)
+        × (room_of rooms.new j ≡ room_of rooms.old j ++ s)) }
+    ensures lens { OnOk result ((j : ℕ) → j < count
+        → length (room_of rooms.new j) ≡ length (room_of rooms.old j)
+        + share_len_of shape.k (item_of firsts.now (place + j)).secret_len) }
     ensures rooms { length rooms.new ≡ length rooms.old }
-    ensures said { Unlost result ((x : Exchange) × HasSpoken L.talk link.old link.new (x ∷ []) × SharesSaid shape user cloud firsts.now recipe.now place count x rooms.old rooms.new result) }
+    ensures said { Unlost result ((x : Exchange) × HasSpoken L.talk link.old link.new (x ∷ [])
+        × SharesSaid shape user cloud firsts.now recipe.now place count x rooms.old rooms.new result) }
     ensures beside { LostSaid L.talk link.old link.new result }
 {
     let items = recipe.items.as_slice();
@@ -252,22 +278,30 @@ pub fn fetch_batch<L: Link>(
     requires reached { (cloud : ℕ) → Contains (numbers_of clouds.now) cloud → IsTrue (L.tells.reaches link.old cloud) }
     requires pairs { length clouds.now ≡ length recipes.now }
     requires some { 1 ≤ count }
-    requires batch { count ≤ 256 }
+    requires batch { count ≤ batch_limit }
     requires firsts { place + count ≤ length firsts.now }
     requires same { All (λ recipe. length recipe.items ≡ length firsts.now) recipes.now }
     requires lens { AreItemsAt firsts.now }
     requires items { All (λ recipe. AreItemsAt recipe.items) recipes.now }
-    requires few { length firsts.now ≤ 32768 }
+    requires few { length firsts.now ≤ item_limit }
     requires room { count ≤ length rooms.old }
     ensures asked { Asked L.tells (numbers_of clouds.now) link.old link.new (is_lost result) }
-    ensures told { (tag : Tag) (version : Version) → Leads L.tells (numbers_of clouds.now) link.old link.new (BatchCaused L.tells link.old shape user (tag, version) (numbers_of clouds.now) recipes.now result) (λ before after.
+    ensures told { (tag : Tag) (version : Version)
+        → Leads L.tells (numbers_of clouds.now) link.old link.new
+        (BatchCaused L.tells link.old shape user (tag, version) (numbers_of clouds.now) recipes.now result)
+        (λ before after.
         Ready shape user (tag, version) (numbers_of clouds.now) recipes.now before
-        → BatchTold shape (numbers_of clouds.now) firsts.now (givens before (numbers_of clouds.now) recipes.now) place count result rooms.old rooms.new before after) }
+        → BatchTold shape (numbers_of clouds.now) firsts.now
+        (givens before (numbers_of clouds.now) recipes.now) place count result rooms.old rooms.new before after) }
     ensures named { IfErr result (Names (Contains (numbers_of clouds.now))) }
-    ensures came { OnOk result ((j : ℕ) → j < count → HasShares recipes.now (place + j) (room_of rooms.old j) (room_of rooms.new j)) }
-    ensures lens { OnOk result ((j : ℕ) → j < count → length (room_of rooms.new j) ≡ length (room_of rooms.old j) + length clouds.now * share_len_of shape.k (item_of firsts.now (place + j)).secret_len) }
+    ensures came { OnOk result ((j : ℕ) → j < count
+        → HasShares recipes.now (place + j) (room_of rooms.old j) (room_of rooms.new j)) }
+    ensures lens { OnOk result ((j : ℕ) → j < count
+        → length (room_of rooms.new j) ≡ length (room_of rooms.old j)
+        + length clouds.now * share_len_of shape.k (item_of firsts.now (place + j)).secret_len) }
     ensures rooms { length rooms.new ≡ length rooms.old }
-    ensures said { Unlost result ((log : List Exchange) × HasSpoken L.talk link.old link.new log × BatchSaid shape user firsts.now place count clouds.now recipes.now log rooms.old rooms.new result) }
+    ensures said { Unlost result ((log : List Exchange) × HasSpoken L.talk link.old link.new log
+        × BatchSaid shape user firsts.now place count clouds.now recipes.now log rooms.old rooms.new result) }
     ensures beside { LostSaid L.talk link.old link.new result }
 {
     let Some((cloud, recipe, more, rest)) = next_pair(clouds, recipes) else {

@@ -3,6 +3,7 @@
 ghost use Rattle.std.specs.Prelude.{◌≡◌, ◌+◌, ◌*◌, ◌≤◌, ◌<◌, ◌^◌, ℕ, List, [], length, map, false, IfErr, OnOk};
 ghost use Rattle.std.specs.List.{flat_map};
 ghost use Rattle.cd_base.specs.Lengths.{share_len_of};
+ghost use Rattle.cd_base.specs.Limits.{secret_limit};
 ghost use Rattle.caont_rs.specs.Opening.{opened};
 ghost use Rattle.recipe.specs.declared.recipe.Recipe.{Recipe};
 ghost use Rattle.reed_solomon.specs.Dispersal.{AreChoice};
@@ -29,7 +30,7 @@ fn open_secret(
     out: &mut Bytes,
 ) -> Result<(), RestoreErr>
     requires some { 1 ≤ secret_len }
-    requires few { secret_len ≤ 16384 }
+    requires few { secret_len ≤ secret_limit }
     requires choice { AreChoice shape points.now }
     requires whole { length shares.now ≡ shape.k * share_len_of shape.k secret_len }
     ensures opens { OpensTo (of_secret secret (opened shape secret_len points.now shares.now)) result out.old out.new }
@@ -64,12 +65,14 @@ pub fn open_batch(
     requires lens { AreItemsAt firsts.now }
     requires few { place + count < 2 ^ 32 }
     requires room { count ≤ length rooms.now }
-    requires whole { (j : ℕ) → j < count → length (room_of rooms.now j) ≡ shape.k * share_len_of shape.k (item_of firsts.now (place + j)).secret_len }
+    requires whole { (j : ℕ) → j < count
+        → length (room_of rooms.now j) ≡ shape.k * share_len_of shape.k (item_of firsts.now (place + j)).secret_len }
     ensures opens { (all : List Given) → points.now ≡ map (λ given. given.cloud) all
         → ((j : ℕ) → j < count → room_of rooms.now j ≡ flat_map (λ given. string_at given (place + j)) all)
         → OpensTo (secrets_opened shape firsts.now all place count) result out.old out.new }
     ensures opened { OpensBatch shape points.now firsts.now rooms.now place count out.old out.new result }
-    ensures brought { (recipes : List Recipe) → ((j : ℕ) → j < count → HasShares recipes (place + j) [] (room_of rooms.now j))
+    ensures brought { (recipes : List Recipe)
+        → ((j : ℕ) → j < count → HasShares recipes (place + j) [] (room_of rooms.now j))
         → OnOk result (Extends shape points.now firsts.now recipes place (place + count) out.old out.new) }
     ensures grows { Grows out.old out.new }
     ensures alone { IfErr result (Names (λ c. ⊥)) }

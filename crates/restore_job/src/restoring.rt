@@ -7,6 +7,7 @@ ghost use Rattle.cd_base.specs.Numbers.{numbers_of};
 ghost use Rattle.cd_base.specs.declared.ids.Tag.{Tag};
 ghost use Rattle.cd_base.specs.declared.ids.Version.{Version};
 ghost use Rattle.caont_rs.specs.Package.{tag as tag_at};
+ghost use Rattle.frames.specs.Frames.{frame_limit};
 ghost use Rattle.messages.specs.declared.request.Request.TheVariants as requests;
 ghost use Rattle.messages.specs.Requests.{IsRequest};
 ghost use Rattle.recipe.specs.Spelling.{Fits};
@@ -40,8 +41,9 @@ fn recipe_request(
     version: Version,
 ) -> Result<Bytes, NoMemory>
     requires path { IsPath path.now }
-    ensures asks { IfOk result (λ content. IsRequest content (requests.GetRecipe user (record { 0 = tag_at shape path.now }) version)) }
-    ensures framed { IfOk result (λ content. (1 ≤ length content) × (length content ≤ 4194304)) }
+    ensures asks { IfOk result
+        (λ content. IsRequest content (requests.GetRecipe user (record { 0 = tag_at shape path.now }) version)) }
+    ensures framed { IfOk result (λ content. (1 ≤ length content) × (length content ≤ frame_limit)) }
 {
     let tag = tag_of(alloc, shape, path)?;
     version_request(alloc, user, tag, version)
@@ -75,13 +77,19 @@ pub fn restore_agreed<L: Link>(
     requires pairs { length clouds.now ≡ length recipes.now }
     requires fits { All (Fits shape) recipes.now }
     ensures asked { Asked L.tells (numbers_of clouds.now) link.old link.new (is_lost result) }
-    ensures told { (tag : Tag) (version : Version) → Leads L.tells (numbers_of clouds.now) link.old link.new (BatchCaused L.tells link.old shape user (tag, version) (numbers_of clouds.now) recipes.now result) (λ before after.
+    ensures told { (tag : Tag) (version : Version)
+        → Leads L.tells (numbers_of clouds.now) link.old link.new
+        (BatchCaused L.tells link.old shape user (tag, version) (numbers_of clouds.now) recipes.now result)
+        (λ before after.
         Ready shape user (tag, version) (numbers_of clouds.now) recipes.now before
-        → Ends (agreed shape (givens before (numbers_of clouds.now) recipes.now)) (numbers_of clouds.now) result out.old out.new before after) }
+        → Ends (agreed shape (givens before (numbers_of clouds.now) recipes.now))
+        (numbers_of clouds.now) result out.old out.new before after) }
     ensures named { IfErr result (Names (Contains (numbers_of clouds.now))) }
-    ensures brought { OnOk result (Agree recipes.now × Appends shape (numbers_of clouds.now) recipes.now out.old out.new) }
+    ensures brought { OnOk result (Agree recipes.now
+        × Appends shape (numbers_of clouds.now) recipes.now out.old out.new) }
     ensures grows { Grows out.old out.new }
-    ensures said { Unlost result ((log : List Exchange) × HasSpoken L.talk link.old link.new log × AgreedRun shape user clouds.now recipes.now log out.old out.new result) }
+    ensures said { Unlost result ((log : List Exchange) × HasSpoken L.talk link.old link.new log
+        × AgreedRun shape user clouds.now recipes.now log out.old out.new result) }
     ensures beside { LostSaid L.talk link.old link.new result }
 {
     let Some((first, recipe, others, rest)) = next_pair(clouds, recipes) else {
@@ -122,7 +130,8 @@ fn restore_into<L: Link>(
     ensures asked { Asked L.tells (numbers_of clouds.now) link.old link.new (is_lost result) }
     ensures restored { Leads L.tells (numbers_of clouds.now) link.old link.new
         (Causes L.tells link.old shape user (record { 0 = tag_at shape path.now }, version) result)
-        (Restores shape user (record { 0 = tag_at shape path.now }, version) (numbers_of clouds.now) result out.old out.new) }
+        (Restores shape user (record { 0 = tag_at shape path.now }, version)
+        (numbers_of clouds.now) result out.old out.new) }
     ensures named { IfErr result (Names (Contains (numbers_of clouds.now))) }
     ensures brought { OnOk result (Brought shape (numbers_of clouds.now) out.old out.new) }
     ensures grows { Grows out.old out.new }
@@ -158,12 +167,13 @@ fn restore_into<L: Link>(
 
 /// Appends a version of a file to `out`, from k clouds, which the link reaches. After an error `out` is as before.
 ///
-/// Each cloud is asked in order for its recipe, up to the first that refuses. The recipes are compared with the first one. Then, 256
-/// secrets at a time, each cloud is asked in order for its shares, of which first the length and then the hash is looked at, and
-/// the secrets are opened in order.
+/// Each cloud is asked in order for its recipe, up to the first that refuses. The recipes are compared with the first
+/// one. Then, 256 secrets at a time, each cloud is asked in order for its shares, of which first the length and then
+/// the hash is looked at, and the secrets are opened in order.
 ///
-/// Missing, CloudFault, CloudDamaged, CloudRotten and CloudNoMemory come where that cloud's reply was this; Lost only where an ask
-/// was lost; Strange where a reply is none that a server gives to the request; the others where what came is so.
+/// Missing, CloudFault, CloudDamaged, CloudRotten and CloudNoMemory come where that cloud's reply was this; Lost only
+/// where an ask was lost; Strange where a reply is none that a server gives to the request; the others where what came
+/// is so.
 pub fn restore<L: Link>(
     alloc: Global,
     link: &mut L,
@@ -180,9 +190,9 @@ pub fn restore<L: Link>(
     requires within { All (λ cloud. cloud < shape.n) clouds.now }
     requires path { IsPath path.now }
 
-    // From all that the clouds stood for they went on: only the named clouds were read, and a refusal is what it says at the cloud
-    // that it names (`Causes`), each told or not. Where the link tells all of these, the result is that of their lists as they
-    // stand after it, or a failed device's, a lost ask's or want of memory.
+    // From all that the clouds stood for they went on: only the named clouds were read, and a refusal is what it says
+    // at the cloud that it names (`Causes`), each told or not. Where the link tells all of these, the result is that of
+    // their lists as they stand after it, or a failed device's, a lost ask's or want of memory.
     ensures restored { Leads L.tells clouds.now link.old link.new
         (Causes L.tells link.old shape user (record { 0 = tag_at shape path.now }, version) result)
         (Restores shape user (record { 0 = tag_at shape path.now }, version) clouds.now result out.old out.new) }
@@ -198,9 +208,11 @@ pub fn restore<L: Link>(
     ensures brought { OnOk result (Brought shape clouds.now out.old out.new) }
     ensures kept { OnErr result (out.new ≡ out.old) }
 
-    // Over a link that tells its replies: what was asked and what came, in order, and the result by it. Nothing is said where an ask was
-    // lost or memory ran out.
-    ensures said { Unlost result (RestoreSaid L.talk link.old link.new shape user (record { 0 = tag_at shape path.now }) version clouds.now out.old out.new result) }
+    // Over a link that tells its replies: what was asked and what came, in order, and the result by it. Nothing is said
+    // where an ask was lost or memory ran out.
+    ensures said { Unlost result
+        (RestoreSaid L.talk link.old link.new shape user
+        (record { 0 = tag_at shape path.now }) version clouds.now out.old out.new result) }
 
     // Where an ask was lost: with each other cloud exchanges were had, which say what is to come of it.
     ensures beside { LostSaid L.talk link.old link.new result }

@@ -1,6 +1,8 @@
 //! Looking at the shares of a batch, and bringing them together.
 
 ghost use Rattle.std.specs.Prelude.{◌≡◌, ◌+◌, ◌≤◌, ◌<◌, ◌^◌, length};
+ghost use Rattle.cd_base.specs.Limits.{secret_limit};
+ghost use Rattle.message_fields.specs.Shares.{share_limit};
 ghost use Rattle.restore_job.specs.Steps.{AreItemsAt, Checks, IsItem, Takes};
 
 use crate::RestoreErr;
@@ -19,8 +21,8 @@ fn check_share(
     share: &[u8],
 ) -> Result<(), RestoreErr>
     requires some { 1 ≤ secret_len }
-    requires few { secret_len ≤ 16384 }
-    requires short { length share.now ≤ 8208 }
+    requires few { secret_len ≤ secret_limit }
+    requires short { length share.now ≤ share_limit }
     ensures { Checks shape cloud secret secret_len named.0 share.now result }
 {
     let found = share.len() as u32;
@@ -45,7 +47,8 @@ fn check_share(
     Ok(())
 }
 
-/// Looks at the shares of secrets `place` on, in order, and appends each in its room. `firsts` has the lengths of the secrets, and
+/// Looks at the shares of secrets `place` on, in order, and appends each in its room. `firsts` has the lengths of the
+/// secrets, and
 /// `items` the fingerprints of the shares.
 pub fn take_shares(
     shape: Shape,

@@ -3,6 +3,7 @@
 ghost use Rattle.std.specs.Prelude.{◌≡◌, ◌≤◌, ℕ, List, length, All, IsTrue, IfOk, IfErr};
 ghost use Rattle.std.specs.List.{Contains};
 ghost use Rattle.cd_base.specs.Numbers.{numbers_of};
+ghost use Rattle.frames.specs.Frames.{frame_limit};
 ghost use Rattle.messages.specs.declared.request.Request.TheVariants as requests;
 ghost use Rattle.messages.specs.Requests.{IsRequest};
 ghost use Rattle.recipe.specs.Spelling.{Fits};
@@ -28,7 +29,7 @@ pub fn version_request(
     version: Version,
 ) -> Result<Bytes, NoMemory>
     ensures asks { IfOk result (λ content. IsRequest content (requests.GetRecipe user tag version)) }
-    ensures framed { IfOk result (λ content. (1 ≤ length content) × (length content ≤ 4194304)) }
+    ensures framed { IfOk result (λ content. (1 ≤ length content) × (length content ≤ frame_limit)) }
 {
     let mut content = Bytes::new(alloc);
     Request::GetRecipe { user, tag, version }.write(&mut content)?;
@@ -71,7 +72,8 @@ pub fn fetch_version<L: Link>(
 
     // Over a link that tells its replies: what was asked and what came, in order, and the result by it.
     ensures said { Unlost result ((request : List ℕ) × IsRequest request (requests.GetRecipe user tag version)
-        × ((log : List Exchange) × HasSpoken L.talk link.old link.new log × RecipesSaid shape request clouds.now log result)) }
+        × ((log : List Exchange) × HasSpoken L.talk link.old link.new log
+        × RecipesSaid shape request clouds.now log result)) }
 {
     let request = match version_request(alloc, user, tag, version) {
         Ok(request) => request,

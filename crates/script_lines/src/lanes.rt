@@ -1,6 +1,7 @@
 //! The lines on one lane of a job: a step, a request that is lost, and a reply that is lost.
 
 ghost use Rattle.std.specs.Prelude.{◌≡◌, ◌<◌, ◌≤◌, ◌++◌, ◌∷◌, [], length, false, IsTrue, OnOk, OnErr};
+ghost use Rattle.frames.specs.Frames.{frame_limit};
 ghost use Rattle.session.specs.Spelling.{IsJob};
 ghost use Rattle.session.specs.declared.event.Event.TheVariants as events;
 ghost use Rattle.transcript.specs.declared.line.Line.TheVariants as lines;
@@ -151,7 +152,7 @@ fn drop_reply<V: Shelf>(
     reply: &mut ReplyBuf,
 )
     requires below { lane.0 < link.old.servers.shape.n }
-    requires framed { IsTrue has_request → length request.now ≤ 4194304 }
+    requires framed { IsTrue has_request → length request.now ≤ frame_limit }
     ensures dropped { Drops V.cloud_at lane.0 has_request request.now link.old link.new }
 {
     if has_request {

@@ -1,6 +1,7 @@
 //! The line that lists a user's files at a cloud, page by page.
 
 ghost use Rattle.std.specs.Prelude.{◌≡◌, ◌≤◌, ◌<◌, ◌^◌, ◌++◌, ◌==◌, [], ◌∷◌, length, map, IsTrue, IfOk, OnOk, OnErr};
+ghost use Rattle.frames.specs.Frames.{frame_limit};
 ghost use Rattle.message_fields.specs.Keys.{AreEntries, key_limit};
 ghost use Rattle.messages.specs.declared.reply.Reply.{Reply};
 ghost use Rattle.messages.specs.declared.request.Request.TheVariants as requests;
@@ -21,14 +22,11 @@ use cd_base::{Bytes, CloudNo, NoMemory, Tag, UserId, Version};
 use cd_edges::Shelf;
 use frames::ReplyBuf;
 use local_link::LocalLink;
-use message_fields::Entries;
+use message_fields::{Entries, KEY_LIMIT};
 use messages::{MsgErr, Reply, Request};
 use std::alloc::Global;
 use transcript::{Line, Refusal, write_line};
 use user_dedup::{Link, Lost};
-
-// The entries of a page that isn't the last one.
-const FULL_PAGE: usize = 256;
 
 // Why a page wasn't taken.
 #[derive(Clone, Copy, Debug, PartialEq, Eq)]
@@ -91,7 +89,8 @@ fn refusal_of(cloud: CloudNo, reply: &Reply, kind: u8) -> Refusal
 // The page that the content of a cloud's reply is, or the refusal.
 fn page_in(alloc: Global, cloud: CloudNo, content: &[u8]) -> Result<Entries, NoPage>
     requires { length content.now < 2 ^ 32 }
-    ensures takes { (reply : Reply) → IsReply content.now reply → IsListReply cloud.0 reply → TakesPage cloud.0 reply result }
+    ensures takes { (reply : Reply) → IsReply content.now reply → IsListReply cloud.0 reply
+        → TakesPage cloud.0 reply result }
     ensures few { IfOk result AreEntries }
 {
     let kind = kind_of(content);
@@ -114,7 +113,7 @@ fn put_request(
     content: &mut Bytes,
 ) -> Result<(), NoMemory>
     ensures asks { OnOk result (IsRequest content.new (requests.List user above)) }
-    ensures framed { OnOk result ((1 ≤ length content.new) × (length content.new ≤ 4194304)) }
+    ensures framed { OnOk result ((1 ≤ length content.new) × (length content.new ≤ frame_limit)) }
 {
     content.clear();
     Request::List { user, after: above }.write(content)
@@ -193,7 +192,7 @@ fn take_page(listing: &mut Listing, page: &Entries) -> Result<bool, NoMemory>
     }
     listing.count = count;
     listing.above = page.as_slice().last().copied();
-    Ok(page.len() == FULL_PAGE)
+    Ok(page.len() == KEY_LIMIT)
 }
 
 // Asks for the next page and takes it. Whether another one comes behind it.

@@ -119,7 +119,8 @@ fn put_done(
     text: &mut Answer,
 ) -> Result<(), NoMemory>
     ensures { OnOk result (text.new ≡ text.old
-        ++ text_of (lines.Rebuilt user cloud rebuilt.now.files (length rebuilt.now.skipped) ∷ map skip_line rebuilt.now.skipped)) }
+        ++ text_of (lines.Rebuilt user cloud rebuilt.now.files (length rebuilt.now.skipped)
+        ∷ map skip_line rebuilt.now.skipped)) }
 {
     let files = rebuilt.files;
     let count = rebuilt.skipped.len();
