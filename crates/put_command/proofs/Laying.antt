@@ -3,7 +3,7 @@ use Rattle.std.proofs.Common.{◌≡◌, ℕ, ◌+◌, ◌*◌, ◌<◌, ◌≤�
 use Rattle.std.specs.Prelude.{All, is_some, sum_by}
 use Rattle.std.proofs.lemmas.List.Elements.{All-nil, All-cons, All-head, All-tail, All-push}
 use Rattle.std.proofs.lemmas.List.Sums.{sum_by-cons}
-use Rattle.container_log.specs.Places.{end_after, end_of_laid}
+use Rattle.container_log.specs.Places.{container_len, end_after, end_of_laid}
 use Rattle.container_log.specs.Laying.{lengths}
 use Rattle.container_log.specs.States.{State, HasStaged, staged_end, need_of}
 use Rattle.container_log.proofs.Least.{place_behind}
@@ -70,7 +70,7 @@ total [] all = omega arith
 total (b ∷ blobs) all = let most : length b ≤ 8208 = (All-head IsShare b blobs all).1 in omega (arith, most, sum_by-cons (λ (x : List ℕ). length x) b blobs, total blobs (All-tail IsShare b blobs all))
 
 -- Up to 256 shares have room among what can be staged.
-pub room : (log : State) (blobs : List (List ℕ)) (s : List ℕ) → HasStaged log blobs → All IsShare blobs → IsShare s → length blobs < 256 → need_of log (length s) ≤ 4194304
+pub room : (log : State) (blobs : List (List ℕ)) (s : List ℕ) → HasStaged log blobs → All IsShare blobs → IsShare s → length blobs < 256 → need_of log (length s) ≤ container_len
 room log blobs s has range one few =
     let most : length s ≤ 8208 = one.1 in
     room_staged log blobs s 8208 has (small blobs range) most (omega (arith, most, few, total blobs range))

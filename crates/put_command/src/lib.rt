@@ -11,6 +11,3 @@ mod staging;
 mod writing;
 
 pub use putting::put;
-
-#[cfg(test)]
-mod tests;

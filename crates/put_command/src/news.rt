@@ -1,6 +1,7 @@
 //! The shares of a Put that are new to the user.
 
-ghost use Rattle.std.specs.Prelude.{◌≡◌, ◌≢◌, ◌↔◌, ◌<◌, ◌≤◌, ℕ, List, [], ◌∷◌, length, take, map, slice_set, true, false, not, ◌||◌, IsTrue, None};
+ghost use Rattle.std.specs.Prelude.{◌≡◌, ◌≢◌, ◌↔◌, ◌<◌, ◌≤◌, ℕ, List, [], ◌∷◌, length, take, map, slice_set, true};
+ghost use Rattle.std.specs.Prelude.{false, not, ◌||◌, bytes_eq, IsTrue, None};
 ghost use Rattle.std.specs.FinMap.{get};
 ghost use Rattle.cd_base.specs.declared.shape.Shape.{Shape};
 ghost use Rattle.message_fields.specs.Shares.{IsShare, AreShares};
@@ -27,12 +28,22 @@ pub(crate) fn next_share<'a>(shares: &SharesView<'a>) -> (&'a [u8], SharesView<'
     }
 }
 
+// Whether two fingerprints are the same. Of two that aren't, the first byte mostly tells.
+fn is_same(one: &Fp, two: &Fp) -> bool
+    ensures { result ≡ bytes_eq one.now.0 two.now.0 }
+{
+    if one.0[0] != two.0[0] {
+        return false;
+    }
+    *one == *two
+}
+
 // Whether one of these shares has the fingerprint.
 fn has_fp(news: &[New], fp: &Fp) -> bool
     ensures { result ≡ is_among (fps_of news.now) fp.now }
 {
     for new in news {
-        if new.fp == *fp {
+        if is_same(&new.fp, fp) {
             return true;
         }
     }
@@ -46,7 +57,8 @@ fn pick(index: &CloudIndex, user: UserId, share: &[u8], news: &mut [New], count:
     ensures fresh { IsTrue result → get index.now.shares.owners (owner_of user.0 (fingerprint share.now).0) ≡ None }
     ensures other { IsTrue result → is_among (fps_of (take count news.old)) (fingerprint share.now) ≡ false }
     ensures by_list { (shape : Shape) (list : List Command) → Remembers shape list index.now
-        → result ≡ not (is_among (user_view shape list user).own (fingerprint share.now) || is_among (fps_of (take count news.old)) (fingerprint share.now)) }
+        → result ≡ not (is_among (user_view shape list user).own (fingerprint share.now)
+        || is_among (fps_of (take count news.old)) (fingerprint share.now)) }
     ensures put { IsTrue result → news.new ≡ slice_set news.old count (new_of share.now) }
     ensures left { result ≡ false → news.new ≡ news.old }
 {

@@ -49,14 +49,23 @@ fn add_news<V: Shelf>(
     ensures shut { OnErr result (state.new.log.journal.stage ≡ Shut) }
 
     // by each list on which the memory and the cloud agree, within the rooms
-    ensures any_moment { (list : List Command) → Agrees state.old (V.cloud_at shelf.old state.old.header.cloud.0) list → IsWithin state.old.rooms list
-        → LeavesOnly (V.cloud_at shelf.old state.old.header.cloud.0) (V.cloud_at shelf.new state.old.header.cloud.0) (StandsForSome state.old.header (IsServedOrNot state.old list (requests.Put user shares.now))) }
-    ensures served { (list : List Command) → Agrees state.old (V.cloud_at shelf.old state.old.header.cloud.0) list → IsWithin state.old.rooms list
-        → OnOk result (Served state.old state.new (V.cloud_at shelf.new state.old.header.cloud.0) list (requests.Put user shares.now) reply.new) }
-    ensures moments { (list : List Command) → Agrees state.old (V.cloud_at shelf.old state.old.header.cloud.0) list → IsWithin state.old.rooms list
-        → OnOk result (moment (V.cloud_at shelf.new state.old.header.cloud.0) ≡ moment (V.cloud_at shelf.old state.old.header.cloud.0) + moments_of list (serves state.old list (requests.Put user shares.now)).adds) }
-    ensures nothing { (list : List Command) → Agrees state.old (V.cloud_at shelf.old state.old.header.cloud.0) list → IsWithin state.old.rooms list
-        → (serves state.old list (requests.Put user shares.now)).adds ≡ None → (shelf.new ≡ shelf.old) × (state.new ≡ state.old) × IsOk result }
+    ensures any_moment { (list : List Command) → Agrees state.old (V.cloud_at shelf.old state.old.header.cloud.0) list
+        → IsWithin state.old.rooms list
+        → LeavesOnly (V.cloud_at shelf.old state.old.header.cloud.0) (V.cloud_at shelf.new state.old.header.cloud.0)
+        (StandsForSome state.old.header (IsServedOrNot state.old list (requests.Put user shares.now))) }
+    ensures served { (list : List Command) → Agrees state.old (V.cloud_at shelf.old state.old.header.cloud.0) list
+        → IsWithin state.old.rooms list
+        → OnOk result (Served state.old state.new (V.cloud_at shelf.new state.old.header.cloud.0) list
+        (requests.Put user shares.now) reply.new) }
+    ensures moments { (list : List Command) → Agrees state.old (V.cloud_at shelf.old state.old.header.cloud.0) list
+        → IsWithin state.old.rooms list
+        → OnOk result (moment (V.cloud_at shelf.new state.old.header.cloud.0)
+        ≡ moment (V.cloud_at shelf.old state.old.header.cloud.0)
+        + moments_of list (serves state.old list (requests.Put user shares.now)).adds) }
+    ensures nothing { (list : List Command) → Agrees state.old (V.cloud_at shelf.old state.old.header.cloud.0) list
+        → IsWithin state.old.rooms list
+        → (serves state.old list (requests.Put user shares.now)).adds ≡ None
+        → (shelf.new ≡ shelf.old) × (state.new ≡ state.old) × IsOk result }
 
     // whatever is known of the cloud
     ensures none { OnOk result (IsReply reply.new (replies.Stored 0) → (shelf.new ≡ shelf.old)
@@ -65,9 +74,14 @@ fn add_news<V: Shelf>(
         → OnOk result (IsReply reply.new (replies.Full room used need limit)
         → (shelf.new ≡ shelf.old) × (state.new ≡ state.old)) }
     ensures kind { OnOk result (Gives state.old.header.shape (requests.Put user shares.now) reply.new) }
-    ensures call { IsCall (V.cloud_at shelf.old) (V.cloud_at shelf.new) state.old.header.cloud.0 (V.faults shelf.old) (V.faults shelf.new) }
-    ensures failed { OnErr result (HasFailed (V.cloud_at shelf.old state.old.header.cloud.0) (V.cloud_at shelf.new state.old.header.cloud.0) (V.faults shelf.old) (V.faults shelf.new)) }
-    ensures uncounted { OnOk result (KeepsCounts (V.cloud_at shelf.old state.old.header.cloud.0) (V.cloud_at shelf.new state.old.header.cloud.0) (V.faults shelf.old) (V.faults shelf.new)) }
+    ensures call { IsCall (V.cloud_at shelf.old) (V.cloud_at shelf.new) state.old.header.cloud.0 (V.faults shelf.old)
+        (V.faults shelf.new) }
+    ensures failed { OnErr result
+        (HasFailed (V.cloud_at shelf.old state.old.header.cloud.0) (V.cloud_at shelf.new state.old.header.cloud.0)
+        (V.faults shelf.old) (V.faults shelf.new)) }
+    ensures uncounted { OnOk result
+        (KeepsCounts (V.cloud_at shelf.old state.old.header.cloud.0) (V.cloud_at shelf.new state.old.header.cloud.0)
+        (V.faults shelf.old) (V.faults shelf.new)) }
 {
     let mut items = [PutItem {
         fp: Fp([0; 32]),
@@ -131,14 +145,23 @@ pub fn put<V: Shelf>(
     ensures shut { OnErr result (state.new.log.journal.stage ≡ Shut) }
 
     // by each list on which the memory and the cloud agree, within the rooms
-    ensures any_moment { (list : List Command) → Agrees state.old (V.cloud_at shelf.old state.old.header.cloud.0) list → IsWithin state.old.rooms list
-        → LeavesOnly (V.cloud_at shelf.old state.old.header.cloud.0) (V.cloud_at shelf.new state.old.header.cloud.0) (StandsForSome state.old.header (IsServedOrNot state.old list (requests.Put user shares.now))) }
-    ensures served { (list : List Command) → Agrees state.old (V.cloud_at shelf.old state.old.header.cloud.0) list → IsWithin state.old.rooms list
-        → OnOk result (Served state.old state.new (V.cloud_at shelf.new state.old.header.cloud.0) list (requests.Put user shares.now) reply.new) }
-    ensures moments { (list : List Command) → Agrees state.old (V.cloud_at shelf.old state.old.header.cloud.0) list → IsWithin state.old.rooms list
-        → OnOk result (moment (V.cloud_at shelf.new state.old.header.cloud.0) ≡ moment (V.cloud_at shelf.old state.old.header.cloud.0) + moments_of list (serves state.old list (requests.Put user shares.now)).adds) }
-    ensures nothing { (list : List Command) → Agrees state.old (V.cloud_at shelf.old state.old.header.cloud.0) list → IsWithin state.old.rooms list
-        → (serves state.old list (requests.Put user shares.now)).adds ≡ None → (shelf.new ≡ shelf.old) × (state.new ≡ state.old) × IsOk result }
+    ensures any_moment { (list : List Command) → Agrees state.old (V.cloud_at shelf.old state.old.header.cloud.0) list
+        → IsWithin state.old.rooms list
+        → LeavesOnly (V.cloud_at shelf.old state.old.header.cloud.0) (V.cloud_at shelf.new state.old.header.cloud.0)
+        (StandsForSome state.old.header (IsServedOrNot state.old list (requests.Put user shares.now))) }
+    ensures served { (list : List Command) → Agrees state.old (V.cloud_at shelf.old state.old.header.cloud.0) list
+        → IsWithin state.old.rooms list
+        → OnOk result (Served state.old state.new (V.cloud_at shelf.new state.old.header.cloud.0) list
+        (requests.Put user shares.now) reply.new) }
+    ensures moments { (list : List Command) → Agrees state.old (V.cloud_at shelf.old state.old.header.cloud.0) list
+        → IsWithin state.old.rooms list
+        → OnOk result (moment (V.cloud_at shelf.new state.old.header.cloud.0)
+        ≡ moment (V.cloud_at shelf.old state.old.header.cloud.0)
+        + moments_of list (serves state.old list (requests.Put user shares.now)).adds) }
+    ensures nothing { (list : List Command) → Agrees state.old (V.cloud_at shelf.old state.old.header.cloud.0) list
+        → IsWithin state.old.rooms list
+        → (serves state.old list (requests.Put user shares.now)).adds ≡ None
+        → (shelf.new ≡ shelf.old) × (state.new ≡ state.old) × IsOk result }
 
     // whatever is known of the cloud
     ensures none { OnOk result (IsReply reply.new (replies.Stored 0) → (shelf.new ≡ shelf.old)
@@ -147,9 +170,14 @@ pub fn put<V: Shelf>(
         → OnOk result (IsReply reply.new (replies.Full room used need limit)
         → (shelf.new ≡ shelf.old) × (state.new ≡ state.old)) }
     ensures kind { OnOk result (Gives state.old.header.shape (requests.Put user shares.now) reply.new) }
-    ensures call { IsCall (V.cloud_at shelf.old) (V.cloud_at shelf.new) state.old.header.cloud.0 (V.faults shelf.old) (V.faults shelf.new) }
-    ensures failed { OnErr result (HasFailed (V.cloud_at shelf.old state.old.header.cloud.0) (V.cloud_at shelf.new state.old.header.cloud.0) (V.faults shelf.old) (V.faults shelf.new)) }
-    ensures uncounted { OnOk result (KeepsCounts (V.cloud_at shelf.old state.old.header.cloud.0) (V.cloud_at shelf.new state.old.header.cloud.0) (V.faults shelf.old) (V.faults shelf.new)) }
+    ensures call { IsCall (V.cloud_at shelf.old) (V.cloud_at shelf.new) state.old.header.cloud.0 (V.faults shelf.old)
+        (V.faults shelf.new) }
+    ensures failed { OnErr result
+        (HasFailed (V.cloud_at shelf.old state.old.header.cloud.0) (V.cloud_at shelf.new state.old.header.cloud.0)
+        (V.faults shelf.old) (V.faults shelf.new)) }
+    ensures uncounted { OnOk result
+        (KeepsCounts (V.cloud_at shelf.old state.old.header.cloud.0) (V.cloud_at shelf.new state.old.header.cloud.0)
+        (V.faults shelf.old) (V.faults shelf.new)) }
 {
     let mut news = [New {
         fp: Fp([0; 32]),
