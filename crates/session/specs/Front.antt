@@ -1,5 +1,5 @@
 -- The front of a long line, of which the digits are held as the bytes that they spell.
-use Rattle.std.specs.Prelude.{ℕ, ◌≡◌, ◌≤◌, List, [], ◌∷◌, ◌++◌, length, take, drop}
+use Rattle.std.specs.Prelude.{ℕ, ◌≡◌, ◌≤◌, Bool, ◌||◌, List, [], ◌∷◌, ◌++◌, length, take, drop, nat_lt}
 use Rattle.cd_base.specs.declared.ids.UserId.{UserId}
 use Rattle.cd_base.specs.declared.ids.Version.{Version}
 use Rattle.cd_base.specs.declared.shape.Shape.{Shape}
@@ -14,6 +14,10 @@ Begins (b ∷ head) packed = b ≡ 117
 -- the text begins as an upload does
 abbrev pub IsUploading : List ℕ → Type 0
 IsUploading text = (more : List ℕ) × (text ≡ 117 ∷ more)
+
+-- no letter from A to F
+abbrev pub not_upper : ℕ → Bool
+not_upper c = nat_lt c 65 || nat_lt 70 c
 
 -- so many of the bytes ahead went to the front
 pub record Moved (n : ℕ) (front ahead front-now ahead-now : List ℕ) : Type 0 where

@@ -1,7 +1,6 @@
 pub mod Fault
 pub mod Spelling
 pub mod Reading
-pub mod Held
 pub mod Front
 pub mod Lines
 pub mod Scripts

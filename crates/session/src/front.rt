@@ -1,12 +1,12 @@
 //! The front of a long line, of which the digits are held as the bytes that they spell.
 
-ghost use Rattle.std.specs.Prelude.{◌≡◌, ◌++◌, ◌≤◌, [], length, take, IfOk, OnErr, IsTrue, false};
-ghost use Rattle.grammar.specs.Hexadecimal.{hex};
-ghost use Rattle.session.specs.Front.{Begins, IsUploading};
+ghost use Rattle.std.specs.Prelude.{◌≡◌, ◌*◌, ◌++◌, ◌≤◌, [], length, take, Some, IfOk, OnErr, IsTrue, false};
+ghost use Rattle.grammar.specs.Hexadecimal.{hex, unhex};
+ghost use Rattle.session.specs.Front.{Begins, IsUploading, not_upper};
 ghost use Rattle.session.specs.Spelling.{AreBytes};
 
 use cd_base::{Bytes, NoMemory};
-use grammar::{before, decode, encode};
+use grammar::{after, before, encode};
 use memchr::memrchr;
 use std::alloc::Global;
 use std::marker::Model;
@@ -14,11 +14,13 @@ use std::marker::Model;
 // How many bytes are ahead, at the least, where some of them are taken.
 const LONG: usize = 65_536;
 
+// How many bytes are made of digits at a time.
+const BLOCK: usize = 4096;
+
 /// The front of a long line that begins as an upload does: its text up to its last word, and the bytes that the front of
 /// this word spells. It is empty where a line is short, or another one.
 #[derive(Drop)]
 pub struct Front {
-    alloc: Global,
     head: Bytes,
     packed: Bytes,
     ended: bool,
@@ -43,7 +45,6 @@ impl Front {
         ensures { result ≡ [] }
     {
         Front {
-            alloc,
             head: Bytes::new(alloc),
             packed: Bytes::new(alloc),
             ended: false,
@@ -72,7 +73,7 @@ impl Front {
             self.ended = len == 0;
             return Ok(len);
         }
-        let len = pack(self.alloc, ahead, &mut self.packed)?;
+        let len = pack(ahead, &mut self.packed)?;
         self.ended = len == 0;
         Ok(len)
     }
@@ -119,21 +120,57 @@ fn take_head(bytes: &[u8], head: &mut Bytes) -> Result<usize, NoMemory>
     Ok(len)
 }
 
-// Takes digits as the bytes that they spell, an even number of them, where the bytes are digits alone.
-fn pack(alloc: Global, bytes: &[u8], packed: &mut Bytes) -> Result<usize, NoMemory>
+// Whether a byte is no letter from A to F, which `hex` reads too. It has no branch, so that a block is looked at in lanes.
+fn is_lower(c: u8) -> bool
+    ensures { result ≡ not_upper c }
+{
+    c.wrapping_sub(65) >= 6
+}
+
+// Makes a block of digits in lower case the bytes that it spells. True only where it is that.
+fn decode_block(digits: &[u8], out: &mut [u8]) -> bool
+    requires { length digits.now ≡ 2 * length out.old }
+    ensures { IsTrue result → Some out.new ≡ unhex digits.now }
+{
+    let mut lower = true;
+    for i in 0..digits.len() {
+        lower &= is_lower(digits[i]);
+    }
+    lower && hex::decode_to_slice(digits, out).is_ok()
+}
+
+// Takes the digits of a block as the bytes that they spell, where the block is digits alone.
+fn pack_block(bytes: &[u8], packed: &mut Bytes) -> Result<usize, NoMemory>
     requires { AreBytes packed.old }
     ensures within { IfOk result (λ n. n ≤ length bytes.now) }
     ensures taken { IfOk result (λ n. hex packed.new ≡ hex packed.old ++ take n bytes.now) }
     ensures bytes { AreBytes packed.new }
 {
-    let even = bytes.len() / 2 * 2;
-    match decode(alloc, before(bytes, even))? {
-        Some(values) => {
-            packed.extend(values.as_slice())?;
-            Ok(even)
-        }
-        None => Ok(0),
+    let mut block = [0; BLOCK];
+    let n = (bytes.len() / 2).min(BLOCK);
+    if !decode_block(before(bytes, 2 * n), &mut block[..n]) {
+        return Ok(0);
     }
+    packed.extend(&block[..n])?;
+    Ok(2 * n)
+}
+
+// Takes digits as the bytes that they spell, up to the first block that isn't digits alone.
+fn pack(bytes: &[u8], packed: &mut Bytes) -> Result<usize, NoMemory>
+    requires { AreBytes packed.old }
+    ensures within { IfOk result (λ n. n ≤ length bytes.now) }
+    ensures taken { IfOk result (λ n. hex packed.new ≡ hex packed.old ++ take n bytes.now) }
+    ensures bytes { AreBytes packed.new }
+{
+    let mut taken = 0;
+    while taken < bytes.len() {
+        let n = pack_block(after(bytes, taken), packed)?;
+        if n == 0 {
+            break;
+        }
+        taken += n;
+    }
+    Ok(taken)
 }
 
 /// The text of a head, of the digits of bytes, and of what stands behind them.

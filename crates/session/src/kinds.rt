@@ -3,11 +3,12 @@
 ghost use Rattle.std.specs.Prelude.{◌≡◌, ◌≢◌, IfOk, IfErr, length, if◌then◌else◌, ◌==◌, nat_le};
 ghost use Rattle.grammar.specs.Readers.{Gives};
 ghost use Rattle.grammar.specs.Words.{word_at, field_at, keep};
-ghost use Rattle.session.specs.Reading.{literal, path, contents, listed, rises, cloud, clouds, sources, lacks, others, named_command, is_allowed, command};
+ghost use Rattle.session.specs.Reading.{literal, path, contents, listed, rises, cloud, clouds, sources, lacks, others};
+ghost use Rattle.session.specs.Reading.{named_command, is_allowed, command};
 ghost use Rattle.cd_base.specs.Numbers.{numbers_of};
 
-use crate::limits::{FILE_LIMIT, UPLOAD_LIMIT};
-use cd_base::{Bytes, CloudNo, Clouds, NoMemory, Shape, is_path};
+use crate::limits::UPLOAD_LIMIT;
+use cd_base::{Bytes, CloudNo, Clouds, FILE_LIMIT, NoMemory, Shape, is_path};
 use grammar::{Stop, after, before, cut_word, decode, len_to, number_of, u64_field};
 use std::alloc::Global;
 

@@ -10,7 +10,6 @@ mod limits;
 mod lines;
 mod long;
 mod reading;
-mod window;
 
 pub use event::Event;
 pub use laws::law_of_scripts;

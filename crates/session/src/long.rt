@@ -8,9 +8,8 @@ ghost use Rattle.session.specs.Spelling.{AreBytes, file_limit};
 
 use crate::Event;
 use crate::front::{Front, spell};
-use crate::limits::FILE_LIMIT;
 use crate::reading::{ScriptErr, read_header, read_line};
-use cd_base::{Bytes, NoMemory, Rooms, Shape, UserId, Version};
+use cd_base::{Bytes, FILE_LIMIT, NoMemory, Rooms, Shape, UserId, Version};
 use grammar::decode;
 use std::alloc::Global;
 

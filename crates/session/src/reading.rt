@@ -4,7 +4,8 @@ ghost use Rattle.std.specs.Prelude.{◌≡◌, ◌≢◌, ◌↔◌, ◌-◌, le
 ghost use Rattle.cd_base.specs.declared.shape.Shape.{Shape};
 ghost use Rattle.cd_base.specs.declared.rooms.Rooms.{Rooms};
 ghost use Rattle.grammar.specs.Readers.{Gives};
-ghost use Rattle.session.specs.Reading.{Reads, header_at, event_at, event_left, fields_at, upload_at, lane_at, job_at, cloud_at, get_at, list_at, arm_at, rebuild_at};
+ghost use Rattle.session.specs.Reading.{Reads, header_at, event_at, event_left, fields_at, upload_at, lane_at, job_at};
+ghost use Rattle.session.specs.Reading.{cloud_at, get_at, list_at, arm_at, rebuild_at};
 ghost use Rattle.session.specs.Spelling.{Fits, IsLine, IsHeader};
 ghost use Rattle.session.specs.declared.event.Event.{Event};
 

@@ -178,12 +178,19 @@ fn last(clouds: &Clouds) -> u8 {
 
 type Read = (&'static [u8], [u64; 4]);
 
+// Whether a line is read as the event of these numbers.
+fn is_event(alloc: Global, line: &[u8], wanted: [u64; 4]) -> bool {
+    let Some(shape) = Shape::of(4, 3) else {
+        return false;
+    };
+    match read_line(alloc, shape, 999, line) {
+        Ok(event) => numbers(&event) == wanted,
+        Err(_) => false,
+    }
+}
+
 #[test]
 fn events(rt: HostRuntime) {
-    let Some(shape) = Shape::of(4, 3) else {
-        assert!(rt; false);
-        return;
-    };
     let rows: [Read; 14] = [
         (
             b"upload 7 6162 18446744073709551615 410a",
@@ -204,10 +211,7 @@ fn events(rt: HostRuntime) {
         (b"rebuild 7 2 0,1,3", [9, 7, 2, 3]),
     ];
     for (line, wanted) in &rows {
-        match read_line(rt.alloc(), shape, 999, line) {
-            Ok(event) => assert!(rt; numbers(&event) == *wanted),
-            Err(_) => assert!(rt; false),
-        }
+        assert!(rt; is_event(rt.alloc(), line, *wanted));
     }
 }
 
@@ -219,31 +223,42 @@ fn header_fails(line: &[u8], place: u64, byte: Option<u8>) -> bool {
         })
 }
 
+// Whether a first line is read as this shape and these rooms.
+fn is_header(line: &[u8], wanted: (u8, u8, Rooms)) -> bool {
+    let (n, k, rooms) = wanted;
+    match read_header(line) {
+        Ok((shape, found)) => shape.n() == n && shape.k() == k && found == rooms,
+        Err(_) => false,
+    }
+}
+
 #[test]
 fn first_lines(rt: HostRuntime) {
-    assert!(rt; header_fails(b"", 0, None));
-    assert!(rt; header_fails(b"cdstore 2 4 3", 8, Some(b'2')));
-    assert!(rt; header_fails(b"cdstore 1 04 3", 10, Some(b'0')));
-    assert!(rt; header_fails(b"cdstore 1 3 3", 12, Some(b'3')));
-    assert!(rt; header_fails(b"cdstore 1 99999999999999999999 3", 31, Some(b'3')));
-    assert!(rt; header_fails(b"cdstore 1 4 3 ", 14, None));
-    assert!(rt; header_fails(b"cdstore 1 4 3 0 0 63 0 0 0", 18, Some(b'6')));
-    assert!(rt; header_fails(b"cdstore 1 4 3 0 0 64 0 0", 24, None));
-    assert!(rt; header_fails(b"cdstore 1 4 3 0 0 64 0 0 16385", 25, Some(b'1')));
-    assert!(rt; header_fails(b"cdstore 1 4 3 0 0 64 0 0 1 1", 26, Some(b' ')));
-    match read_header(b"cdstore 1 16 15") {
-        Ok((shape, rooms)) => {
-            assert!(rt; shape.n() == 16 && shape.k() == 15 && rooms == Rooms::greatest());
-        }
-        Err(_) => assert!(rt; false),
+    let rows: [Row; 10] = [
+        (b"", 0, None),
+        (b"cdstore 2 4 3", 8, Some(b'2')),
+        (b"cdstore 1 04 3", 10, Some(b'0')),
+        (b"cdstore 1 3 3", 12, Some(b'3')),
+        (b"cdstore 1 99999999999999999999 3", 31, Some(b'3')),
+        (b"cdstore 1 4 3 ", 14, None),
+        (b"cdstore 1 4 3 0 0 63 0 0 0", 18, Some(b'6')),
+        (b"cdstore 1 4 3 0 0 64 0 0", 24, None),
+        (b"cdstore 1 4 3 0 0 64 0 0 16385", 25, Some(b'1')),
+        (b"cdstore 1 4 3 0 0 64 0 0 1 1", 26, Some(b' ')),
+    ];
+    for (line, place, byte) in &rows {
+        assert!(rt; header_fails(line, *place, *byte), "{place}");
     }
-    match read_header(b"cdstore 1 16 15 1000 1001 1002 10 11 12") {
-        Ok((_, rooms)) => {
-            assert!(rt; rooms.shares == 1000 && rooms.recipes == 1001 && rooms.journal == 1002);
-            assert!(rt; rooms.fps == 10 && rooms.owners == 11 && rooms.files == 12);
-        }
-        Err(_) => assert!(rt; false),
-    }
+    assert!(rt; is_header(b"cdstore 1 16 15", (16, 15, Rooms::greatest())));
+    let rooms = Rooms {
+        shares: 1000,
+        recipes: 1001,
+        journal: 1002,
+        fps: 10,
+        owners: 11,
+        files: 12,
+    };
+    assert!(rt; is_header(b"cdstore 1 16 15 1000 1001 1002 10 11 12", (16, 15, rooms)));
 }
 
 // Hands out bytes in pieces, and fails at one call.
@@ -302,52 +317,97 @@ impl Source for Endless {
     }
 }
 
+fn next(reader: &mut LineReader, source: &mut Pieces<'_>) -> Result<bool, LineErr> {
+    reader.next(source)
+}
+
+// Whether the next line is this one.
+fn is_line(
+    alloc: Global,
+    reader: &mut LineReader,
+    source: &mut Pieces<'_>,
+    wanted: &[u8],
+) -> Result<bool, NoMemory> {
+    let taken = next(reader, source);
+    let line = reader.line(alloc)?;
+    Ok(taken == Ok(true) && line.as_slice() == wanted)
+}
+
+// Whether a script comes so, line by line, and no line behind it.
+fn has_lines(
+    alloc: Global,
+    reader: &mut LineReader,
+    source: &mut Pieces<'_>,
+) -> Result<bool, NoMemory> {
+    let first = is_line(alloc, reader, source, b"cdstore 1 4 3")?;
+    let second = is_line(alloc, reader, source, b"")?;
+    let third = is_line(alloc, reader, source, b"get 7 61 1 0,1,2")?;
+    Ok(first && second && third && next(reader, source) == Ok(false))
+}
+
+fn comes_in_pieces(alloc: Global, piece: usize) -> Result<bool, NoMemory> {
+    let mut source = source_of(b"cdstore 1 4 3\n\nget 7 61 1 0,1,2\n", piece, 0);
+    let mut reader = LineReader::make(alloc)?;
+    has_lines(alloc, &mut reader, &mut source)
+}
+
 #[test]
 fn lines_in_pieces(rt: HostRuntime) -> Result<(), Fail> {
     for piece in &[1_usize, 7, 65_536] {
-        let mut source = source_of(b"cdstore 1 4 3\n\nget 7 61 1 0,1,2\n", *piece, 0);
-        let mut reader = LineReader::make(rt.alloc())?;
-        assert!(rt; reader.next(&mut source) == Ok(true));
-        assert_eq!(rt;
-            reader.line(rt.alloc())?.as_slice(),
-            b"cdstore 1 4 3".as_slice()
-        );
-        assert!(rt; reader.next(&mut source) == Ok(true));
-        assert_eq!(rt; reader.line(rt.alloc())?.as_slice(), b"".as_slice());
-        assert!(rt; reader.next(&mut source) == Ok(true));
-        assert_eq!(rt;
-            reader.line(rt.alloc())?.as_slice(),
-            b"get 7 61 1 0,1,2".as_slice()
-        );
-        assert!(rt; reader.next(&mut source) == Ok(false));
+        assert!(rt; comes_in_pieces(rt.alloc(), *piece)?);
     }
     Ok(())
 }
 
+// Whether so many lines come, and then none for this cause.
+fn ends_behind(
+    reader: &mut LineReader,
+    source: &mut Pieces<'_>,
+    lines: u32,
+    cause: LineErr,
+) -> bool {
+    let mut well = true;
+    for _ in 0..lines {
+        well = next(reader, source) == Ok(true) && well;
+    }
+    next(reader, source) == Err(cause) && well
+}
+
+// The same of a script in pieces of so many bytes, of which one call fails.
+fn script_ends(
+    alloc: Global,
+    script: (&[u8], usize, u64),
+    lines: u32,
+    cause: LineErr,
+) -> Result<bool, NoMemory> {
+    let (text, piece, fails) = script;
+    let mut source = source_of(text, piece, fails);
+    let mut reader = LineReader::make(alloc)?;
+    Ok(ends_behind(&mut reader, &mut source, lines, cause))
+}
+
+// Why a line without an end isn't read.
+fn endless_line(alloc: Global) -> Result<Result<bool, LineErr>, NoMemory> {
+    let mut reader = LineReader::make(alloc)?;
+    Ok(reader.next(&mut Endless { byte: b'x' }))
+}
+
 #[test]
 fn lines_that_fail(rt: HostRuntime) -> Result<(), Fail> {
-    let mut reader = LineReader::make(rt.alloc())?;
-    let end = Err(LineErr::At { at: 0, found: None });
-    assert!(rt; reader.next(&mut source_of(b"", 1, 0)) == end);
-    let mut reader = LineReader::make(rt.alloc())?;
-    let mut source = source_of(b"cdstore 1 4 3\nget 7 61 1 0,1,2", 2, 0);
-    assert!(rt; reader.next(&mut source) == Ok(true));
-    let end = Err(LineErr::At {
+    let a = rt.alloc();
+    let end = LineErr::At { at: 0, found: None };
+    assert!(rt; script_ends(a, (b"", 1, 0), 0, end)?);
+    let end = LineErr::At {
         at: 16,
         found: None,
-    });
-    assert!(rt; reader.next(&mut source) == end);
-    let mut reader = LineReader::make(rt.alloc())?;
-    let mut source = source_of(b"one\ntwo\n", 3, 3);
-    assert!(rt; reader.next(&mut source) == Ok(true));
-    assert!(rt; reader.next(&mut source) == Err(LineErr::Fault));
-    let mut reader = LineReader::make(rt.alloc())?;
-    let mut source = Endless { byte: b'x' };
-    let past = Err(LineErr::At {
+    };
+    assert!(rt; script_ends(a, (b"cdstore 1 4 3\nget 7 61 1 0,1,2", 2, 0), 1, end)?);
+    assert!(rt; script_ends(a, (b"one\ntwo\n", 3, 3), 1, LineErr::Fault)?);
+    let past = LineErr::At {
         at: 134_225_920,
         found: Some(b'x'),
-    });
-    assert!(rt; reader.next(&mut source) == past);
+    };
+    assert!(rt; endless_line(a)? == Err(past));
     Ok(())
 }
 
@@ -373,38 +433,66 @@ fn script_of(alloc: Global, front: &[u8], digits: &[u8]) -> Result<Bytes, NoMemo
 
 const UPLOAD: &[u8] = b"upload 7 6162 1 ";
 
-// What a long upload is read as. The line behind it is read too, or the answer is want of memory.
-fn long_upload(alloc: Global, digits: &[u8], piece: usize) -> Result<Event, ScriptErr> {
-    let (Some(shape), Ok(script), Ok(mut reader)) = (
-        Shape::of(4, 3),
-        script_of(alloc, UPLOAD, digits),
-        LineReader::make(alloc),
-    ) else {
-        return Err(ScriptErr::NoMemory);
-    };
-    let mut source = source_of(script.as_slice(), piece, 0);
-    let taken = reader.next(&mut source) == Ok(true);
-    let event = reader.read_line(alloc, shape, 1);
-    let more = reader.next(&mut source) == Ok(true);
-    let next = reader.read_line(alloc, shape, 1);
-    if taken && more && matches!(next, Ok(Event::Finish { job: 1 })) {
-        event
-    } else {
-        Err(ScriptErr::NoMemory)
+// What the line is read as.
+fn event_of(alloc: Global, reader: &mut LineReader) -> Result<Event, ScriptErr> {
+    match Shape::of(4, 3) {
+        Some(shape) => reader.read_line(alloc, shape, 1),
+        None => Err(ScriptErr::NoMemory),
     }
+}
+
+// Whether the line is the upload of the bytes that these digits spell.
+fn is_upload(alloc: Global, reader: &mut LineReader, digits: &[u8]) -> Result<bool, NoMemory> {
+    match event_of(alloc, reader) {
+        Ok(Event::Upload { bytes, .. }) => is_spelled(alloc, &bytes, digits),
+        _ => Ok(false),
+    }
+}
+
+fn is_spelled(alloc: Global, bytes: &Bytes, digits: &[u8]) -> Result<bool, NoMemory> {
+    let mut text = Bytes::new(alloc);
+    encode(bytes.as_slice(), &mut text)?;
+    Ok(text.as_slice() == digits)
+}
+
+// Whether the line behind the upload is read too.
+fn is_finish(alloc: Global, reader: &mut LineReader, source: &mut Pieces<'_>) -> bool {
+    let taken = next(reader, source);
+    let event = event_of(alloc, reader);
+    taken == Ok(true) && matches!(event, Ok(Event::Finish { job: 1 }))
+}
+
+// Whether a script is an upload of the bytes that these digits spell, with the line behind it.
+fn is_script(
+    alloc: Global,
+    reader: &mut LineReader,
+    source: &mut Pieces<'_>,
+    digits: &[u8],
+) -> Result<bool, NoMemory> {
+    let taken = next(reader, source);
+    let same = is_upload(alloc, reader, digits)?;
+    Ok(taken == Ok(true) && same && is_finish(alloc, reader, source))
+}
+
+fn is_script_of(
+    alloc: Global,
+    script: &[u8],
+    digits: &[u8],
+    piece: usize,
+) -> Result<bool, NoMemory> {
+    let mut reader = LineReader::make(alloc)?;
+    is_script(alloc, &mut reader, &mut source_of(script, piece, 0), digits)
+}
+
+fn are_read(alloc: Global, digits: &[u8], piece: usize) -> Result<bool, NoMemory> {
+    let script = script_of(alloc, UPLOAD, digits)?;
+    is_script_of(alloc, script.as_slice(), digits, piece)
 }
 
 // Whether so many digits are read as the bytes that they spell.
 fn is_read(alloc: Global, count: usize, piece: usize) -> Result<bool, NoMemory> {
     let digits = digits_of(alloc, count, count, b'0')?;
-    match long_upload(alloc, digits.as_slice(), piece) {
-        Ok(Event::Upload { bytes, .. }) => {
-            let mut text = Bytes::new(alloc);
-            encode(bytes.as_slice(), &mut text)?;
-            Ok(text.as_slice() == digits.as_slice())
-        }
-        _ => Ok(false),
-    }
+    are_read(alloc, digits.as_slice(), piece)
 }
 
 #[test]
@@ -417,6 +505,38 @@ fn long_uploads(rt: HostRuntime) -> Result<(), Fail> {
     Ok(())
 }
 
+// Where an upload is wrong, with the line behind it read all the same.
+fn wrong_at(
+    alloc: Global,
+    reader: &mut LineReader,
+    source: &mut Pieces<'_>,
+) -> Option<(u64, Option<u8>)> {
+    let taken = next(reader, source);
+    let wrong = place_of(event_of(alloc, reader).err());
+    if taken == Ok(true) && is_finish(alloc, reader, source) {
+        wrong
+    } else {
+        None
+    }
+}
+
+fn place_of(wrong: Option<ScriptErr>) -> Option<(u64, Option<u8>)> {
+    match wrong {
+        Some(ScriptErr::At { at, found }) => Some((at, found)),
+        _ => None,
+    }
+}
+
+fn script_wrong_at(alloc: Global, script: &[u8]) -> Result<Option<(u64, Option<u8>)>, NoMemory> {
+    let mut reader = LineReader::make(alloc)?;
+    Ok(wrong_at(alloc, &mut reader, &mut source_of(script, 65_536, 0)))
+}
+
+fn digits_wrong_at(alloc: Global, digits: &[u8]) -> Result<Option<(u64, Option<u8>)>, NoMemory> {
+    let script = script_of(alloc, UPLOAD, digits)?;
+    script_wrong_at(alloc, script.as_slice())
+}
+
 // Whether digits of which one is another byte fail at this place, with this byte there.
 fn fails_at(
     alloc: Global,
@@ -427,54 +547,66 @@ fn fails_at(
     found: u8,
 ) -> Result<bool, NoMemory> {
     let digits = digits_of(alloc, count, place, byte)?;
-    let wrong = Some(ScriptErr::At {
-        at,
-        found: Some(found),
-    });
-    Ok(long_upload(alloc, digits.as_slice(), 65_536).err() == wrong)
+    Ok(digits_wrong_at(alloc, digits.as_slice())? == Some((at, Some(found))))
 }
 
 #[test]
 fn wrong_long_uploads(rt: HostRuntime) -> Result<(), Fail> {
-    let alloc = rt.alloc();
-    assert!(rt; fails_at(alloc, 200_000, 0, b'F', 16, b'F')?);
-    for place in &[
-        1_usize, 4095, 65_519, 65_520, 65_521, 131_055, 131_056, 199_998, 199_999,
-    ] {
-        assert!(rt; fails_at(alloc, 200_000, *place, b'F', 16, b'0')?);
+    let rows: [(usize, usize, u8, u64, u8); 13] = [
+        (200_000, 0, b'F', 16, b'F'),
+        (200_000, 1, b'F', 16, b'0'),
+        (200_000, 4095, b'F', 16, b'0'),
+        (200_000, 65_519, b'F', 16, b'0'),
+        (200_000, 65_520, b'F', 16, b'0'),
+        (200_000, 65_521, b'F', 16, b'0'),
+        (200_000, 131_055, b'F', 16, b'0'),
+        (200_000, 131_056, b'F', 16, b'0'),
+        (200_000, 199_998, b'F', 16, b'0'),
+        (200_000, 199_999, b'F', 16, b'0'),
+        // a blank ends the content, and what follows it is too much; behind an odd count the content is wrong
+        (200_000, 150_000, b' ', 150_016, b' '),
+        (200_000, 150_001, b' ', 16, b'0'),
+        (200_001, 200_001, b'0', 16, b'0'),
+    ];
+    for (count, place, byte, at, found) in rows {
+        assert!(rt;
+            fails_at(rt.alloc(), count, place, byte, at, found)?,
+            "{place}"
+        );
     }
-    // a blank ends the content, and what follows it is too much; behind an odd count the content is wrong
-    assert!(rt; fails_at(alloc, 200_000, 150_000, b' ', 150_016, b' ')?);
-    assert!(rt; fails_at(alloc, 200_000, 150_001, b' ', 16, b'0')?);
-    assert!(rt; fails_at(alloc, 200_001, 200_001, b'0', 16, b'0')?);
     Ok(())
 }
 
-// Where a long line fails as a script's first one, if it is read back as it was written.
-fn first_fails(alloc: Global, front: &[u8]) -> Result<Option<ScriptErr>, NoMemory> {
-    let digits = digits_of(alloc, 200_000, 0, b'1')?;
-    let script = script_of(alloc, front, digits.as_slice())?;
-    let mut reader = LineReader::make(alloc)?;
-    let taken = reader.next(&mut source_of(script.as_slice(), 65_536, 0)) == Ok(true);
+// Where the next line, which is a front of the script, fails as a first one.
+fn line_fails(
+    alloc: Global,
+    reader: &mut LineReader,
+    script: &[u8],
+) -> Result<Option<(u64, Option<u8>)>, NoMemory> {
+    let taken = next(reader, &mut source_of(script, 65_536, 0));
     let line = reader.line(alloc)?;
-    if taken && script.as_slice().starts_with(line.as_slice()) && line.len() > 200_000 {
-        Ok(reader.read_header().err())
+    if taken == Ok(true) && script.starts_with(line.as_slice()) && line.len() > 200_000 {
+        Ok(place_of(reader.read_header().err()))
     } else {
         Ok(None)
     }
 }
 
+fn script_fails(alloc: Global, script: &[u8]) -> Result<Option<(u64, Option<u8>)>, NoMemory> {
+    let mut reader = LineReader::make(alloc)?;
+    line_fails(alloc, &mut reader, script)
+}
+
+// Where a long line fails as a script's first one, if it is read back as it was written.
+fn first_fails(alloc: Global, front: &[u8]) -> Result<Option<(u64, Option<u8>)>, NoMemory> {
+    let digits = digits_of(alloc, 200_000, 0, b'1')?;
+    let script = script_of(alloc, front, digits.as_slice())?;
+    script_fails(alloc, script.as_slice())
+}
+
 #[test]
 fn long_first_lines(rt: HostRuntime) -> Result<(), Fail> {
-    let upload = Some(ScriptErr::At {
-        at: 0,
-        found: Some(b'u'),
-    });
-    assert!(rt; first_fails(rt.alloc(), UPLOAD)? == upload);
-    let name = Some(ScriptErr::At {
-        at: 10,
-        found: Some(b'1'),
-    });
-    assert!(rt; first_fails(rt.alloc(), b"cdstore 1 ")? == name);
+    assert!(rt; first_fails(rt.alloc(), UPLOAD)? == Some((0, Some(b'u'))));
+    assert!(rt; first_fails(rt.alloc(), b"cdstore 1 ")? == Some((10, Some(b'1'))));
     Ok(())
 }

@@ -1,16 +1,11 @@
-use Rattle.std.proofs.Common.{ℕ, List, ◌++◌, ap, sym, ◌∙◌}
-use Rattle.grammar.specs.Hexadecimal.{unhex}
-use Rattle.session.proofs.Fronts.{packed_more, bytes_more}
+use Rattle.std.proofs.Common.{length, ap, arith}
+use Rattle.std.proofs.lemmas.List.{length-drop}
+use Rattle.session.proofs.KitDigits.{more_taken}
 use Rattle.session.proofs.front.pack.Goals as goal
 
-pub returns-in_ok-extend-in-Some-clause-taken : goal.returns-in_ok-extend-in-Some-clause-taken
-returns-in_ok-extend-in-Some-clause-taken c =
-    packed_more c.args.packed.now c.in-Some.values c.extend.new.self _
-    (c.in_ok-extend-in-Some.ensures.ok ∙ ap (λ (x : List ℕ). c.args.packed.now ++ x) c.as_slice.ensures)
-    (sym c.in-Some.is ∙ c.in_ok-values.ensures ∙ ap unhex c.before-2.ensures)
-
-pub returns-in_ok-extend-in-Some-clause-bytes : goal.returns-in_ok-extend-in-Some-clause-bytes
-returns-in_ok-extend-in-Some-clause-bytes c =
-    bytes_more c.args.packed.now c.in-Some.values c.extend.new.self c.before-2.result.now c.requires
-    (c.in_ok-extend-in-Some.ensures.ok ∙ ap (λ (x : List ℕ). c.args.packed.now ++ x) c.as_slice.ensures)
-    (sym c.in-Some.is ∙ c.in_ok-values.ensures)
+pub loop-taken-preserved : goal.loop-taken-preserved
+loop-taken-preserved c = record {
+  within = omega (arith, c.in_ok-n.ensures.within, ap length c.after.ensures, length-drop c.loop-taken.taken c.args.bytes.now, c.loop-taken.invariant.within);
+  so_far = more_taken c.args.packed.now c.loop-taken.packed c.pack_block.new.packed c.args.bytes.now c.after.result.now c.loop-taken.taken c.in_ok-n.n c.loop-taken.invariant.so_far c.after.ensures c.in_ok-n.ensures.taken;
+  bytes = c.pack_block.ensures.bytes;
+}

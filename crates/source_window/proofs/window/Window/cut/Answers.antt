@@ -1,7 +1,7 @@
 use Rattle.std.proofs.Common.{ap, ◌∙◌}
-use Rattle.session.specs.Held.{Held}
-use Rattle.session.proofs.Windows.{cut_part}
-use Rattle.session.proofs.window.Window.cut.Goals as goal
+use Rattle.source_window.specs.Held.{Held}
+use Rattle.source_window.proofs.Windows.{cut_part}
+use Rattle.source_window.proofs.window.Window.cut.Goals as goal
 
 pub returns : goal.returns
 returns c = cut_part c.self.inside.bytes.items c.shrink_to.new.self.items c.args.self.now.ahead c.self.inside.from c.self.inside.filled c.self.invariant.2
