@@ -20,7 +20,7 @@ pub enum ReadErr {
 }
 
 // How many bytes are read at a time.
-const PIECE: usize = 4096;
+const PIECE: usize = 65_536;
 
 /// Reads a source to its end. `TooLong` comes exactly where it has more bytes than a file may have.
 pub fn read_file<S: Source>(alloc: Global, source: &mut S) -> Result<Bytes, ReadErr>

@@ -15,8 +15,8 @@ use cd_edges::{Failed, Ports};
 use frames::{FrameErr, Framer, ReplyBuf};
 use ports_link::send_frame;
 
-// How many bytes are received at a time.
-const PIECE: usize = 16_384;
+// How many bytes are received at a time, at most.
+const PIECE: usize = 65_536;
 
 // The greatest number of bytes of one connection.
 const GREATEST: u64 = 1_099_511_627_776;
@@ -146,19 +146,23 @@ fn serve_piece<P: Ports, R: Responder>(
     Ok(())
 }
 
-// Receives some bytes, at most so many, and answers each frame that they make whole. It says how many came, none where the stream ended.
+// Receives some bytes into a piece, at most so many, and answers each frame that they make whole. It says how many came, none
+// where the stream ended.
 fn serve_some<P: Ports, R: Responder>(
     responder: &mut R,
     ports: &mut P,
     port: u32,
     framer: &mut Framer,
     reply: &mut ReplyBuf,
+    piece: &mut [u8],
     most: usize,
 ) -> Result<usize, Stop>
     requires most { 0 < most }
+    requires piece { 0 < length piece.old }
     requires ready { ¬ IsFrame framer.old }
     requires lawful { ¬ IsRefused framer.old }
     ensures most { IfOk result (λ count. count ≤ most) }
+    ensures piece { length piece.new ≡ length piece.old }
     ensures along { (first : R) (start : Telling) (received : ℕ) → (P.tells ports.old).told ≡ start.told
         → Along R.step start (P.tells ports.old) port first responder.old framer.old [] received
         → IfOk result
@@ -175,8 +179,7 @@ fn serve_some<P: Ports, R: Responder>(
     ensures told { (P.tells ports.new).told ≡ (P.tells ports.old).told }
     ensures cause { StopsWithCause result (P.faults ports.old) (P.faults ports.new) }
 {
-    let mut piece = [0; PIECE];
-    let room = most.min(PIECE);
+    let room = most.min(piece.len());
     let count = match ports.recv(port, &mut piece[..room]) {
         Ok(count) => count,
         Err(Failed) => return Err(Stop::Failed),
@@ -184,7 +187,7 @@ fn serve_some<P: Ports, R: Responder>(
     if count == 0 {
         return Ok(0);
     }
-    match serve_piece(responder, ports, port, framer, reply, front(&piece, count)) {
+    match serve_piece(responder, ports, port, framer, reply, front(piece, count)) {
         Ok(()) => Ok(count),
         Err(stop) => Err(stop),
     }
@@ -219,6 +222,34 @@ fn stopped(stop: Stop) -> Served
     }
 }
 
+// Serves the connection by way of a piece.
+fn serve_by<P: Ports, R: Responder>(
+    responder: &mut R,
+    ports: &mut P,
+    port: u32,
+    framer: &mut Framer,
+    reply: &mut ReplyBuf,
+    piece: &mut [u8],
+) -> Served
+    requires piece { 0 < length piece.old }
+    ensures serves { Serves R.step (P.tells ports.old) (P.tells ports.new) port responder.old responder.new result }
+    ensures loans { R.loans responder.new ≡ R.loans responder.old }
+    ensures told { (P.tells ports.new).told ≡ (P.tells ports.old).told }
+    ensures cause { EndsWithCause result (P.faults ports.old) (P.faults ports.new) }
+{
+    framer.reset();
+    let mut received = 0;
+    while received < GREATEST {
+        let most = (GREATEST - received) as usize;
+        match serve_some(responder, ports, port, framer, reply, piece, most) {
+            Ok(0) => return ended(framer.len()),
+            Ok(count) => received += count as u64,
+            Err(stop) => return stopped(stop),
+        }
+    }
+    Served::Spent
+}
+
 /// Serves the connection on a port until its stream ends, a length comes that no frame has, the ports fail, or 1,099,511,627,776 bytes
 /// came: each frame that comes is answered by one frame, in order, however the bytes come in pieces.
 ///
@@ -237,15 +268,6 @@ pub fn serve_frames<P: Ports, R: Responder>(
     ensures told { (P.tells ports.new).told ≡ (P.tells ports.old).told }
     ensures cause { EndsWithCause result (P.faults ports.old) (P.faults ports.new) }
 {
-    framer.reset();
-    let mut received = 0;
-    while received < GREATEST {
-        let most = (GREATEST - received) as usize;
-        match serve_some(responder, ports, port, framer, reply, most) {
-            Ok(0) => return ended(framer.len()),
-            Ok(count) => received += count as u64,
-            Err(stop) => return stopped(stop),
-        }
-    }
-    Served::Spent
+    let mut piece = [0; PIECE];
+    serve_by(responder, ports, port, framer, reply, &mut piece)
 }

@@ -1,23 +1,73 @@
 -- A reply that comes piece by piece.
-use Rattle.std.proofs.Common.{◌≡◌, ℕ, ◌+◌, ◌^◌, ◌<◌, ◌≤◌, List, ◌++◌, length, take, sym, ◌∙◌, ap, subst, append-nil, arith, length-append, length-take, take_all}
+use Rattle.std.proofs.Common.{◌≡◌, ℕ, ◌+◌, ◌^◌, ◌<◌, ◌≤◌, List, [], ◌++◌, length, take, drop, sym, ◌∙◌, ap, subst, append_assoc, append-nil, take-append-drop, arith, length-append, length-take, take_all}
 use Rattle.std.proofs.lemmas.Nat.{from_be_bytes-to_be_bytes_4}
 use Rattle.std.specs.Int.{w32, to_be_bytes}
 use Rattle.frames.specs.Frames.{IsContent, IsLength, frame, length_in}
 use Rattle.frames.proofs.FrameLaws.{length_in-frame, length-frame}
-use Rattle.cd_edges.specs.Ports.{Telling, Sent, Received, Fills}
-use Rattle.cd_edges.proofs.Passing.{received_twice}
-use Rattle.ports_link.specs.Exchange.{Broke, Came, CameNone, Cut, NoFrame, Replied, Whole}
+use Rattle.cd_edges.specs.Ports.{Telling, Sent, SentPart, Received, Receives, Fills}
+use Rattle.cd_edges.proofs.Passing.{received_twice, sent_twice}
+use Rattle.ports_link.specs.Exchange.{Broke, Came, CameNone, Cut, Ended, NoFrame, Replied, Whole}
+
+-- ---- a frame that goes out in two pieces
+
+-- what stands in front of a buffer, and what is behind it, are a frame
+framed : (n : ℕ) (content buffer : List ℕ) → take (4 + n) buffer ≡ to_be_bytes w32 (length content) ++ take n content → take (4 + n) buffer ++ drop n content ≡ frame content
+framed n content buffer front =
+    ap (λ (l : List ℕ). l ++ drop n content) front ∙ append_assoc (to_be_bytes w32 (length content)) (take n content) (drop n content)
+    ∙ ap (λ (l : List ℕ). to_be_bytes w32 (length content) ++ l) (take-append-drop n content)
+
+pub sent_framed : (a b c : Telling) (number n : ℕ) (content buffer : List ℕ) → take (4 + n) buffer ≡ to_be_bytes w32 (length content) ++ take n content
+    → Sent a b number (take (4 + n) buffer) → Sent b c number (drop n content) → Sent a c number (frame content)
+sent_framed a b c number n content buffer front one two =
+    subst (λ (l : List ℕ). Sent a c number l) (framed n content buffer front) (sent_twice a b c number (take (4 + n) buffer) (drop n content) one two)
+
+pub part_in_front : (a b : Telling) (number n : ℕ) (content buffer : List ℕ) → take (4 + n) buffer ≡ to_be_bytes w32 (length content) ++ take n content
+    → SentPart a b number (take (4 + n) buffer) → SentPart a b number (frame content)
+part_in_front a b number n content buffer front one = record {
+  part = one.part;
+  rest = one.rest ++ drop n content;
+  parted = sym (framed n content buffer front) ∙ ap (λ (l : List ℕ). l ++ drop n content) one.parted ∙ append_assoc one.part one.rest (drop n content);
+  sent = one.sent;
+}
+
+pub part_behind : (a b c : Telling) (number n : ℕ) (content buffer : List ℕ) → take (4 + n) buffer ≡ to_be_bytes w32 (length content) ++ take n content
+    → Sent a b number (take (4 + n) buffer) → SentPart b c number (drop n content) → SentPart a c number (frame content)
+part_behind a b c number n content buffer front one two = record {
+  part = take (4 + n) buffer ++ two.part;
+  rest = two.rest;
+  parted = sym (framed n content buffer front) ∙ ap (λ (l : List ℕ). take (4 + n) buffer ++ l) two.parted ∙ sym (append_assoc (take (4 + n) buffer) two.part two.rest);
+  sent = sent_twice a b c number (take (4 + n) buffer) two.part one two.sent;
+}
+
+-- ---- a reply that comes piece by piece
+
+-- bytes came into a piece, and were appended
+pub came_some : (a b : Telling) (number count : ℕ) (before after piece : List ℕ) → after ≡ before ++ take count piece → Receives a b number count piece → Came a b number before after
+came_some a b number count before after piece appended receives = record {
+  bytes = take count piece;
+  appended = appended;
+  received = receives.received;
+}
+
+-- none came
+pub ended_none : (a b : Telling) (number count : ℕ) (piece : List ℕ) → 0 < length piece → count ≡ 0 → Receives a b number count piece → Ended a b number
+ended_none a b number count piece some none receives =
+    let nothing = subst (λ (n : ℕ). Received a b number (take n piece)) none receives.received in
+    record {
+      received = nothing;
+      ended = sym nothing.came ∙ receives.ended some none;
+    }
+
+pub cut_ended : (a b c : Telling) (number count left : ℕ) (before : List ℕ) → length before + left ≡ count → 0 < left → Received a b number before → Ended b c number → Cut a c number count
+cut_ended a b c number count left before long some one two = record {
+  came = before ++ [];
+  few = omega (arith, long, some, length-append before []);
+  received = received_twice a b c number before [] one two.received;
+  ended = two.ended;
+}
 
 pub came_more : (a b c : Telling) (number : ℕ) (before after : List ℕ) → Received a b number before → Came b c number before after → Received a c number after
 came_more a b c number before after one two = subst (λ (l : List ℕ). Received a c number l) (sym two.appended) (received_twice a b c number before two.bytes one two.received)
-
-pub cut_more : (a b c : Telling) (number count left : ℕ) (before : List ℕ) → length before + left ≡ count → Received a b number before → Cut b c number left → Cut a c number count
-cut_more a b c number count left before long one two = record {
-  came = before ++ two.came;
-  few = omega (arith, long, two.few, length-append before two.came);
-  received = received_twice a b c number before two.came one two.received;
-  ended = two.ended;
-}
 
 none_short : (bytes : List ℕ) → length bytes < 4 → NoFrame bytes
 none_short bytes few content behind lawful e = omega (arith, few, ap length e, length-append (frame content) behind, length-frame content)

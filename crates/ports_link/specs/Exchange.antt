@@ -39,6 +39,11 @@ pub record Came (old new : Telling) (number : ℕ) (before after : List ℕ) : T
   pub appended : after ≡ before ++ bytes
   pub received : Received old new number bytes
 
+-- nothing came, and nothing is to come
+pub record Ended (old new : Telling) (number : ℕ) : Type 0 where
+  pub received : Received old new number []
+  pub ended : (new.port number).to_come ≡ []
+
 -- bytes came that are no frame, where no frame was to come
 pub record CameNone (old new : Telling) (number : ℕ) : Type 0 where
   pub none : NoFrame (old.port number).to_come

@@ -1,17 +1,20 @@
 //! One request and its reply.
 
-ghost use Rattle.std.specs.Prelude.{◌≡◌, ◌+◌, ◌-◌, ◌≤◌, ◌<◌, [], ◌++◌, length, take, min, IsTrue, IsFalse, IfOk, OnErr};
+ghost use Rattle.std.specs.Prelude.{◌≡◌, ◌+◌, ◌-◌, ◌≤◌, ◌<◌, [], ◌++◌, length, take, drop, min, IsTrue, IsFalse, IfOk, OnErr};
 ghost use Rattle.std.specs.Int.{w32, to_be_bytes};
 ghost use Rattle.cd_edges.specs.Causes.{HasCause};
 ghost use Rattle.frames.specs.Frames.{IsContent, IsLength, frame, frame_limit};
 ghost use Rattle.cd_edges.specs.Ports.{OthersStay, Received, Sent, SentPart};
-ghost use Rattle.ports_link.specs.Exchange.{Broke, Came, CameNone, Cut, Replied, Whole};
+ghost use Rattle.ports_link.specs.Exchange.{Broke, Came, CameNone, Cut, Ended, Replied, Whole};
 
 use cd_edges::{Failed, Ports, receive, send_all};
 use frames::{ReplyBuf, header, is_length};
 
-// How many bytes of a reply are taken at a time.
-const PIECE: usize = 4096;
+// How many bytes of a frame go out with its length: a request of 256 fingerprints is one piece.
+const FRONT: usize = 9216;
+
+// How many bytes of a reply are taken at a time, at most.
+const PIECE: usize = 65_536;
 
 // The number that four bytes are.
 fn length_of(bytes: [u8; 4]) -> u32
@@ -20,7 +23,68 @@ fn length_of(bytes: [u8; 4]) -> u32
     u32::from_be_bytes(bytes)
 }
 
-/// Sends the frame of a content. Where the ports fail its first bytes may have been sent.
+// The first bytes of some.
+fn first(bytes: &[u8], count: usize) -> &[u8]
+    requires { count ≤ length bytes.now }
+    ensures { result.now ≡ take count bytes.now }
+{
+    &bytes[..count]
+}
+
+// What stands behind the first bytes.
+fn behind(bytes: &[u8], count: usize) -> &[u8]
+    requires { count ≤ length bytes.now }
+    ensures { result.now ≡ drop count bytes.now }
+{
+    &bytes[count..]
+}
+
+// Puts the length of a content and its first bytes, as many as there is room for, in front of a buffer. It says how many of
+// them.
+fn put_front(buffer: &mut [u8], content: &[u8]) -> usize
+    requires content { IsContent content.now }
+    requires room { 4 ≤ length buffer.old }
+    ensures count { result ≤ length content.now }
+    ensures within { 4 + result ≤ length buffer.new }
+    ensures front { take (4 + result) buffer.new ≡ to_be_bytes w32 (length content.now) ++ take result content.now }
+{
+    let (length, rest) = buffer.split_at_mut(4);
+    length.copy_from_slice(&header(content.len() as u32));
+    let count = content.len().min(rest.len());
+    rest[..count].copy_from_slice(first(content, count));
+    count
+}
+
+// Sends the frame of a content: its first bytes by way of a buffer, with the length in front of them.
+fn send_by<P: Ports>(
+    ports: &mut P,
+    port: u32,
+    content: &[u8],
+    buffer: &mut [u8],
+) -> Result<(), Failed>
+    requires content { IsContent content.now }
+    requires room { 4 ≤ length buffer.old }
+    ensures sent { IsTrue (P.tells ports.old).told
+        → IfOk result (λ _. Sent (P.tells ports.old) (P.tells ports.new) port (frame content.now)) }
+    ensures part { IsTrue (P.tells ports.old).told
+        → OnErr result (SentPart (P.tells ports.old) (P.tells ports.new) port (frame content.now)) }
+    ensures others { IsTrue (P.tells ports.old).told → OthersStay (P.tells ports.old) (P.tells ports.new) port }
+    ensures told { (P.tells ports.new).told ≡ (P.tells ports.old).told }
+    ensures cause { HasCause (P.faults ports.old) (P.faults ports.new) result }
+{
+    let count = put_front(buffer, content);
+    match send_all(ports, port, first(buffer, 4 + count)) {
+        Ok(()) => {}
+        Err(Failed) => return Err(Failed),
+    }
+    match send_all(ports, port, behind(content, count)) {
+        Ok(()) => Ok(()),
+        Err(Failed) => Err(Failed),
+    }
+}
+
+/// Sends the frame of a content; that of at most 9,212 bytes is handed to the ports as one piece. Where the ports fail its first
+/// bytes may have been sent.
 pub fn send_frame<P: Ports>(ports: &mut P, port: u32, request: &[u8]) -> Result<(), Failed>
     requires { IsContent request.now }
     ensures sent { IsTrue (P.tells ports.old).told
@@ -31,48 +95,47 @@ pub fn send_frame<P: Ports>(ports: &mut P, port: u32, request: &[u8]) -> Result<
     ensures told { (P.tells ports.new).told ≡ (P.tells ports.old).told }
     ensures cause { HasCause (P.faults ports.old) (P.faults ports.new) result }
 {
-    let front = header(request.len() as u32);
-    send_all(ports, port, &front)?;
-    send_all(ports, port, request)
+    let mut buffer = [0; FRONT];
+    send_by(ports, port, request, &mut buffer)
 }
 
-// Takes the next bytes of a content, at most `left` of them, and appends them. It answers how many came, 0 where the stream ended
-// before they were all there.
-fn take_piece<P: Ports>(
+// Takes bytes that come into a piece, and appends them. It answers how many came, 0 where the stream ended.
+fn take_some<P: Ports>(
     ports: &mut P,
     port: u32,
-    left: usize,
+    piece: &mut [u8],
     reply: &mut ReplyBuf,
 ) -> Result<usize, Failed>
-    requires room { length reply.old + left ≤ frame_limit }
-    requires some { 0 < left }
-    ensures bound { IfOk result (λ count. count ≤ left) }
+    requires some { 0 < length piece.old }
+    requires room { length reply.old + length piece.old ≤ frame_limit }
+    ensures piece { length piece.new ≡ length piece.old }
+    ensures bound { IfOk result (λ count. count ≤ length piece.old) }
     ensures long { IfOk result (λ count. length reply.new ≡ length reply.old + count) }
     ensures came { IsTrue (P.tells ports.old).told
         → IfOk result (λ count. 0 < count → Came (P.tells ports.old) (P.tells ports.new) port reply.old reply.new) }
-    ensures cut { IsTrue (P.tells ports.old).told
-        → IfOk result (λ count. count ≡ 0 → Cut (P.tells ports.old) (P.tells ports.new) port left) }
+    ensures ended { IsTrue (P.tells ports.old).told
+        → IfOk result (λ count. count ≡ 0 → Ended (P.tells ports.old) (P.tells ports.new) port) }
     ensures others { IsTrue (P.tells ports.old).told → OthersStay (P.tells ports.old) (P.tells ports.new) port }
     ensures told { (P.tells ports.new).told ≡ (P.tells ports.old).told }
     ensures cause { HasCause (P.faults ports.old) (P.faults ports.new) result }
 {
-    let mut piece = [0; PIECE];
-    let wanted = left.min(PIECE);
-    let count = receive(ports, port, &mut piece[..wanted])?;
-    if count < wanted {
-        return Ok(0);
-    }
-    reply.put(&piece[..wanted]);
-    Ok(wanted)
+    let count = match ports.recv(port, piece) {
+        Ok(count) => count,
+        Err(Failed) => return Err(Failed),
+    };
+    reply.put(first(piece, count));
+    Ok(count)
 }
 
-// Takes a content of so many bytes. It answers whether all of them came.
+// Takes a content of so many bytes, by way of a piece. It answers whether all of them came.
 fn take_content<P: Ports>(
     ports: &mut P,
     port: u32,
     count: usize,
+    piece: &mut [u8],
     reply: &mut ReplyBuf,
 ) -> Result<bool, Failed>
+    requires piece { 0 < length piece.old }
     requires empty { reply.old ≡ [] }
     requires room { count ≤ frame_limit }
     ensures whole { IsTrue (P.tells ports.old).told
@@ -85,7 +148,8 @@ fn take_content<P: Ports>(
 {
     let mut left = count;
     while left > 0 {
-        let came = take_piece(ports, port, left, reply)?;
+        let room = left.min(piece.len());
+        let came = take_some(ports, port, &mut piece[..room], reply)?;
         if came == 0 {
             return Ok(false);
         }
@@ -115,7 +179,8 @@ fn take_frame<P: Ports>(ports: &mut P, port: u32, reply: &mut ReplyBuf) -> Resul
     if !is_length(len) {
         return Ok(false);
     }
-    take_content(ports, port, len as usize, reply)
+    let mut piece = [0; PIECE];
+    take_content(ports, port, len as usize, &mut piece, reply)
 }
 
 /// Sends a request's frame on a port, and takes one frame that comes there. It answers whether one came: then the reply's content is

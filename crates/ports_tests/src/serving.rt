@@ -94,7 +94,7 @@ fn the_longest_frame_is_answered(rt: HostRuntime) -> Result<(), Fail> {
 
 #[test]
 fn ports_that_fail_end_a_connection(rt: HostRuntime) -> Result<(), Fail> {
-    for (fails, room, sent) in [(2, 100, 0), (3, 100, 0), (5, 100, 5), (999, 7, 7)] {
+    for (fails, room, sent) in [(2, 100, 0), (3, 100, 0), (4, 100, 5), (999, 7, 7)] {
         let (end, ports) = served(rt.alloc(), &STREAM, 100, &[fails], room)?;
         assert_eq!(rt; end, Served::Failed);
         assert_eq!(rt; ports.sent(0).len(), sent);

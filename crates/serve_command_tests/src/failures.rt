@@ -31,10 +31,10 @@ fn hellos(
 
 #[test]
 fn failing_ports_are_9(rt: HostRuntime) -> Result<(), Fail> {
-    // the calls: listen, accept, recv, send of the length, send of the content, recv, accept, ..
+    // the calls: listen, accept, recv, send of the reply's frame, recv, accept, ..
     assert!(rt; hellos(rt.alloc(), 2, &[1], &[])?.is(9, ""));
     assert!(rt; hellos(rt.alloc(), 2, &[2], &[])?.is(9, "ready here\n"));
-    assert!(rt; hellos(rt.alloc(), 2, &[7], &[])?.is(9, "ready here\nconnection 1 end\n"));
+    assert!(rt; hellos(rt.alloc(), 2, &[6], &[])?.is(9, "ready here\nconnection 1 end\n"));
     let outcome = hellos(rt.alloc(), 3, &[], &[])?;
     assert!(rt; outcome.is(9, "ready here\nconnection 1 end\nconnection 2 end\n"));
     Ok(())

@@ -1,10 +1,11 @@
-use Rattle.std.proofs.Common.{◌≡◌, ◌≤◌, ◌-◌, ◌^◌, []}
+use Rattle.std.proofs.Common.{◌≡◌, ◌≤◌, ◌<◌, ◌-◌, ◌^◌, [], length}
 use Rattle.frames.specs.Frames.{IsFrame, IsRefused}
 use Rattle.frame_serving.specs.Steps.{Along}
-use Rattle.frame_serving.proofs.connection.serve_frames.Given as goal
+use Rattle.frame_serving.proofs.connection.serve_by.Given as goal
 
 abbrev pub invariant-loop-received : goal.invariant-loop-received
 invariant-loop-received g l = record {
+  piece : 0 < length l.piece;
   ready : IsFrame l.framer → ⊥;
   lawful : IsRefused l.framer → ⊥;
   along : Along g.R.Responder.step (g.P.Ports.tells l.fn.ports) (g.P.Ports.tells l.ports) l.port l.fn.responder l.responder l.framer [] l.received;

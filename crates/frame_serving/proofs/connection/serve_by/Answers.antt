@@ -5,10 +5,11 @@ use Rattle.frame_serving.specs.Connection.{Serves}
 use Rattle.frame_serving.specs.Steps.{Along, ended_with}
 use Rattle.frame_serving.proofs.Passing.{none_refused}
 use Rattle.frame_serving.proofs.Ending.{begun, ends_at_end, ends_spent, ends_by_stop}
-use Rattle.frame_serving.proofs.connection.serve_frames.Goals as goal
+use Rattle.frame_serving.proofs.connection.serve_by.Goals as goal
 
 pub loop-received-init : goal.loop-received-init
 loop-received-init g c = record {
+  piece = search rules;
   ready = c.reset.ensures.ready;
   lawful = subst (λ (l : List ℕ). IsRefused l → ⊥) (sym c.reset.ensures.empty) none_refused;
   along = subst (λ (l : List ℕ). Along g.R.Responder.step (g.P.Ports.tells c.args.ports.now) (g.P.Ports.tells c.args.ports.now) c.args.port c.args.responder.now c.args.responder.now l [] 0) (sym c.reset.ensures.empty)
