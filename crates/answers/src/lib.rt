@@ -6,6 +6,3 @@ mod spelling;
 mod writing;
 
 pub use answer::Answer;
-
-#[cfg(test)]
-mod tests;

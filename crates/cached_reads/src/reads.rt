@@ -1,9 +1,9 @@
 //! How often a server reads an area of its cloud.
 
-use crate::asking::{Cloud, SMALL, TWO, WIDE};
-use crate::requests::{commit_of, fps_of, put_of, recipe_of, recipe_request};
 use cd_base::{Bytes, NoMemory, sha256};
 use cd_edges::{Area, Shelf};
+use mem_server::requests::{commit_of, fps_of, put_of, recipe_of, recipe_request};
+use mem_server::{Cloud, SMALL, TWO, WIDE};
 use std::alloc::Global;
 use std::test::Fail;
 
@@ -44,7 +44,8 @@ fn has_three(alloc: Global, cloud: &mut Cloud) -> Result<bool, NoMemory> {
     Ok(cloud.answers(&[(put.as_slice(), THREE_NEW)]) && cloud.reopen(false) == Ok(1))
 }
 
-// Whether the three are read by one call, and by none when they are asked again; and by one behind a Put, which writes the container.
+// Whether the three are read by one call, and by none when they are asked again; and by one behind a Put, which writes
+// the container.
 fn are_read_once(alloc: Global, cloud: &mut Cloud) -> Result<bool, NoMemory> {
     let get = get_three(alloc)?;
     let put = put_of(alloc, 7, &[b"one more"])?;
@@ -91,8 +92,8 @@ fn a_recipe_is_read_once(rt: HostRuntime) -> Result<(), Fail> {
     Ok(())
 }
 
-// Whether a share that another wrote over is Rotten, read twice; and given again once its bytes are back, though the container that is
-// kept has the others.
+// Whether a share that another wrote over is Rotten, read twice; and given again once its bytes are back, though the
+// container that is kept has the others.
 fn is_read_again(alloc: Global, cloud: &mut Cloud) -> Result<bool, NoMemory> {
     let get = get_three(alloc)?;
     let well = has_three(alloc, cloud)?;

@@ -1,6 +1,7 @@
 -- How far a generated session has come behind its openings, and where want of memory stopped it.
 use Rattle.std.specs.Prelude.{◌≡◌, ◌⊎◌, ℕ, ◌+◌, ◌*◌, ◌^◌, ◌<◌, ◌≤◌, Bool, List, [], ◌∷◌, ◌++◌, length, sum_by, None, IsSome, Result, Ok, Err, if◌then◌else◌}
 use Rattle.std.specs.List.{Contains}
+use Rattle.cd_base.specs.Limits.{file_limit}
 use Rattle.cd_edges.specs.Disk.{Cloud}
 use Rattle.upload_job.specs.Upload.{FileVersion}
 use Rattle.upload_job.specs.Lanes.{LaneView}
@@ -55,7 +56,7 @@ pub record Grows (lanes : ℕ) (n m : Numbers) : Type 0 where
 
 -- So many files added no more than they can.
 pub record AreWithin (files : ℕ) (n : Numbers) : Type 0 where
-  pub bytes : n.bytes ≤ files * 67108864
+  pub bytes : n.bytes ≤ files * file_limit
   pub stored : n.stored ≤ files * 256
   pub sent : n.sent ≤ files * 2 ^ 88
   pub known : n.known ≤ files * 2 ^ 88

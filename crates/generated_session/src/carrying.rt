@@ -1,6 +1,7 @@
 //! The lines of the session, carried out.
 
-ghost use Rattle.std.specs.Prelude.{◌≡◌, ◌<◌, ◌≤◌, ◌+◌, ◌-◌, ◌/◌, ◌*◌, ℕ, List, [], ◌∷◌, ◌++◌, length, map, IfOk, OnOk, OnErr, IsTrue};
+ghost use Rattle.std.specs.Prelude.{◌≡◌, ◌<◌, ◌≤◌, ◌+◌, ◌-◌, ◌/◌, ◌*◌, ℕ, List, [], ◌∷◌, ◌++◌, length, map, IfOk, OnOk};
+ghost use Rattle.std.specs.Prelude.{OnErr, IsTrue};
 ghost use Rattle.std.specs.List.{flat_map, range_with_len};
 ghost use Rattle.cd_edges.specs.Disk.{Cloud};
 ghost use Rattle.upload_job.specs.Upload.{FileVersion};
@@ -12,8 +13,10 @@ ghost use Rattle.vault.specs.Steps.{version_of as file_version};
 ghost use Rattle.vault.specs.Kept.{uploads};
 ghost use Rattle.script_lines.specs.At.{Leaves};
 ghost use Rattle.generated_session.specs.Drawn.{file_of};
-ghost use Rattle.generated_session.specs.Lines.{user_at, version_at, file_path, clouds_at, upload_lines, get_line, generated_lines};
-ghost use Rattle.generated_session.specs.Progress.{no_numbers, HasRoom, Grows, AreWithin, BringsLanes, CutsJob, HasMade, HasJob, IsFileOf, IsStopped, Makes, Stops};
+ghost use Rattle.generated_session.specs.Lines.{user_at, version_at, file_path, clouds_at, upload_lines, get_line};
+ghost use Rattle.generated_session.specs.Lines.{generated_lines};
+ghost use Rattle.generated_session.specs.Progress.{no_numbers, HasRoom, Grows, AreWithin, BringsLanes, CutsJob};
+ghost use Rattle.generated_session.specs.Progress.{HasMade, HasJob, IsFileOf, IsStopped, Makes, Stops};
 
 use crate::Numbers;
 use crate::counting::{count_got, count_lane, is_same};
@@ -141,7 +144,8 @@ fn finish_lanes<V: Shelf>(
 ) -> Result<(), NoMemory>
     requires reached { IsReached link.old.servers.shape job.old }
     requires room { HasRoom 256 numbers.old }
-    ensures does { OnOk result (BringsLanes V.cloud_at (λ s. range_with_len 0 s.shape.n) link.old job.old link.new job.new
+    ensures does { OnOk result
+        (BringsLanes V.cloud_at (λ s. range_with_len 0 s.shape.n) link.old job.old link.new job.new
         numbers.old numbers.new) }
     ensures cut { OnErr result (CutsJob V.cloud_at (λ s. range_with_len 0 s.shape.n) link.old job.old link.new) }
     ensures grows { Grows 256 numbers.old numbers.new }
@@ -164,10 +168,12 @@ fn finish_job<V: Shelf>(
 ) -> Result<(), NoMemory>
     requires reached { IsReached link.old.servers.shape job.old }
     requires room { HasRoom 256 numbers.old }
-    ensures makes { OnOk result ((begun : ℕ → Cloud) (s : Setting) (files : List FileVersion) (script : List Event) (count : ℕ)
+    ensures makes { OnOk result ((begun : ℕ → Cloud) (s : Setting) (files : List FileVersion) (script : List Event)
+        (count : ℕ)
         → HasJob V.cloud_at begun s link.old files script count numbers.old job.old
         → HasMade V.cloud_at begun s link.new files (script ++ events.Finish count ∷ []) count numbers.new) }
-    ensures stops { OnErr result ((begun : ℕ → Cloud) (s : Setting) (files : List FileVersion) (script : List Event) (count : ℕ)
+    ensures stops { OnErr result ((begun : ℕ → Cloud) (s : Setting) (files : List FileVersion) (script : List Event)
+        (count : ℕ)
         → HasJob V.cloud_at begun s link.old files script count numbers.old job.old
         → IsStopped V.cloud_at begun s link.new (script ++ events.Finish count ∷ [])) }
     ensures grows { Grows 256 numbers.old numbers.new }

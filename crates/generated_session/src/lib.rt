@@ -10,6 +10,3 @@ mod summary;
 
 pub use generating::generate;
 pub use numbers::Numbers;
-
-#[cfg(test)]
-mod tests;

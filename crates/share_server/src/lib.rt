@@ -1,5 +1,5 @@
-//! The server of one cloud: one request in, one reply out. What changed the cloud is a list of commands that lies on its disk, and after each crash
-//! a prefix of it that has every acknowledged command.
+//! The server of one cloud: one request in, one reply out. What changed the cloud is a list of commands that lies on
+//! its disk, and after each crash a prefix of it that has every acknowledged command.
 #![tactic(auto)]
 
 pub mod laws;

@@ -30,7 +30,8 @@ fn first_difference(found: &[u8; 8], asked: &[u8; 8]) -> usize
 
 // The first place in the journal at which it has another header than was asked, and the byte there.
 fn other_header(found: &Header, asked: &Header) -> (u64, u8)
-    ensures { (place : ℕ) × (result.0 ≡ 5 + place) × (place < 8) × (found.now ≢ asked.now → DiffersAt (header_bytes found.now) (header_bytes asked.now) place result.1) }
+    ensures { (place : ℕ) × (result.0 ≡ 5 + place) × (place < 8)
+        × (found.now ≢ asked.now → DiffersAt (header_bytes found.now) (header_bytes asked.now) place result.1) }
 {
     let ours = found.bytes();
     let theirs = asked.bytes();

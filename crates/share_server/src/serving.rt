@@ -54,12 +54,21 @@ fn serve<V: Shelf>(state: &mut CloudState, shelf: &mut V, asked: &Asked<'_>, rep
     ensures does { (p : Peer) → ServesAs state.old (V.cloud_at shelf.old state.old.header.cloud.0) p
         → Does state.old state.new (V.cloud_at shelf.new state.old.header.cloud.0) p (request_of asked.now) reply.new }
     ensures images { (p : Peer) → ServesAs state.old (V.cloud_at shelf.old state.old.header.cloud.0) p
-        → ImagesSince (V.cloud_at shelf.old state.old.header.cloud.0) (V.cloud_at shelf.new state.old.header.cloud.0) state.old.header (MayBecome (serves state.old) p (request_of asked.now)) }
-    ensures moments { (list : List Command) → Agrees state.old (V.cloud_at shelf.old state.old.header.cloud.0) list → IsWithin state.old.rooms list
-        → (reply.new ≡ reply_bytes replies.Fault) ⊎ (moment (V.cloud_at shelf.new state.old.header.cloud.0) ≡ moment (V.cloud_at shelf.old state.old.header.cloud.0) + moments_of list (serves state.old list (request_of asked.now)).adds) }
-    ensures answered { Answered state.old.header.shape (request_of asked.now) state.new (V.cloud_at shelf.old state.old.header.cloud.0) (V.cloud_at shelf.new state.old.header.cloud.0) (V.faults shelf.old) (V.faults shelf.new) reply.new }
+        → ImagesSince (V.cloud_at shelf.old state.old.header.cloud.0)
+        (V.cloud_at shelf.new state.old.header.cloud.0) state.old.header
+        (MayBecome (serves state.old) p (request_of asked.now)) }
+    ensures moments { (list : List Command) → Agrees state.old (V.cloud_at shelf.old state.old.header.cloud.0) list
+        → IsWithin state.old.rooms list
+        → (reply.new ≡ reply_bytes replies.Fault)
+        ⊎ (moment (V.cloud_at shelf.new state.old.header.cloud.0)
+        ≡ moment (V.cloud_at shelf.old state.old.header.cloud.0)
+        + moments_of list (serves state.old list (request_of asked.now)).adds) }
+    ensures answered { Answered state.old.header.shape (request_of asked.now) state.new
+        (V.cloud_at shelf.old state.old.header.cloud.0) (V.cloud_at shelf.new state.old.header.cloud.0)
+        (V.faults shelf.old) (V.faults shelf.new) reply.new }
     ensures open { IsOpen state.new ⊎ (reply.new ≡ reply_bytes replies.Fault) }
-    ensures rotten { (named found : Fp) → IsReply reply.new (replies.Rotten named found) → IsFound (V.cloud_at shelf.old state.old.header.cloud.0) state.old.index (request_of asked.now) named found }
+    ensures rotten { (named found : Fp) → IsReply reply.new (replies.Rotten named found)
+        → IsFound (V.cloud_at shelf.old state.old.header.cloud.0) state.old.index (request_of asked.now) named found }
     ensures found { (named found : Fp) → IsReply reply.new (replies.Rotten named found)
         → IsFound (V.cloud_at shelf.new state.old.header.cloud.0) state.new.index (request_of asked.now) named found }
     ensures undamaged { (at byte : ℕ) → IsReply reply.new (replies.Damaged at byte) → ⊥ }
@@ -71,7 +80,8 @@ fn serve<V: Shelf>(state: &mut CloudState, shelf: &mut V, asked: &Asked<'_>, rep
     ensures untouched { (answer : Reply) → LeavesAll (request_of asked.now) answer → IsReply reply.new answer
         → (shelf.new ≡ shelf.old) × (state.new.index ≡ state.old.index) × (state.new.log ≡ state.old.log) }
     ensures no_call { IsForMemory (request_of asked.now) → (shelf.new ≡ shelf.old) × (state.new ≡ state.old) }
-    ensures call { IsCall (V.cloud_at shelf.old) (V.cloud_at shelf.new) state.old.header.cloud.0 (V.faults shelf.old) (V.faults shelf.new) }
+    ensures call { IsCall (V.cloud_at shelf.old) (V.cloud_at shelf.new) state.old.header.cloud.0 (V.faults shelf.old)
+        (V.faults shelf.new) }
 {
     number_rooms(&state.rooms);
     match dispatch(state, shelf, asked, reply) {
@@ -88,16 +98,25 @@ fn ensure_open<V: Shelf>(state: &mut CloudState, shelf: &mut V) -> Result<(), Op
     ensures open { OnOk result (IsOpen state.new) }
     ensures shut { OnErr result (state.new.log.journal.stage ≡ Shut) }
     ensures alone { IsOpen state.old → (result ≡ Ok tt) × (state.new ≡ state.old) × (shelf.new ≡ shelf.old) }
-    ensures peer { (p : Peer) → IsTrue (V.cloud_at shelf.old state.old.header.cloud.0).told → ServesAs state.old (V.cloud_at shelf.old state.old.header.cloud.0) p
+    ensures peer { (p : Peer) → IsTrue (V.cloud_at shelf.old state.old.header.cloud.0).told
+        → ServesAs state.old (V.cloud_at shelf.old state.old.header.cloud.0) p
         → (q : Peer) × ServesAs state.new (V.cloud_at shelf.new state.old.header.cloud.0) q × OpensAs p q result }
-    ensures images { (p : Peer) → IsTrue (V.cloud_at shelf.old state.old.header.cloud.0).told → ServesAs state.old (V.cloud_at shelf.old state.old.header.cloud.0) p
-        → ImagesSince (V.cloud_at shelf.old state.old.header.cloud.0) (V.cloud_at shelf.new state.old.header.cloud.0) state.old.header (MaySettleAs p) }
-    ensures error { IfErr result (λ error. MayCome error × IsUnopened state.old (V.cloud_at shelf.old state.old.header.cloud.0) (V.cloud_at shelf.new state.old.header.cloud.0) error) }
-    ensures opened { IsTrue (V.cloud_at shelf.old state.old.header.cloud.0).told → ¬ IsOpen state.old → OnOk result (CanOpen state.old (V.cloud_at shelf.old state.old.header.cloud.0)) }
+    ensures images { (p : Peer) → IsTrue (V.cloud_at shelf.old state.old.header.cloud.0).told
+        → ServesAs state.old (V.cloud_at shelf.old state.old.header.cloud.0) p
+        → ImagesSince (V.cloud_at shelf.old state.old.header.cloud.0)
+        (V.cloud_at shelf.new state.old.header.cloud.0) state.old.header (MaySettleAs p) }
+    ensures error { IfErr result (λ error. MayCome error
+        × IsUnopened state.old (V.cloud_at shelf.old state.old.header.cloud.0)
+        (V.cloud_at shelf.new state.old.header.cloud.0) error) }
+    ensures opened { IsTrue (V.cloud_at shelf.old state.old.header.cloud.0).told → ¬ IsOpen state.old
+        → OnOk result (CanOpen state.old (V.cloud_at shelf.old state.old.header.cloud.0)) }
     ensures counts { OnFault result
-        (HasFailed (V.cloud_at shelf.old state.old.header.cloud.0) (V.cloud_at shelf.new state.old.header.cloud.0) (V.faults shelf.old) (V.faults shelf.new))
-        (KeepsCounts (V.cloud_at shelf.old state.old.header.cloud.0) (V.cloud_at shelf.new state.old.header.cloud.0) (V.faults shelf.old) (V.faults shelf.new)) }
-    ensures call { IsCall (V.cloud_at shelf.old) (V.cloud_at shelf.new) state.old.header.cloud.0 (V.faults shelf.old) (V.faults shelf.new) }
+        (HasFailed (V.cloud_at shelf.old state.old.header.cloud.0) (V.cloud_at shelf.new state.old.header.cloud.0)
+        (V.faults shelf.old) (V.faults shelf.new))
+        (KeepsCounts (V.cloud_at shelf.old state.old.header.cloud.0) (V.cloud_at shelf.new state.old.header.cloud.0)
+        (V.faults shelf.old) (V.faults shelf.new)) }
+    ensures call { IsCall (V.cloud_at shelf.old) (V.cloud_at shelf.new) state.old.header.cloud.0 (V.faults shelf.old)
+        (V.faults shelf.new) }
 {
     if state.is_open() {
         return Ok(());
@@ -121,13 +140,24 @@ pub(crate) fn answer<V: Shelf>(
     requires has { HasRecipe state.old.header.shape (request_of asked.now) }
     ensures settled { IsSettled state.new }
     ensures same { IsSameServer state.old state.new }
-    ensures exec { (p : Peer) → IsTrue (V.cloud_at shelf.old state.old.header.cloud.0).told → ServesAs state.old (V.cloud_at shelf.old state.old.header.cloud.0) p
-        → Executes state.old state.new (V.cloud_at shelf.new state.old.header.cloud.0) p (request_of asked.now) reply.new }
-    ensures images { (p : Peer) → IsTrue (V.cloud_at shelf.old state.old.header.cloud.0).told → ServesAs state.old (V.cloud_at shelf.old state.old.header.cloud.0) p
-        → ImagesSince (V.cloud_at shelf.old state.old.header.cloud.0) (V.cloud_at shelf.new state.old.header.cloud.0) state.old.header (MayBecome (serves state.old) p (request_of asked.now)) }
-    ensures moments { (list : List Command) → IsOpen state.old → Agrees state.old (V.cloud_at shelf.old state.old.header.cloud.0) list → IsWithin state.old.rooms list
-        → (reply.new ≡ reply_bytes replies.Fault) ⊎ (moment (V.cloud_at shelf.new state.old.header.cloud.0) ≡ moment (V.cloud_at shelf.old state.old.header.cloud.0) + moments_of list (serves state.old list (request_of asked.now)).adds) }
-    ensures answered { Answered state.old.header.shape (request_of asked.now) state.new (V.cloud_at shelf.old state.old.header.cloud.0) (V.cloud_at shelf.new state.old.header.cloud.0) (V.faults shelf.old) (V.faults shelf.new) reply.new }
+    ensures exec { (p : Peer) → IsTrue (V.cloud_at shelf.old state.old.header.cloud.0).told
+        → ServesAs state.old (V.cloud_at shelf.old state.old.header.cloud.0) p
+        → Executes state.old state.new (V.cloud_at shelf.new state.old.header.cloud.0) p
+        (request_of asked.now) reply.new }
+    ensures images { (p : Peer) → IsTrue (V.cloud_at shelf.old state.old.header.cloud.0).told
+        → ServesAs state.old (V.cloud_at shelf.old state.old.header.cloud.0) p
+        → ImagesSince (V.cloud_at shelf.old state.old.header.cloud.0)
+        (V.cloud_at shelf.new state.old.header.cloud.0) state.old.header
+        (MayBecome (serves state.old) p (request_of asked.now)) }
+    ensures moments { (list : List Command) → IsOpen state.old
+        → Agrees state.old (V.cloud_at shelf.old state.old.header.cloud.0) list → IsWithin state.old.rooms list
+        → (reply.new ≡ reply_bytes replies.Fault)
+        ⊎ (moment (V.cloud_at shelf.new state.old.header.cloud.0)
+        ≡ moment (V.cloud_at shelf.old state.old.header.cloud.0)
+        + moments_of list (serves state.old list (request_of asked.now)).adds) }
+    ensures answered { Answered state.old.header.shape (request_of asked.now) state.new
+        (V.cloud_at shelf.old state.old.header.cloud.0) (V.cloud_at shelf.new state.old.header.cloud.0)
+        (V.faults shelf.old) (V.faults shelf.new) reply.new }
     ensures rotten { (named found : Fp) → IsOpen state.old → IsReply reply.new (replies.Rotten named found)
         → IsFound (V.cloud_at shelf.old state.old.header.cloud.0) state.old.index (request_of asked.now) named found }
     ensures found { (named found : Fp) → IsReply reply.new (replies.Rotten named found)
@@ -141,11 +171,18 @@ pub(crate) fn answer<V: Shelf>(
     ensures untouched { (answer : Reply) → IsOpen state.old → LeavesAll (request_of asked.now) answer
         → IsReply reply.new answer
         → (shelf.new ≡ shelf.old) × (state.new.index ≡ state.old.index) × (state.new.log ≡ state.old.log) }
-    ensures no_call { IsOpen state.old → IsForMemory (request_of asked.now) → (shelf.new ≡ shelf.old) × (state.new ≡ state.old) }
-    ensures refusals { IsOpen state.new ⊎ ((reply.new ≡ reply_bytes replies.Fault) ⊎ Refused state.old (V.cloud_at shelf.old state.old.header.cloud.0) (V.cloud_at shelf.new state.old.header.cloud.0) reply.new) }
+    ensures no_call { IsOpen state.old → IsForMemory (request_of asked.now)
+        → (shelf.new ≡ shelf.old) × (state.new ≡ state.old) }
+    ensures refusals { IsOpen state.new
+        ⊎ ((reply.new ≡ reply_bytes replies.Fault)
+        ⊎ Refused state.old (V.cloud_at shelf.old state.old.header.cloud.0)
+        (V.cloud_at shelf.new state.old.header.cloud.0) reply.new) }
     ensures closed { IsTrue (V.cloud_at shelf.old state.old.header.cloud.0).told → ¬ IsOpen state.old
-        → CanOpen state.old (V.cloud_at shelf.old state.old.header.cloud.0) ⊎ Refused state.old (V.cloud_at shelf.old state.old.header.cloud.0) (V.cloud_at shelf.new state.old.header.cloud.0) reply.new }
-    ensures call { IsCall (V.cloud_at shelf.old) (V.cloud_at shelf.new) state.old.header.cloud.0 (V.faults shelf.old) (V.faults shelf.new) }
+        → CanOpen state.old (V.cloud_at shelf.old state.old.header.cloud.0)
+        ⊎ Refused state.old (V.cloud_at shelf.old state.old.header.cloud.0)
+        (V.cloud_at shelf.new state.old.header.cloud.0) reply.new }
+    ensures call { IsCall (V.cloud_at shelf.old) (V.cloud_at shelf.new) state.old.header.cloud.0 (V.faults shelf.old)
+        (V.faults shelf.new) }
 {
     match ensure_open(state, shelf) {
         Ok(()) => serve(state, shelf, asked, reply),

@@ -1,10 +1,10 @@
 //! Requests of three users to a server and to a cloud that is a plain list of commands: each reply is the same.
 
-use crate::asking::{Cloud, TWO, WIDE, shape};
-use crate::requests::{commit_of, fps_of, list_of, put_of, recipe_of, recipe_request};
 use cd_base::{Bytes, Fp, NoMemory, sha256};
 use frames::ReplyBuf;
 use list_link::ListLink;
+use mem_server::requests::{commit_of, fps_of, list_of, put_of, recipe_of, recipe_request};
+use mem_server::{Cloud, TWO, WIDE, shape};
 use std::alloc::Global;
 use std::test::Fail;
 use user_dedup::Link;

@@ -1,12 +1,14 @@
 //! What a server answers in turn, and how long its areas are then.
 
-use crate::asking::{Cloud, SMALL, WIDE};
-use crate::replies::{
+use cd_base::{Fp, NoMemory, sha256};
+use mem_server::replies::{
     COMMITTED, EXISTS, HELLO, KNOWN, LACKING, MALFORMED, MISSING, NO_ENTRIES, NONE_NEW, NOT_YOURS,
     ONE_NEW, UNKNOWN,
 };
-use crate::requests::{commit_of, fps_of, list_of, put_of, recipe_of, recipe_request, share_of};
-use cd_base::{Fp, NoMemory, sha256};
+use mem_server::requests::{
+    commit_of, fps_of, list_of, put_of, recipe_of, recipe_request, share_of,
+};
+use mem_server::{Cloud, SMALL, WIDE, is_stored};
 use std::alloc::Global;
 use std::test::Fail;
 
@@ -65,30 +67,6 @@ fn an_empty_file(rt: HostRuntime) -> Result<(), Fail> {
     drop(cloud);
     assert!(rt; well?);
     Ok(())
-}
-
-/// Whether a user stores a share and a recipe of it, and gets the recipe back.
-pub fn is_stored(
-    alloc: Global,
-    cloud: &mut Cloud,
-    user: u8,
-    share: &[u8],
-) -> Result<bool, NoMemory> {
-    let fp = [sha256(share)];
-    let recipe = recipe_of(alloc, 5, &fp)?;
-    let commit = commit_of(alloc, user, 1, 1, recipe.as_slice())?;
-    let query = fps_of(alloc, 2, user, &fp)?;
-    let put = put_of(alloc, user, &[share, share])?;
-    let well = cloud.answers(&[
-        (commit.as_slice(), LACKING),
-        (query.as_slice(), UNKNOWN),
-        (put.as_slice(), ONE_NEW),
-        (query.as_slice(), KNOWN),
-        (commit.as_slice(), COMMITTED),
-    ]);
-    let get = recipe_request(alloc, user, 1, 1)?;
-    let reply = cloud.ask(get.as_slice());
-    Ok(well && reply.starts_with(&[0x87]) && reply.ends_with(recipe.as_slice()))
 }
 
 fn are_stored(alloc: Global, cloud: &mut Cloud) -> Result<bool, NoMemory> {

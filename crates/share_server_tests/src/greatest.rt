@@ -1,9 +1,11 @@
 //! The greatest requests and replies.
 
-use crate::asking::{Cloud, WIDE};
-use crate::replies::{COMMITTED, MOST_NEW, NO_ENTRIES, NOT_YOURS, full_reply};
-use crate::requests::{commit_of, fps_of, list_of, put_many, recipe_of, recipe_request, share_of};
 use cd_base::{Bytes, Fp, NoMemory, Rooms, sha256};
+use mem_server::replies::{COMMITTED, MOST_NEW, NO_ENTRIES, NOT_YOURS, full_reply};
+use mem_server::requests::{
+    commit_of, fps_of, list_of, put_many, recipe_of, recipe_request, share_of,
+};
+use mem_server::{Cloud, WIDE};
 use std::alloc::Global;
 use std::test::Fail;
 

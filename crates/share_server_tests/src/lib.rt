@@ -6,18 +6,6 @@ mod alike;
 #[cfg(test)]
 mod answers;
 #[cfg(test)]
-mod asking;
-#[cfg(test)]
-mod crashes;
-#[cfg(test)]
-mod damage;
-#[cfg(test)]
 mod greatest;
 #[cfg(test)]
-mod replies;
-#[cfg(test)]
-mod requests;
-#[cfg(test)]
 mod rooms;
-#[cfg(test)]
-mod small;

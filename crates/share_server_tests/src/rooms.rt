@@ -1,9 +1,9 @@
 //! Each room full by one.
 
-use crate::asking::{Cloud, SMALL, WIDE};
-use crate::replies::{COMMITTED, Full, TWO_NEW, full_reply};
-use crate::requests::{commit_of, put_of, recipe_of};
 use cd_base::{NoMemory, Rooms};
+use mem_server::replies::{COMMITTED, Full, TWO_NEW, full_reply};
+use mem_server::requests::{commit_of, put_of, recipe_of};
+use mem_server::{Cloud, SMALL, WIDE};
 use std::alloc::Global;
 use std::test::Fail;
 
@@ -77,8 +77,8 @@ fn the_least_rooms_of_two_puts(rt: HostRuntime) -> Result<(), Fail> {
     Ok(())
 }
 
-// Whether a server with these limits of Files, Recipes and Journal takes a Commit, answers the next one so, and takes the first again,
-// which needs no room.
+// Whether a server with these limits of Files, Recipes and Journal takes a Commit, answers the next one so, and takes
+// the first again, which needs no room.
 fn is_full(
     alloc: Global,
     commit: &[u8],

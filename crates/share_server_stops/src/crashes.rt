@@ -1,10 +1,11 @@
 //! A cloud that stops in each device call of a command, of a beginning and of an opening.
 
-use crate::asking::{Cloud, SMALL, TWO, WIDE, server_of};
-use crate::replies::{COMMITTED, FAULT, HELLO, NONE_NEW, ONE_NEW};
-use crate::requests::{commit_of, put_of, recipe_of};
+use crate::damage::empty_commit;
 use cd_base::{Bytes, NoMemory};
 use cd_edges::{Area, Shelf};
+use mem_server::replies::{COMMITTED, FAULT, HELLO, NONE_NEW, ONE_NEW};
+use mem_server::requests::put_of;
+use mem_server::{Cloud, SMALL, TWO, WIDE, server_of};
 use share_server::{OpenErr, Server};
 use std::alloc::Global;
 use std::test::Fail;
@@ -53,32 +54,55 @@ fn stops(
 }
 
 // Whether a command stops so at each stop.
-fn command_stops(
-    alloc: Global,
+fn all_stop(
+    cloud: &mut Cloud,
+    other: &mut Server,
     command: &[u8],
     replies: (&'static [u8], &'static [u8]),
-) -> Result<bool, Fail> {
-    let mut cloud = Cloud::make(alloc, 10 * SMALL, WIDE)?;
-    let mut other = server_of(alloc, WIDE)?;
+) -> bool {
     let mut well = true;
     for stop in STOPS {
-        well = stops(&mut cloud, &mut other, stop, command, replies) && well;
+        well = stops(cloud, other, stop, command, replies) && well;
     }
-    Ok(well)
+    well
+}
+
+// Whether it does, where a server of its own looks.
+fn command_stops(
+    alloc: Global,
+    cloud: &mut Cloud,
+    command: &[u8],
+    replies: (&'static [u8], &'static [u8]),
+) -> Result<bool, NoMemory> {
+    let mut other = server_of(alloc, WIDE)?;
+    Ok(all_stop(cloud, &mut other, command, replies))
+}
+
+fn put_stops(alloc: Global, cloud: &mut Cloud) -> Result<bool, NoMemory> {
+    let put = a_put(alloc)?;
+    command_stops(alloc, cloud, put.as_slice(), (ONE_NEW, NONE_NEW))
+}
+
+fn commit_stops(alloc: Global, cloud: &mut Cloud) -> Result<bool, NoMemory> {
+    let commit = empty_commit(alloc)?;
+    command_stops(alloc, cloud, commit.as_slice(), (COMMITTED, COMMITTED))
 }
 
 #[test]
 fn stops_in_a_put(rt: HostRuntime) -> Result<(), Fail> {
-    let put = a_put(rt.alloc())?;
-    assert!(rt; command_stops(rt.alloc(), put.as_slice(), (ONE_NEW, NONE_NEW))?);
+    let mut cloud = Cloud::make(rt.alloc(), 10 * SMALL, WIDE)?;
+    let well = put_stops(rt.alloc(), &mut cloud);
+    drop(cloud);
+    assert!(rt; well?);
     Ok(())
 }
 
 #[test]
 fn stops_in_a_commit(rt: HostRuntime) -> Result<(), Fail> {
-    let recipe = recipe_of(rt.alloc(), 5, &[])?;
-    let commit = commit_of(rt.alloc(), 7, 1, 1, recipe.as_slice())?;
-    assert!(rt; command_stops(rt.alloc(), commit.as_slice(), (COMMITTED, COMMITTED))?);
+    let mut cloud = Cloud::make(rt.alloc(), 10 * SMALL, WIDE)?;
+    let well = commit_stops(rt.alloc(), &mut cloud);
+    drop(cloud);
+    assert!(rt; well?);
     Ok(())
 }
 
@@ -135,15 +159,21 @@ fn opens_again(cloud: &mut Cloud, call: u32, put: &[u8]) -> bool {
     cleared && stopped && cloud.answers(&[(put, FAULT), (put, NONE_NEW)])
 }
 
+fn openings_stop(alloc: Global, cloud: &mut Cloud) -> Result<bool, NoMemory> {
+    let put = a_put(alloc)?;
+    let mut well = true;
+    for call in 1..4 {
+        well = opens_again(cloud, call, put.as_slice()) && well;
+    }
+    Ok(well)
+}
+
 #[test]
 fn stops_in_an_opening(rt: HostRuntime) -> Result<(), Fail> {
-    let put = a_put(rt.alloc())?;
     let mut cloud = Cloud::make(rt.alloc(), SMALL, WIDE)?;
-    let first = opens_again(&mut cloud, 1, put.as_slice());
-    let second = opens_again(&mut cloud, 2, put.as_slice());
-    let third = opens_again(&mut cloud, 3, put.as_slice());
+    let well = openings_stop(rt.alloc(), &mut cloud);
     drop(cloud);
-    assert!(rt; first && second && third);
+    assert!(rt; well?);
     Ok(())
 }
 

@@ -1,9 +1,9 @@
 //! Small sessions over four clouds in memory. The numbers were computed apart, from the rule of the files alone.
 
-use crate::generate;
 use cd_base::CloudNo;
 use cd_edges::{Area, Shelf};
 use cd_fakes::{MemShelf, MemSink};
+use generated_session::generate;
 use replay_core::ReplayEnd;
 use std::alloc::Global;
 use std::test::Fail;

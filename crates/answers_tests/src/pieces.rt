@@ -1,6 +1,6 @@
 //! Texts in one piece and in many.
 
-use crate::Answer;
+use answers::Answer;
 use cd_base::{Bytes, CloudNo};
 use cd_fakes::MemSink;
 use std::alloc::Global;

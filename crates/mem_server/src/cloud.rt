@@ -2,14 +2,14 @@
 
 ghost use Rattle.std.specs.Prelude.{◌≡◌};
 
-use cd_base::{CloudNo, Rooms, Shape};
+use cd_base::{CloudNo, NoMemory, Rooms, Shape};
 use cd_edges::{Area, Shelf};
 use cd_fakes::MemShelf;
 use frames::ReplyBuf;
 use share_server::{OpenErr, Server};
 use std::alloc::Global;
-use std::test::Fail;
 
+/// The number of the cloud.
 pub const TWO: CloudNo = CloudNo(2);
 
 /// Rooms that these tests don't fill.
@@ -25,6 +25,7 @@ pub const WIDE: Rooms = Rooms {
 /// Room for a few bytes in each area of a cloud.
 pub const SMALL: u64 = 1_000;
 
+/// The shape of the store.
 pub fn shape() -> Shape
     ensures { result.n ≡ 4 }
 {
@@ -34,29 +35,31 @@ pub fn shape() -> Shape
 /// A content and the reply to it.
 pub type Row<'a> = (&'a [u8], &'a [u8]);
 
-/// A closed server with these rooms.
-pub fn server_of(alloc: Global, rooms: Rooms) -> Result<Server, Fail> {
+/// A closed server with these rooms, and with the greatest where they are greater. The only error is want of memory.
+pub fn server_of(alloc: Global, rooms: Rooms) -> Result<Server, NoMemory> {
     let greatest = Rooms::greatest();
-    if rooms.shares > greatest.shares
-        || rooms.recipes > greatest.recipes
-        || rooms.journal > greatest.journal
-    {
-        return Err(Fail::new("too much room"));
-    }
-    Ok(Server::make(alloc, TWO, shape(), rooms)?)
+    let rooms = Rooms {
+        shares: rooms.shares.min(greatest.shares),
+        recipes: rooms.recipes.min(greatest.recipes),
+        journal: rooms.journal.min(greatest.journal),
+        ..rooms
+    };
+    Server::make(alloc, TWO, shape(), rooms)
 }
 
 /// A cloud, its server and that server's last reply.
 #[derive(Drop)]
 pub struct Cloud {
+    /// The clouds in memory, of which it is the third.
     pub shelf: MemShelf,
     reply: ReplyBuf,
     server: Server,
 }
 
 impl Cloud {
-    /// An empty cloud with so much room in each area, and a closed server with these rooms.
-    pub fn make(alloc: Global, room: u64, rooms: Rooms) -> Result<Cloud, Fail> {
+    /// An empty cloud with so much room in each area, and a closed server with these rooms. The only error is want of
+    /// memory.
+    pub fn make(alloc: Global, room: u64, rooms: Rooms) -> Result<Cloud, NoMemory> {
         let shelf = MemShelf::of(alloc, 3, room, 5_000, &[])?;
         let reply = ReplyBuf::make(alloc)?;
         let server = server_of(alloc, rooms)?;
@@ -67,7 +70,7 @@ impl Cloud {
         })
     }
 
-    /// The reply to a content.
+    /// The reply to a content: of 5,000,000 bytes or more the last one, since nothing is asked then.
     pub fn ask(&mut self, content: &[u8]) -> &[u8] {
         if content.len() < 5_000_000 {
             self.server
@@ -86,7 +89,7 @@ impl Cloud {
         true
     }
 
-    /// Opens the cloud.
+    /// Opens the cloud, as `Server::reopen`.
     pub fn reopen(&mut self, begin: bool) -> Result<u64, OpenErr> {
         self.server.reopen(&mut self.shelf, begin)
     }
@@ -96,7 +99,7 @@ impl Cloud {
         self.server.close();
     }
 
-    /// Closes it and makes it empty.
+    /// Closes it and makes it empty. Whether that was done.
     pub fn is_cleared(&mut self) -> bool {
         self.server.close();
         self.shelf.fresh(TWO).is_ok()
@@ -107,6 +110,7 @@ impl Cloud {
         self.shelf.arm(TWO, call, keep);
     }
 
+    // The length of an area, or the greatest number where the device fails.
     fn len(&mut self, area: Area) -> u64 {
         match self.shelf.len(TWO, area) {
             Ok(len) => len,
@@ -114,7 +118,7 @@ impl Cloud {
         }
     }
 
-    /// The lengths of Journal, Shares and Recipes.
+    /// The lengths of Journal, Shares and Recipes: of each the greatest number where the device fails.
     pub fn lengths(&mut self) -> (u64, u64, u64) {
         (
             self.len(Area::Journal),

@@ -1,0 +1,5 @@
+//! Generated sessions over clouds in memory.
+#![tactic(auto)]
+
+#[cfg(test)]
+mod small;
