@@ -47,8 +47,8 @@ pub fn link(alloc: Global, shelf: &mut MemShelf) -> Result<LocalLink<'_, MemShel
     LocalLink::over(alloc, shelf, shape(), rooms())
 }
 
-/// The upload of a user's first version of a file.
-pub fn job(alloc: Global, user: u32, file: &[u8]) -> Result<Job, Fail> {
+// The upload of a user's first version of a file.
+fn job(alloc: Global, user: u32, file: &[u8]) -> Result<Job, Fail> {
     if file.len() > 1_000 || !is_path(PATH) {
         return Err(Fail::new("no such file"));
     }
@@ -75,8 +75,8 @@ pub fn have_commands(link: &mut LocalLink<'_, MemShelf>, commands: u64) -> bool 
     true
 }
 
-/// Asks the lane's request once, and takes the reply unless the ask is lost. False where the lane has no request.
-pub fn step(
+// Asks the lane's request once, and takes the reply unless the ask is lost. False where the lane has no request.
+fn step(
     job: &mut Job,
     link: &mut LocalLink<'_, MemShelf>,
     lane: u8,
@@ -99,20 +99,49 @@ pub fn step(
     Ok(true)
 }
 
-/// Steps a lane to its end.
-pub fn finish(
-    job: &mut Job,
-    link: &mut LocalLink<'_, MemShelf>,
-    lane: u8,
-    out: &mut Bytes,
-    reply: &mut ReplyBuf,
-) -> Result<(), Fail> {
+/// An upload, its last request and the last reply.
+#[derive(Drop)]
+pub struct Upload {
+    pub job: Job,
+    pub out: Bytes,
+    pub reply: ReplyBuf,
+}
+
+/// The upload of a user's first version of a file, none of which is sent yet.
+pub fn upload_of(alloc: Global, user: u32, file: &[u8]) -> Result<Upload, Fail> {
+    let reply = ReplyBuf::make(alloc)?;
+    let out = Bytes::new(alloc);
+    let job = job(alloc, user, file)?;
+    Ok(Upload { job, out, reply })
+}
+
+/// Takes a step of a lane, as `step`.
+pub fn go(upload: &mut Upload, link: &mut LocalLink<'_, MemShelf>, lane: u8) -> Result<bool, Fail> {
+    step(
+        &mut upload.job,
+        link,
+        lane,
+        &mut upload.out,
+        &mut upload.reply,
+    )
+}
+
+// Steps a lane to its end.
+fn finish(upload: &mut Upload, link: &mut LocalLink<'_, MemShelf>, lane: u8) -> Result<(), Fail> {
     for _ in 0..20 {
-        if !step(job, link, lane, out, reply)? {
+        if !go(upload, link, lane)? {
             return Ok(());
         }
     }
     Err(Fail::new("no end"))
+}
+
+/// Steps each lane to its end, one after another; whether the file is stored then.
+pub fn go_on(upload: &mut Upload, link: &mut LocalLink<'_, MemShelf>) -> Result<bool, Fail> {
+    for lane in 0..4 {
+        finish(upload, link, lane)?;
+    }
+    Ok(upload.job.stored())
 }
 
 /// Whether a file of a user goes to all clouds, one after another.
@@ -122,13 +151,8 @@ pub fn is_stored(
     user: u32,
     file: &[u8],
 ) -> Result<bool, Fail> {
-    let mut job = job(alloc, user, file)?;
-    let mut out = Bytes::new(alloc);
-    let mut reply = ReplyBuf::make(alloc)?;
-    for lane in 0..4 {
-        finish(&mut job, link, lane, &mut out, &mut reply)?;
-    }
-    Ok(job.stored())
+    let mut upload = upload_of(alloc, user, file)?;
+    go_on(&mut upload, link)
 }
 
 /// How many bytes the journal, the shares and the recipes of a cloud have.
@@ -170,16 +194,15 @@ fn are_below(n: u8, clouds: &[CloudNo]) -> bool
     }
 }
 
-/// What a restore from these clouds answers, and what it appends.
-pub fn restored(
+// What a restore from these clouds answers, and what it appends.
+fn restored_from(
     alloc: Global,
     link: &mut LocalLink<'_, MemShelf>,
     user: u32,
-    numbers: &[u8],
+    clouds: &Clouds,
     out: &mut Bytes,
 ) -> Result<Result<(), RestoreErr>, Fail> {
     let shape = link.shape();
-    let clouds = clouds_of(alloc, numbers)?;
     if clouds.len() != shape.k as usize
         || !are_below(shape.n, clouds.as_slice())
         || !is_path(PATH)
@@ -193,7 +216,32 @@ pub fn restored(
         UserId(user),
         PATH,
         Version(1),
-        &clouds,
+        clouds,
         out,
     ))
+}
+
+/// What a restore from the clouds of these numbers answers, and what it appends.
+pub fn restored(
+    alloc: Global,
+    link: &mut LocalLink<'_, MemShelf>,
+    user: u32,
+    numbers: &[u8],
+    out: &mut Bytes,
+) -> Result<Result<(), RestoreErr>, Fail> {
+    let clouds = clouds_of(alloc, numbers)?;
+    restored_from(alloc, link, user, &clouds, out)
+}
+
+/// Whether it answers so, and these are the bytes then.
+pub fn is_restored(
+    alloc: Global,
+    link: &mut LocalLink<'_, MemShelf>,
+    numbers: &[u8],
+    out: &mut Bytes,
+    wanted: (Result<(), RestoreErr>, &[u8]),
+) -> Result<bool, Fail> {
+    let (answer, bytes) = wanted;
+    let found = restored(alloc, link, 7, numbers, out)?;
+    Ok(found == answer && out.as_slice() == bytes)
 }

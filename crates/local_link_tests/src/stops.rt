@@ -1,11 +1,13 @@
 //! Clouds that are cut, opened again, given less room and replaced.
 
+ghost use Rattle.cloud_state.specs.State.{AreRooms};
+
 use crate::ground::{
-    clear, finish, have_commands, is_stored, job, lengths, link, restored, rooms, shelf, step,
+    Upload, clear, go, go_on, have_commands, is_restored, is_stored, lengths, link, restored,
+    rooms, shelf, upload_of,
 };
 use cd_base::{Bytes, CloudNo, Rooms};
 use cd_fakes::MemShelf;
-use frames::ReplyBuf;
 use local_link::LocalLink;
 use share_server::OpenErr;
 use std::alloc::Global;
@@ -31,90 +33,166 @@ fn cut(link: &mut LocalLink<'_, MemShelf>, calls: u32, keep: u32) -> Result<(), 
     Ok(())
 }
 
+fn is_opened(link: &mut LocalLink<'_, MemShelf>) -> Result<bool, Fail> {
+    Ok(opened(link, true)?.is_ok())
+}
+
+// Steps the lane of cloud 1, and opens the cloud behind it: again, where that fails.
+fn go_and_open(upload: &mut Upload, link: &mut LocalLink<'_, MemShelf>) -> Result<(), Fail> {
+    go(upload, link, 1)?;
+    if is_opened(link)? {
+        return Ok(());
+    }
+    if is_opened(link)? {
+        return Ok(());
+    }
+    Err(Fail::new("not opened"))
+}
+
 // Uploads a byte with this write or sync of cloud 1 cut, opens the cloud behind each step and goes on; whether the file is stored.
+fn goes_on_cut(
+    upload: &mut Upload,
+    link: &mut LocalLink<'_, MemShelf>,
+    calls: u32,
+    keep: u32,
+) -> Result<bool, Fail> {
+    cut(link, calls, keep)?;
+    for _ in 0..5 {
+        go_and_open(upload, link)?;
+    }
+    let stored = go_on(upload, link)?;
+    cut(link, 0, 0)?;
+    Ok(stored)
+}
+
+// The same from clouds that hold nothing; whether each has both commands then.
 fn is_stored_cut(
     alloc: Global,
     link: &mut LocalLink<'_, MemShelf>,
     calls: u32,
     keep: u32,
 ) -> Result<bool, Fail> {
-    let mut job = job(alloc, 7, b"A")?;
-    let mut out = Bytes::new(alloc);
-    let mut reply = ReplyBuf::make(alloc)?;
-    cut(link, calls, keep)?;
-    for _ in 0..5 {
-        step(&mut job, link, 1, &mut out, &mut reply)?;
-        if opened(link, true)?.is_err() && opened(link, true)?.is_err() {
-            return Err(Fail::new("not opened"));
+    let cleared = clear(link);
+    let mut upload = upload_of(alloc, 7, b"A")?;
+    let stored = goes_on_cut(&mut upload, link, calls, keep);
+    drop(upload);
+    Ok(stored? && cleared && have_commands(link, 2))
+}
+
+// The first call that isn't cut so.
+fn first_wrong(
+    alloc: Global,
+    link: &mut LocalLink<'_, MemShelf>,
+) -> Result<Option<(u32, u32)>, Fail> {
+    for calls in 1..40 {
+        for keep in [0, 3] {
+            if !is_stored_cut(alloc, link, calls, keep)? {
+                return Ok(Some((calls, keep)));
+            }
         }
     }
-    for lane in 0..4 {
-        finish(&mut job, link, lane, &mut out, &mut reply)?;
-    }
-    cut(link, 0, 0)?;
-    Ok(job.stored())
+    Ok(None)
+}
+
+fn first_wrong_of(alloc: Global, shelf: &mut MemShelf) -> Result<Option<(u32, u32)>, Fail> {
+    let mut link = link(alloc, shelf)?;
+    first_wrong(alloc, &mut link)
 }
 
 #[test]
 fn each_call_cut_once(rt: HostRuntime) -> Result<(), Fail> {
     let mut shelf = shelf(rt.alloc())?;
-    {
-        let mut link = link(rt.alloc(), &mut shelf)?;
-        for calls in 1..40 {
-            for keep in [0, 3] {
-                assert!(rt; clear(&mut link));
-                assert!(rt; is_stored_cut(rt.alloc(), &mut link, calls, keep)?);
-                assert!(rt; have_commands(&mut link, 2), "call {calls}");
-            }
-        }
-    }
-    assert!(rt; lengths(&mut shelf, 1)? == [165, 11, 61]);
+    let wrong = first_wrong_of(rt.alloc(), &mut shelf);
+    let lengths = lengths(&mut shelf, 1);
+    drop(shelf);
+    assert!(rt; wrong? == None);
+    assert!(rt; lengths? == [165, 11, 61]);
     Ok(())
+}
+
+// Whether opening the cloud answers so.
+fn opens(link: &mut LocalLink<'_, MemShelf>, wanted: Result<u64, OpenErr>) -> Result<bool, Fail> {
+    Ok(opened(link, false)? == wanted)
+}
+
+fn is_replaced(link: &mut LocalLink<'_, MemShelf>) -> bool {
+    if !link.reaches(ONE) {
+        return false;
+    }
+    link.replace(ONE).is_ok()
+}
+
+// Whether the cloud isn't begun at first, has both commands behind an upload, and isn't begun once it is replaced.
+fn begins_anew(alloc: Global, link: &mut LocalLink<'_, MemShelf>) -> Result<bool, Fail> {
+    let none = opens(link, Err(OpenErr::NotBegun { len: 0 }))?;
+    let stored = is_stored(alloc, link, 7, b"A")?;
+    let begun = opens(link, Ok(2))?;
+    let replaced = is_replaced(link);
+    Ok(none && stored && begun && replaced && opens(link, Err(OpenErr::NotBegun { len: 0 }))?)
+}
+
+// Whether the other clouds give the file back then, and this one once it is stored again.
+fn gives_back(
+    alloc: Global,
+    link: &mut LocalLink<'_, MemShelf>,
+    out: &mut Bytes,
+) -> Result<bool, Fail> {
+    let begun = begins_anew(alloc, link)?;
+    let lacks = restored(alloc, link, 7, &[0, 1, 2], out)?.is_err();
+    let others = is_restored(alloc, link, &[0, 2, 3], out, (Ok(()), b"A"))?;
+    let stored = is_stored(alloc, link, 7, b"A")?;
+    let again = is_restored(alloc, link, &[0, 1, 2], out, (Ok(()), b"AA"))?;
+    Ok(begun && lacks && others && stored && again && opens(link, Ok(2))?)
+}
+
+fn is_given_back(alloc: Global, shelf: &mut MemShelf, out: &mut Bytes) -> Result<bool, Fail> {
+    let mut link = link(alloc, shelf)?;
+    gives_back(alloc, &mut link, out)
 }
 
 #[test]
 fn a_cloud_is_replaced(rt: HostRuntime) -> Result<(), Fail> {
     let mut shelf = shelf(rt.alloc())?;
-    let mut link = link(rt.alloc(), &mut shelf)?;
-    assert_eq!(rt;
-        opened(&mut link, false)?,
-        Err(OpenErr::NotBegun { len: 0 })
-    );
-    assert!(rt; is_stored(rt.alloc(), &mut link, 7, b"A")?);
-    assert_eq!(rt; opened(&mut link, false)?, Ok(2));
-    assert!(rt; link.reaches(ONE) && link.replace(ONE).is_ok());
-    assert_eq!(rt;
-        opened(&mut link, false)?,
-        Err(OpenErr::NotBegun { len: 0 })
-    );
     let mut out = Bytes::new(rt.alloc());
-    assert!(rt; restored(rt.alloc(), &mut link, 7, &[0, 1, 2], &mut out)?.is_err());
-    assert_eq!(rt;
-        restored(rt.alloc(), &mut link, 7, &[0, 2, 3], &mut out)?,
-        Ok(())
-    );
-    assert!(rt; is_stored(rt.alloc(), &mut link, 7, b"A")?);
-    assert_eq!(rt;
-        restored(rt.alloc(), &mut link, 7, &[0, 1, 2], &mut out)?,
-        Ok(())
-    );
-    assert!(rt; out.as_slice() == b"AA".as_slice());
-    assert_eq!(rt; opened(&mut link, false)?, Ok(2));
+    let well = is_given_back(rt.alloc(), &mut shelf, &mut out);
+    drop(out);
+    drop(shelf);
+    assert!(rt; well?);
     Ok(())
+}
+
+fn are_set(link: &mut LocalLink<'_, MemShelf>, rooms: Rooms) -> bool
+    requires { AreRooms rooms }
+{
+    if !link.reaches(ONE) {
+        return false;
+    }
+    link.set_rooms(ONE, rooms).is_ok()
+}
+
+// Whether the cloud with a file isn't opened in rooms for none, and is in the first ones.
+fn needs_rooms(alloc: Global, link: &mut LocalLink<'_, MemShelf>) -> Result<bool, Fail> {
+    let narrow = Rooms {
+        files: 0,
+        ..rooms()
+    };
+    let stored = is_stored(alloc, link, 7, b"A")?;
+    let set = are_set(link, narrow);
+    let refused = opened(link, false)?.is_err();
+    let reset = are_set(link, rooms());
+    Ok(stored && set && refused && reset && opens(link, Ok(2))?)
+}
+
+fn are_needed(alloc: Global, shelf: &mut MemShelf) -> Result<bool, Fail> {
+    let mut link = link(alloc, shelf)?;
+    needs_rooms(alloc, &mut link)
 }
 
 #[test]
 fn a_cloud_in_other_rooms(rt: HostRuntime) -> Result<(), Fail> {
     let mut shelf = shelf(rt.alloc())?;
-    let mut link = link(rt.alloc(), &mut shelf)?;
-    assert!(rt; is_stored(rt.alloc(), &mut link, 7, b"A")?);
-    let narrow = Rooms {
-        files: 0,
-        ..rooms()
-    };
-    assert!(rt; link.reaches(ONE) && link.set_rooms(ONE, narrow).is_ok());
-    assert!(rt; opened(&mut link, false)?.is_err());
-    assert!(rt; link.reaches(ONE) && link.set_rooms(ONE, rooms()).is_ok());
-    assert_eq!(rt; opened(&mut link, false)?, Ok(2));
+    let well = are_needed(rt.alloc(), &mut shelf);
+    drop(shelf);
+    assert!(rt; well?);
     Ok(())
 }

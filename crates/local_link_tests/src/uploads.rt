@@ -1,15 +1,14 @@
 //! Files that go to all clouds, in any order of steps and with each ask lost once.
 
-use crate::ground::{clear, have_commands, is_stored, job, lengths, link, shelf, step};
-use cd_base::Bytes;
+use crate::ground::{Upload, clear, go, have_commands, is_stored, lengths, link, shelf, upload_of};
+use cd_edges::Failed;
 use cd_fakes::MemShelf;
-use frames::ReplyBuf;
 use local_link::{Fate, LocalLink};
 use std::alloc::Global;
 use std::test::Fail;
 
 // Whether each cloud has these bytes of journal, shares and recipes.
-fn have(shelf: &mut MemShelf, wanted: [u64; 3]) -> Result<bool, Fail> {
+fn have(shelf: &mut MemShelf, wanted: [u64; 3]) -> Result<bool, Failed> {
     for cloud in 0..4 {
         if lengths(shelf, cloud)? != wanted {
             return Ok(false);
@@ -18,31 +17,87 @@ fn have(shelf: &mut MemShelf, wanted: [u64; 3]) -> Result<bool, Fail> {
     Ok(true)
 }
 
+// Whether these users' uploads of a file are stored, over one link, and the areas are so long then.
+fn are_stored(
+    alloc: Global,
+    shelf: &mut MemShelf,
+    users: &[u32],
+    file: &[u8],
+) -> Result<bool, Fail> {
+    let mut link = link(alloc, shelf)?;
+    are_stored_over(alloc, &mut link, users, file)
+}
+
+fn are_stored_over(
+    alloc: Global,
+    link: &mut LocalLink<'_, MemShelf>,
+    users: &[u32],
+    file: &[u8],
+) -> Result<bool, Fail> {
+    let mut well = true;
+    for user in users {
+        well = is_stored(alloc, link, *user, file)? && well;
+    }
+    Ok(well)
+}
+
+fn has_lengths(
+    alloc: Global,
+    shelf: &mut MemShelf,
+    users: &[u32],
+    file: &[u8],
+    wanted: [u64; 3],
+) -> Result<bool, Fail> {
+    Ok(are_stored(alloc, shelf, users, file)? && have(shelf, wanted)?)
+}
+
+// Of a byte: from one user, and then from the same one again and from another.
+fn has_lengths_of_a_byte(alloc: Global, shelf: &mut MemShelf) -> Result<bool, Fail> {
+    let one = has_lengths(alloc, shelf, &[7], b"A", [165, 11, 61])?;
+    let more = has_lengths(alloc, shelf, &[7, 8], b"A", [304, 11, 122])?;
+    Ok(one && more)
+}
+
 #[test]
 fn lengths_of_the_areas(rt: HostRuntime) -> Result<(), Fail> {
     let mut empty = shelf(rt.alloc())?;
-    {
-        let mut link = link(rt.alloc(), &mut empty)?;
-        assert!(rt; is_stored(rt.alloc(), &mut link, 7, b"")?);
-    }
-    assert!(rt; have(&mut empty, [108, 0, 25])?);
+    let well = has_lengths(rt.alloc(), &mut empty, &[7], b"", [108, 0, 25]);
+    drop(empty);
+    assert!(rt; well?);
     let mut one = shelf(rt.alloc())?;
-    {
-        let mut link = link(rt.alloc(), &mut one)?;
-        assert!(rt; is_stored(rt.alloc(), &mut link, 7, b"A")?);
-    }
-    assert!(rt; have(&mut one, [165, 11, 61])?);
-    {
-        let mut link = link(rt.alloc(), &mut one)?;
-        // again, and then by another user
-        assert!(rt; is_stored(rt.alloc(), &mut link, 7, b"A")?);
-        assert!(rt; is_stored(rt.alloc(), &mut link, 8, b"A")?);
-    }
-    assert!(rt; have(&mut one, [304, 11, 122])?);
+    let well = has_lengths_of_a_byte(rt.alloc(), &mut one);
+    drop(one);
+    assert!(rt; well?);
     Ok(())
 }
 
+// The lane of an ask, in the order that the number gives.
+fn lane_of(order: u8, ask: u8) -> u8 {
+    match order {
+        0 => ask % 4,
+        1 => 3 - ask % 4,
+        _ => ask / 2 % 4,
+    }
+}
+
 // Steps the lanes in turn, by the order that the number gives, with the ask of this number lost; whether the file is stored.
+fn goes_on(
+    upload: &mut Upload,
+    link: &mut LocalLink<'_, MemShelf>,
+    order: u8,
+    lost: u8,
+    fate: Fate,
+) -> Result<bool, Fail> {
+    for ask in 0..40u8 {
+        if ask == lost {
+            link.next_fate(fate);
+        }
+        go(upload, link, lane_of(order, ask))?;
+    }
+    Ok(upload.job.stored())
+}
+
+// The same from clouds that hold nothing; whether an ask was lost, and each cloud has both commands then.
 fn is_stored_so(
     alloc: Global,
     link: &mut LocalLink<'_, MemShelf>,
@@ -50,42 +105,43 @@ fn is_stored_so(
     lost: u8,
     fate: Fate,
 ) -> Result<bool, Fail> {
-    let mut job = job(alloc, 7, b"A")?;
-    let mut out = Bytes::new(alloc);
-    let mut reply = ReplyBuf::make(alloc)?;
-    for ask in 0..40u8 {
-        if ask == lost {
-            link.next_fate(fate);
+    let losses = link.losses();
+    let cleared = clear(link);
+    let mut upload = upload_of(alloc, 7, b"A")?;
+    let stored = goes_on(&mut upload, link, order, lost, fate);
+    drop(upload);
+    Ok(stored? && cleared && link.losses() > losses && have_commands(link, 2))
+}
+
+// The first order and ask that aren't stored so.
+fn first_wrong(
+    alloc: Global,
+    link: &mut LocalLink<'_, MemShelf>,
+) -> Result<Option<(u8, u8)>, Fail> {
+    for order in 0..3 {
+        for lost in 0..12 {
+            for fate in [Fate::LoseRequest, Fate::LoseReply] {
+                if !is_stored_so(alloc, link, order, lost, fate)? {
+                    return Ok(Some((order, lost)));
+                }
+            }
         }
-        let lane = if order == 0 {
-            ask % 4
-        } else if order == 1 {
-            3 - ask % 4
-        } else {
-            ask / 2 % 4
-        };
-        step(&mut job, link, lane, &mut out, &mut reply)?;
     }
-    Ok(job.stored())
+    Ok(None)
+}
+
+fn first_wrong_of(alloc: Global, shelf: &mut MemShelf) -> Result<Option<(u8, u8)>, Fail> {
+    let mut link = link(alloc, shelf)?;
+    first_wrong(alloc, &mut link)
 }
 
 #[test]
 fn each_ask_lost_once(rt: HostRuntime) -> Result<(), Fail> {
     let mut shelf = shelf(rt.alloc())?;
-    {
-        let mut link = link(rt.alloc(), &mut shelf)?;
-        for order in 0..3 {
-            for lost in 0..12 {
-                for fate in [Fate::LoseRequest, Fate::LoseReply] {
-                    let losses = link.losses();
-                    assert!(rt; clear(&mut link));
-                    assert!(rt; is_stored_so(rt.alloc(), &mut link, order, lost, fate)?);
-                    assert!(rt; link.losses() > losses);
-                    assert!(rt; have_commands(&mut link, 2), "order {order}, ask {lost}");
-                }
-            }
-        }
-    }
-    assert!(rt; have(&mut shelf, [165, 11, 61])?);
+    let wrong = first_wrong_of(rt.alloc(), &mut shelf);
+    let well = have(&mut shelf, [165, 11, 61]);
+    drop(shelf);
+    assert!(rt; wrong? == None);
+    assert!(rt; well?);
     Ok(())
 }

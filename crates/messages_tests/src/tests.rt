@@ -63,10 +63,7 @@ fn reply_again(alloc: Global, content: &[u8]) -> Result<bool, NoMemory> {
 
 // The content with a byte more.
 fn longer(alloc: Global, content: &[u8]) -> Result<Bytes, NoMemory> {
-    let mut more = Bytes::new(alloc);
-    more.extend(content)?;
-    more.push(0)?;
-    Ok(more)
+    joined(alloc, &[content, &[0]])
 }
 
 // The pieces as one content.
@@ -81,97 +78,157 @@ fn joined(alloc: Global, pieces: &[&[u8]]) -> Result<Bytes, NoMemory> {
 // The request is read and written again, each shorter front fails at its end, and with a byte more it fails there.
 fn request_stands(alloc: Global, pieces: &[&[u8]]) -> Result<bool, NoMemory> {
     let all = joined(alloc, pieces)?;
-    let content = all.as_slice();
-    let mut good = request_again(alloc, content)?;
+    request_content_stands(alloc, all.as_slice())
+}
+
+fn request_content_stands(alloc: Global, content: &[u8]) -> Result<bool, NoMemory> {
+    let again = request_again(alloc, content)?;
+    let end = content.len().min(1000) as u32;
+    let longer = longer_request_fault(alloc, content)?;
+    Ok(again && request_fronts_fail(alloc, content) && longer == Some(end))
+}
+
+fn request_fronts_fail(alloc: Global, content: &[u8]) -> bool {
+    let mut good = true;
     for len in 0..content.len().min(1000) {
         let (front, _) = content.split_at(len);
         good &= request_fault(alloc, front) == Some(len as u32);
     }
+    good
+}
+
+// Where the content with a byte more fails.
+fn longer_request_fault(alloc: Global, content: &[u8]) -> Result<Option<u32>, NoMemory> {
     let more = longer(alloc, content)?;
-    let end = content.len().min(1000) as u32;
-    Ok(good && request_fault(alloc, more.as_slice()) == Some(end))
+    Ok(request_fault(alloc, more.as_slice()))
 }
 
 // The same of a reply.
 fn reply_stands(alloc: Global, pieces: &[&[u8]]) -> Result<bool, NoMemory> {
     let all = joined(alloc, pieces)?;
-    let content = all.as_slice();
-    let mut good = reply_again(alloc, content)?;
+    reply_content_stands(alloc, all.as_slice())
+}
+
+fn reply_content_stands(alloc: Global, content: &[u8]) -> Result<bool, NoMemory> {
+    let again = reply_again(alloc, content)?;
+    let end = content.len().min(1000) as u32;
+    let longer = longer_reply_fault(alloc, content)?;
+    Ok(again && reply_fronts_fail(alloc, content) && longer == Some(end))
+}
+
+fn reply_fronts_fail(alloc: Global, content: &[u8]) -> bool {
+    let mut good = true;
     for len in 0..content.len().min(1000) {
         let (front, _) = content.split_at(len);
         good &= reply_fault(alloc, front) == Some(len as u32);
     }
+    good
+}
+
+// Where the content with a byte more fails.
+fn longer_reply_fault(alloc: Global, content: &[u8]) -> Result<Option<u32>, NoMemory> {
     let more = longer(alloc, content)?;
-    let end = content.len().min(1000) as u32;
-    Ok(good && reply_fault(alloc, more.as_slice()) == Some(end))
+    Ok(reply_fault(alloc, more.as_slice()))
+}
+
+const USER: &[u8] = &[0, 0, 0, 7];
+
+const NUMBER: &[u8] = &[0, 0, 0, 0, 0, 0, 1, 2];
+
+const REQUESTS: [&[&[u8]]; 7] = [
+    &[&[1]],
+    &[&[2], USER, &[0, 2], &[0xa1; 32], &[0xb2; 32]],
+    &[&[3], USER, &[0, 2, 0, 0, 0, 1, 9, 0, 0, 0, 3, 7, 8, 9]],
+    &[&[5], USER, &[0xc3; 32], NUMBER],
+    &[&[6], USER, &[0, 1], &[0xa1; 32]],
+    &[&[7], USER, &[0]],
+    &[&[7], USER, &[1], &[0xc3; 32], NUMBER],
+];
+
+// Whether these pieces are a request.
+fn is_request(alloc: Global, pieces: &[&[u8]]) -> Result<bool, NoMemory> {
+    let all = joined(alloc, pieces)?;
+    request_again(alloc, all.as_slice())
+}
+
+// Where these pieces are no request.
+fn request_fault_of(alloc: Global, pieces: &[&[u8]]) -> Result<Option<u32>, NoMemory> {
+    let all = joined(alloc, pieces)?;
+    Ok(request_fault(alloc, all.as_slice()))
 }
 
 #[test]
 fn each_request(rt: HostRuntime) -> Result<(), Fail> {
     let a = rt.alloc();
-    let user = [0, 0, 0, 7];
-    let version = [0, 0, 0, 0, 0, 0, 1, 2];
-    assert!(rt; request_stands(a, &[&[1]])?);
-    assert!(rt; request_stands(a, &[&[2], &user, &[0, 2], &[0xa1; 32], &[0xb2; 32]])?);
-    assert!(rt;
-        request_stands(
-            a,
-            &[&[3], &user, &[0, 2, 0, 0, 0, 1, 9, 0, 0, 0, 3, 7, 8, 9]]
-        )?
-    );
-    assert!(rt; request_stands(a, &[&[5], &user, &[0xc3; 32], &version])?);
-    assert!(rt; request_stands(a, &[&[6], &user, &[0, 1], &[0xa1; 32]])?);
-    assert!(rt; request_stands(a, &[&[7], &user, &[0]])?);
-    assert!(rt; request_stands(a, &[&[7], &user, &[1], &[0xc3; 32], &version])?);
-    let commit = joined(a, &[&[4], &user, &[0xc3; 32], &version, &[5, 6]])?;
-    assert!(rt; request_again(a, commit.as_slice())?);
-    let empty = joined(a, &[&[4], &user, &[0xc3; 32], &version])?;
-    assert_eq!(rt; request_fault(a, empty.as_slice()), Some(45));
+    for pieces in REQUESTS {
+        assert!(rt; request_stands(a, pieces)?);
+    }
+    assert!(rt; is_request(a, &[&[4], USER, &[0xc3; 32], NUMBER, &[5, 6]])?);
+    let empty = request_fault_of(a, &[&[4], USER, &[0xc3; 32], NUMBER])?;
+    assert_eq!(rt; empty, Some(45));
     Ok(())
 }
 
+// A content, and its wrong place.
+type Wrong = (&'static [u8], u32);
+
 #[test]
-fn wrong_fields_of_requests(rt: HostRuntime) -> Result<(), Fail> {
-    let a = rt.alloc();
-    let fault = |content: &[u8]| request_fault(a, content);
-    assert_eq!(rt; fault(&[]), Some(0));
-    assert_eq!(rt; fault(&[0]), Some(0));
-    assert_eq!(rt; fault(&[8, 0, 0, 0, 7]), Some(0));
-    assert_eq!(rt; fault(&[2, 0, 0, 0, 7, 0, 0]), Some(5));
-    assert_eq!(rt; fault(&[2, 0, 0, 0, 7, 1, 1]), Some(5));
-    assert_eq!(rt; fault(&[3, 0, 0, 0, 7, 0, 0]), Some(5));
-    assert_eq!(rt; fault(&[3, 0, 0, 0, 7, 1, 1]), Some(5));
-    assert_eq!(rt; fault(&[3, 0, 0, 0, 7, 0, 1, 0, 0, 0, 0]), Some(7));
-    assert_eq!(rt;
-        fault(&[3, 0, 0, 0, 7, 0, 2, 0, 0, 0, 1, 5, 0, 0, 0x20, 0x11]),
-        Some(12)
-    );
-    assert_eq!(rt; fault(&[6, 0, 0, 0, 7, 0, 0]), Some(5));
-    assert_eq!(rt; fault(&[7, 0, 0, 0, 7, 2]), Some(5));
-    Ok(())
+fn wrong_fields_of_requests(rt: HostRuntime) {
+    let rows: [Wrong; 11] = [
+        (&[], 0),
+        (&[0], 0),
+        (&[8, 0, 0, 0, 7], 0),
+        (&[2, 0, 0, 0, 7, 0, 0], 5),
+        (&[2, 0, 0, 0, 7, 1, 1], 5),
+        (&[3, 0, 0, 0, 7, 0, 0], 5),
+        (&[3, 0, 0, 0, 7, 1, 1], 5),
+        (&[3, 0, 0, 0, 7, 0, 1, 0, 0, 0, 0], 7),
+        (&[3, 0, 0, 0, 7, 0, 2, 0, 0, 0, 1, 5, 0, 0, 0x20, 0x11], 12),
+        (&[6, 0, 0, 0, 7, 0, 0], 5),
+        (&[7, 0, 0, 0, 7, 2], 5),
+    ];
+    for (content, at) in rows {
+        assert_eq!(rt; request_fault(rt.alloc(), content), Some(at));
+    }
+}
+
+const REPLIES: [&[&[u8]]; 22] = [
+    &[&[0x84]],
+    &[&[0x85]],
+    &[&[0x88]],
+    &[&[0x8d]],
+    &[&[0x91]],
+    &[&[0x8c, 1], NUMBER, NUMBER, NUMBER],
+    &[&[0x8c, 2], NUMBER, NUMBER, NUMBER],
+    &[&[0x8c, 3], NUMBER, NUMBER, NUMBER],
+    &[&[0x8c, 4], NUMBER, NUMBER, NUMBER],
+    &[&[0x8c, 5], NUMBER, NUMBER, NUMBER],
+    &[&[0x8c, 6], NUMBER, NUMBER, NUMBER],
+    &[&[0x81, 4, 3, 2, 1]],
+    &[&[0x82, 0, 3, 1, 0, 1]],
+    &[&[0x83, 1, 0]],
+    &[&[0x86, 0, 0, 1, 2]],
+    &[&[0x89, 0, 2, 0, 0, 0, 1, 9, 0, 0, 0, 3, 7, 8, 9]],
+    &[&[0x8a, 1, 2]],
+    &[&[0x8b, 0, 0]],
+    &[&[0x8b, 0, 2], &[1; 32], NUMBER, &[2; 32], &[0; 8]],
+    &[&[0x8e], NUMBER, &[255]],
+    &[&[0x8f], &[0xa1; 32], &[0xb2; 32]],
+    &[&[0x90, 0, 0, 0, 45]],
+];
+
+// Where these pieces are no reply.
+fn reply_fault_of(alloc: Global, pieces: &[&[u8]]) -> Result<Option<u32>, NoMemory> {
+    let all = joined(alloc, pieces)?;
+    Ok(reply_fault(alloc, all.as_slice()))
 }
 
 #[test]
 fn each_reply(rt: HostRuntime) -> Result<(), Fail> {
     let a = rt.alloc();
-    let number = [0, 0, 0, 0, 0, 0, 1, 2];
-    for kind in [0x84, 0x85, 0x88, 0x8d, 0x91] {
-        assert!(rt; reply_stands(a, &[&[kind]])?);
+    for pieces in REPLIES {
+        assert!(rt; reply_stands(a, pieces)?);
     }
-    for room in 1..7 {
-        assert!(rt; reply_stands(a, &[&[0x8c, room], &number, &number, &number])?);
-    }
-    assert!(rt; reply_stands(a, &[&[0x81, 4, 3, 2, 1]])?);
-    assert!(rt; reply_stands(a, &[&[0x82, 0, 3, 1, 0, 1]])?);
-    assert!(rt; reply_stands(a, &[&[0x83, 1, 0]])?);
-    assert!(rt; reply_stands(a, &[&[0x86, 0, 0, 1, 2]])?);
-    assert!(rt; reply_stands(a, &[&[0x89, 0, 2, 0, 0, 0, 1, 9, 0, 0, 0, 3, 7, 8, 9]])?);
-    assert!(rt; reply_stands(a, &[&[0x8a, 1, 2]])?);
-    assert!(rt; reply_stands(a, &[&[0x8b, 0, 0]])?);
-    assert!(rt; reply_stands(a, &[&[0x8b, 0, 2], &[1; 32], &number, &[2; 32], &[0; 8]])?);
-    assert!(rt; reply_stands(a, &[&[0x8e], &number, &[255]])?);
-    assert!(rt; reply_stands(a, &[&[0x8f], &[0xa1; 32], &[0xb2; 32]])?);
-    assert!(rt; reply_stands(a, &[&[0x90, 0, 0, 0, 45]])?);
     assert!(rt; reply_again(a, &[0x87, 5, 6])?);
     assert_eq!(rt; reply_fault(a, &[0x87]), Some(1));
     Ok(())
@@ -180,22 +237,26 @@ fn each_reply(rt: HostRuntime) -> Result<(), Fail> {
 #[test]
 fn wrong_fields_of_replies(rt: HostRuntime) -> Result<(), Fail> {
     let a = rt.alloc();
-    let fault = |content: &[u8]| reply_fault(a, content);
-    assert_eq!(rt; fault(&[]), Some(0));
-    assert_eq!(rt; fault(&[0x80]), Some(0));
-    assert_eq!(rt; fault(&[0x92]), Some(0));
-    assert_eq!(rt; fault(&[0x81, 4, 3, 2, 2]), Some(4));
-    assert_eq!(rt; fault(&[0x82, 0, 0]), Some(1));
-    assert_eq!(rt; fault(&[0x82, 0, 3, 1, 2]), Some(4));
-    assert_eq!(rt; fault(&[0x83, 1, 1]), Some(1));
-    assert_eq!(rt; fault(&[0x89, 0, 1, 0, 0, 0, 0]), Some(3));
-    assert_eq!(rt; fault(&[0x8b, 1, 1]), Some(1));
-    assert_eq!(rt; fault(&[0x8c, 0]), Some(1));
-    assert_eq!(rt; fault(&[0x8c, 7]), Some(1));
-    let same = joined(a, &[&[0x8b, 0, 2], &[1; 32], &[3; 8], &[1; 32], &[3; 8]])?;
-    assert_eq!(rt; fault(same.as_slice()), Some(75));
-    let lesser = joined(a, &[&[0x8b, 0, 2], &[1; 32], &[3; 8], &[0; 32]])?;
-    assert_eq!(rt; fault(lesser.as_slice()), Some(43));
+    let rows: [Wrong; 11] = [
+        (&[], 0),
+        (&[0x80], 0),
+        (&[0x92], 0),
+        (&[0x81, 4, 3, 2, 2], 4),
+        (&[0x82, 0, 0], 1),
+        (&[0x82, 0, 3, 1, 2], 4),
+        (&[0x83, 1, 1], 1),
+        (&[0x89, 0, 1, 0, 0, 0, 0], 3),
+        (&[0x8b, 1, 1], 1),
+        (&[0x8c, 0], 1),
+        (&[0x8c, 7], 1),
+    ];
+    for (content, at) in rows {
+        assert_eq!(rt; reply_fault(a, content), Some(at));
+    }
+    let same = reply_fault_of(a, &[&[0x8b, 0, 2], &[1; 32], &[3; 8], &[1; 32], &[3; 8]])?;
+    assert_eq!(rt; same, Some(75));
+    let lesser = reply_fault_of(a, &[&[0x8b, 0, 2], &[1; 32], &[3; 8], &[0; 32]])?;
+    assert_eq!(rt; lesser, Some(43));
     Ok(())
 }
 
@@ -213,16 +274,32 @@ fn put_of(alloc: Global, count: usize, len: usize) -> Result<Request, NoMemory> 
     })
 }
 
+// What is written of it: nothing, where it isn't writable.
+fn put_content(alloc: Global, count: usize, len: usize) -> Result<Bytes, NoMemory> {
+    let put = put_of(alloc, count, len)?;
+    written(alloc, &put)
+}
+
+// The length of what is written of it, and whether that is read again.
+fn put_again(alloc: Global, count: usize, len: usize) -> Result<(usize, bool), NoMemory> {
+    let content = put_content(alloc, count, len)?;
+    let again = request_again(alloc, content.as_slice())?;
+    Ok((content.len(), again))
+}
+
+// Whether a Commit with this many bytes is read and written again.
+fn commit_again(alloc: Global, len: usize) -> Result<bool, NoMemory> {
+    let mut commit = joined(alloc, &[&[4], USER, &[0xc3; 32], &[1; 8]])?;
+    commit.resize(len, 0x5a)?;
+    request_again(alloc, commit.as_slice())
+}
+
 #[test]
 fn the_greatest(rt: HostRuntime) -> Result<(), Fail> {
     let a = rt.alloc();
-    let put = written(a, &put_of(a, 256, 8208)?)?;
-    assert_eq!(rt; put.len(), 2_102_279);
-    assert!(rt; request_again(a, put.as_slice())?);
-    assert_eq!(rt; written(a, &put_of(a, 257, 1)?)?.len(), 0);
-    assert_eq!(rt; written(a, &put_of(a, 1, 8209)?)?.len(), 0);
-    let mut commit = joined(a, &[&[4, 0, 0, 0, 7], &[0xc3; 32], &[1; 8]])?;
-    commit.resize(1_180_235, 0x5a)?;
-    assert!(rt; request_again(a, commit.as_slice())?);
+    assert!(rt; put_again(a, 256, 8208)? == (2_102_279, true));
+    assert!(rt; put_again(a, 257, 1)? == (0, false));
+    assert!(rt; put_again(a, 1, 8209)? == (0, false));
+    assert!(rt; commit_again(a, 1_180_235)?);
     Ok(())
 }

@@ -89,3 +89,16 @@ pub fn lengths(shelf: &mut MemShelf, cloud: u8) -> [u64; 3] {
         shelf.len(cloud, Area::Recipes).unwrap_or(0),
     ]
 }
+
+/// Whether reads from these clouds come each to this.
+pub fn are_read(
+    alloc: Global,
+    rows: &[(&str, u8, &str)],
+    shelf: &mut MemShelf,
+) -> Result<bool, Fail> {
+    let mut well = true;
+    for (clouds, status, text) in rows {
+        well = is_read(alloc, clouds, shelf, (*status, *text))? && well;
+    }
+    Ok(well)
+}

@@ -1,5 +1,6 @@
 //! Clouds that open and give no file.
 
+use crate::cases::{Case, holds};
 use crate::place::{ONE_BYTE, come_to, is_read, is_replayed, new_shelf};
 use cd_fakes::MemShelf;
 use std::alloc::Global;
@@ -40,41 +41,43 @@ fn comes_to(alloc: Global, script: &str, clouds: &str, wanted: (u8, &str)) -> Re
     well
 }
 
+// A script, clouds, and the refusal of a read from these.
+static DISAGREEING: [(&str, &str, &str); 5] = [
+    (HALF, "0,1,2", "refused missing 2\n"),
+    (HALF, "1,2,3", "refused missing 2\n"),
+    (LENGTHS, "0,1,2", "refused recipesdiffer 0 2 1\n"),
+    (LENGTHS, "1,2,3", "refused recipesdiffer 1 2 1\n"),
+    (BYTES, "0,1,2", BAD),
+];
+
 #[test]
 fn clouds_that_disagree_are_8(rt: HostRuntime) -> Result<(), Fail> {
-    for (script, clouds, text) in [
-        (HALF, "0,1,2", "refused missing 2\n"),
-        (HALF, "1,2,3", "refused missing 2\n"),
-        (LENGTHS, "0,1,2", "refused recipesdiffer 0 2 1\n"),
-        (LENGTHS, "1,2,3", "refused recipesdiffer 1 2 1\n"),
-        (BYTES, "0,1,2", BAD),
-    ] {
-        assert!(rt; comes_to(rt.alloc(), script, clouds, (8, text))?);
+    for (script, clouds, text) in &DISAGREEING {
+        assert!(rt; comes_to(rt.alloc(), script, clouds, (8, *text))?);
     }
     Ok(())
 }
 
-// Whether nothing else of the store is read: another user's, another path, another version.
-fn are_missing(alloc: Global, shelf: &mut MemShelf) -> Result<bool, Fail> {
+// A user, a path and a version that aren't there.
+static ABSENT: [(&str, &str, &str); 4] = [
+    ("8", "a", "1"),
+    ("7", "b", "1"),
+    ("7", "a", "2"),
+    ("4294967295", "a", "18446744073709551615"),
+];
+
+/// Whether nothing else of the store is read: another user's, another path, another version.
+pub fn are_missing(alloc: Global, shelf: &mut MemShelf) -> Result<bool, Fail> {
     let mut well = is_replayed(alloc, ONE_BYTE, shelf)?;
-    let missing = (8, "refused missing 1\n");
-    for (user, path, version) in [
-        ("8", "a", "1"),
-        ("7", "b", "1"),
-        ("7", "a", "2"),
-        ("4294967295", "a", "18446744073709551615"),
-    ] {
-        let words = ["read", "d", "4", "3", user, path, version, "1,2,3"];
-        well = come_to(alloc, &words, &[], shelf, missing)? && well;
+    for (user, path, version) in &ABSENT {
+        let words = ["read", "d", "4", "3", *user, *path, *version, "1,2,3"];
+        well = come_to(alloc, &words, &[], shelf, (8, "refused missing 1\n"))? && well;
     }
     Ok(well)
 }
 
 #[test]
 fn what_is_not_there_is_8(rt: HostRuntime) -> Result<(), Fail> {
-    let mut shelf = new_shelf(rt.alloc())?;
-    let well = are_missing(rt.alloc(), &mut shelf);
-    drop(shelf);
-    assert!(rt; well?);
+    assert!(rt; holds(rt.alloc(), Case::Missing)?);
     Ok(())
 }

@@ -70,90 +70,151 @@ pub fn comes_to(
     Ok(status == wanted.0 && sink.written() == wanted.1)
 }
 
-// What these servers reply in the end, each on its own stream: round by round, what they reply to what was asked over
-// their replies so far. Some say nothing behind their Hello, and some calls of the ports fail.
-fn streams_but(
+// How a restore is asked of servers: the version; the clouds in their order; those that say nothing behind their Hello;
+// and the calls of the ports that fail.
+#[derive(Clone, Copy)]
+struct Plan<'a> {
+    version: u64,
+    clouds: &'a [u8],
+    silent: &'a [u8],
+    fails: &'a [u64],
+}
+
+// A restore where all answer.
+fn plain(version: u64, clouds: &[u8]) -> Plan<'_> {
+    Plan {
+        version,
+        clouds,
+        silent: &[],
+        fails: &[],
+    }
+}
+
+// What this server replies to what was sent on a port.
+fn stream_of(
     alloc: Global,
     link: &mut LocalLink<'_, MemShelf>,
-    version: u64,
-    clouds: &[u8],
-    silent: &[u8],
-    fails: &[u64],
+    plan: &Plan<'_>,
+    cloud: u8,
+    sent: &[u8],
+) -> Result<Bytes, Fail> {
+    let mut stream = replies(alloc, link, cloud, sent)?;
+    if plan.silent.contains(&cloud) {
+        stream.truncate(9);
+    }
+    Ok(stream)
+}
+
+// What these servers reply to what is asked over the streams so far.
+fn next_streams(
+    alloc: Global,
+    link: &mut LocalLink<'_, MemShelf>,
+    plan: &Plan<'_>,
+    streams: &[Bytes],
+) -> Result<Vec<Bytes>, Fail> {
+    let mut ports = ports_of(alloc, streams, plan.fails)?;
+    let mut sink = MemSink::of(alloc, 1_000, 100, &[])?;
+    let _ = outcome(
+        alloc,
+        plan.version,
+        plan.clouds.len(),
+        &mut ports,
+        &mut sink,
+    )?;
+    let mut next = Vec::new(alloc);
+    let mut port = 0u32;
+    for cloud in plan.clouds {
+        next.push(stream_of(alloc, link, plan, *cloud, ports.sent(port))?)?;
+        port = port.saturating_add(1);
+    }
+    Ok(next)
+}
+
+// What these servers reply in the end, each on its own stream: round by round, what they reply to what was asked over
+// their replies so far.
+fn streams_of(
+    alloc: Global,
+    link: &mut LocalLink<'_, MemShelf>,
+    plan: &Plan<'_>,
 ) -> Result<Vec<Bytes>, Fail> {
     let mut streams = Vec::new(alloc);
-    for _ in clouds {
+    for _ in plan.clouds {
         streams.push(Bytes::new(alloc))?;
     }
     for _ in 0..16 {
-        let mut ports = ports_of(alloc, streams.as_slice(), fails)?;
-        let mut sink = MemSink::of(alloc, 1_000, 100, &[])?;
-        let _ = outcome(alloc, version, clouds.len(), &mut ports, &mut sink)?;
-        streams = Vec::new(alloc);
-        let mut port = 0u32;
-        for cloud in clouds {
-            let mut stream = replies(alloc, link, *cloud, ports.sent(port))?;
-            if silent.contains(cloud) {
-                stream.truncate(9);
-            }
-            streams.push(stream)?;
-            port = port.saturating_add(1);
-        }
+        streams = next_streams(alloc, link, plan, streams.as_slice())?;
     }
     Ok(streams)
 }
 
-// The same where all answer.
-fn streams_of(
-    alloc: Global,
-    link: &mut LocalLink<'_, MemShelf>,
-    version: u64,
-    clouds: &[u8],
-) -> Result<Vec<Bytes>, Fail> {
-    streams_but(alloc, link, version, clouds, &[], &[])
-}
-
-// Whether a restore of this version from these servers comes to this.
+// Whether a restore comes to this, over ports of which this plan's calls fail.
 fn is_so(
     alloc: Global,
     link: &mut LocalLink<'_, MemShelf>,
-    version: u64,
-    clouds: &[u8],
+    plan: &Plan<'_>,
     wanted: (u8, &[u8]),
 ) -> Result<bool, Fail> {
-    let streams = streams_of(alloc, link, version, clouds)?;
-    comes_to(alloc, version, streams.as_slice(), &[], &[], wanted)
-}
-
-// Whether each is as it has to be.
-fn are_so(alloc: Global, link: &mut LocalLink<'_, MemShelf>) -> Result<bool, Fail> {
-    Ok(
-        is_stored(alloc, link, FILE)?
-            && is_so(alloc, link, 1, &[1, 2, 3], (0, FILE))?
-            && is_so(alloc, link, 1, &[0, 1, 3], (0, FILE))?
-            && is_so(alloc, link, 2, &[0, 1, 2], (8, b"refused missing 0\n"))?
-            && is_so(alloc, link, 1, &[0, 3, 1], (8, b"refused hello 2 4 3 1\n"))?
-            && is_so(alloc, link, 1, &[2, 3], (8, b"refused hello 0 4 3 2\n"))?
-            && is_so(alloc, link, 1, &[0, 1, 2, 3], (0, FILE))?
-            && is_so(alloc, link, 2, &[0, 1, 2, 3], (8, b"refused missing 0\n"))?,
+    let streams = streams_of(alloc, link, plan)?;
+    comes_to(
+        alloc,
+        plan.version,
+        streams.as_slice(),
+        plan.fails,
+        &[],
+        wanted,
     )
 }
 
-#[test]
-fn a_file_or_a_refusal(rt: HostRuntime) -> Result<(), Fail> {
-    let mut shelf = shelf(rt.alloc())?;
-    let mut link = link(rt.alloc(), &mut shelf)?;
-    let well = are_so(rt.alloc(), &mut link);
-    drop(link);
-    drop(shelf);
-    assert!(rt; well?);
-    Ok(())
+// A version, the clouds in their order, and what a restore of it from these comes to.
+static RESTORES: [(u64, &[u8], u8, &[u8]); 7] = [
+    (1, &[1, 2, 3], 0, FILE),
+    (1, &[0, 1, 3], 0, FILE),
+    (2, &[0, 1, 2], 8, b"refused missing 0\n"),
+    (1, &[0, 3, 1], 8, b"refused hello 2 4 3 1\n"),
+    (1, &[2, 3], 8, b"refused hello 0 4 3 2\n"),
+    (1, &[0, 1, 2, 3], 0, FILE),
+    (2, &[0, 1, 2, 3], 8, b"refused missing 0\n"),
+];
+
+// Whether each is as it has to be.
+fn are_so(alloc: Global, link: &mut LocalLink<'_, MemShelf>) -> Result<bool, Fail> {
+    let mut well = true;
+    for (version, clouds, status, text) in &RESTORES {
+        let plan = plain(*version, clouds);
+        well = is_so(alloc, link, &plan, (*status, *text))? && well;
+    }
+    Ok(well)
+}
+
+// Whether a restore from four clouds passes over one that says nothing behind its Hello, and ends where two do.
+fn passes_over(alloc: Global, link: &mut LocalLink<'_, MemShelf>) -> Result<bool, Fail> {
+    let mut plan = plain(1, &[0, 1, 2, 3]);
+    plan.silent = &[1];
+    let first = is_so(alloc, link, &plan, (0, FILE))?;
+    plan.silent = &[1, 2];
+    Ok(first && is_so(alloc, link, &plan, (8, b"refused strange 1 00\n"))?)
+}
+
+// Whether the first call that fails behind the Hellos of four clouds loses an ask that is passed over: each before it
+// ends the restore.
+fn loses_well(alloc: Global, link: &mut LocalLink<'_, MemShelf>) -> Result<bool, Fail> {
+    for call in 1..1_000u64 {
+        let fails = [call];
+        let mut plan = plain(1, &[0, 1, 2, 3]);
+        plan.fails = &fails;
+        if !is_so(alloc, link, &plan, (9, &[]))? {
+            return Ok(call > 20 && is_so(alloc, link, &plan, (0, FILE))?);
+        }
+    }
+    Err(Fail::new("no end"))
 }
 
 // How many calls fail in turn so that the restore answers this and writes nothing, before one that doesn't.
 fn failing(alloc: Global, streams: &[Bytes]) -> Result<u64, Fail> {
     for call in 1..1_000u64 {
-        if !comes_to(alloc, 1, streams, &[call], &[], (9, &[]))? {
-            if comes_to(alloc, 1, streams, &[call], &[], (0, FILE))? {
+        let fails = [call];
+        if !comes_to(alloc, 1, streams, &fails, &[], (9, &[]))? {
+            if comes_to(alloc, 1, streams, &fails, &[], (0, FILE))? {
                 return Ok(call);
             }
             return Err(Fail::new("another outcome"));
@@ -162,88 +223,81 @@ fn failing(alloc: Global, streams: &[Bytes]) -> Result<u64, Fail> {
     Err(Fail::new("no end"))
 }
 
-// Whether a restore from four clouds passes over one that says nothing behind its Hello, and ends where two do.
-fn passes_over(alloc: Global, link: &mut LocalLink<'_, MemShelf>) -> Result<bool, Fail> {
-    let all = [0, 1, 2, 3];
-    let one = streams_but(alloc, link, 1, &all, &[1], &[])?;
-    let two = streams_but(alloc, link, 1, &all, &[1, 2], &[])?;
-    let first = comes_to(alloc, 1, one.as_slice(), &[], &[], (0, FILE))?;
-    let refused = (8, b"refused strange 1 00\n".as_slice());
-    Ok(first && comes_to(alloc, 1, two.as_slice(), &[], &[], refused)?)
+// Whether the sink that fails in mid-file leaves the front that went before.
+fn leaves_front(alloc: Global, streams: &[Bytes]) -> Result<bool, Fail> {
+    let front = FILE.get(..4).unwrap_or(&[]);
+    comes_to(alloc, 1, streams, &[], &[3], (4, front))
 }
 
-// Whether the first call that fails behind the Hellos of four clouds loses an ask that is passed over: each before it
-// ends the restore.
-fn loses_well(alloc: Global, link: &mut LocalLink<'_, MemShelf>) -> Result<bool, Fail> {
-    for call in 1..1_000u64 {
-        let streams = streams_but(alloc, link, 1, &[0, 1, 2, 3], &[], &[call])?;
-        if !comes_to(alloc, 1, streams.as_slice(), &[call], &[], (9, &[]))? {
-            return Ok(
-                call > 20 && comes_to(alloc, 1, streams.as_slice(), &[call], &[], (0, FILE))?,
-            );
-        }
+// Whether streams are refused so, of which one loses its last byte, or all behind its first three.
+fn is_cut(
+    alloc: Global,
+    streams: &mut [Bytes],
+    place: usize,
+    early: bool,
+    line: &[u8],
+) -> Result<bool, Fail> {
+    if let Some(one) = streams.get_mut(place) {
+        let len = one.len();
+        one.truncate(if early { 3 } else { len.saturating_sub(1) });
     }
-    Err(Fail::new("no end"))
-}
-
-// Whether clouds that fail a restore are passed over, by what comes and by what is lost.
-fn are_passed(alloc: Global, link: &mut LocalLink<'_, MemShelf>) -> Result<bool, Fail> {
-    Ok(is_stored(alloc, link, FILE)? && passes_over(alloc, link)? && loses_well(alloc, link)?)
-}
-
-#[test]
-fn a_cloud_passed_over(rt: HostRuntime) -> Result<(), Fail> {
-    let mut shelf = shelf(rt.alloc())?;
-    let mut link = link(rt.alloc(), &mut shelf)?;
-    let well = are_passed(rt.alloc(), &mut link);
-    drop(link);
-    drop(shelf);
-    assert!(rt; well?);
-    Ok(())
+    comes_to(alloc, 1, streams, &[], &[], (8, line))
 }
 
 // Whether a restore ends with each failing call of ports and sink, and where a reply is cut.
 fn fails_well(alloc: Global, link: &mut LocalLink<'_, MemShelf>) -> Result<bool, Fail> {
+    let plan = plain(1, &[0, 1, 3]);
+    let mut streams = streams_of(alloc, link, &plan)?;
+    let calls = failing(alloc, streams.as_slice())?;
+    let front = leaves_front(alloc, streams.as_slice())?;
+    let all = streams.as_mut_slice();
+    let cut = is_cut(alloc, all, 2, false, b"refused strange 3 00\n")?;
+    let early = is_cut(alloc, all, 1, true, b"refused strange 1 00\n")?;
+    Ok(calls > 20 && front && cut && early)
+}
+
+// What is tried.
+#[derive(Clone, Copy)]
+enum Case {
+    Restores,
+    PassedOver,
+    Failing,
+}
+
+// Whether servers that keep the file do as they have to.
+fn is_as_told(alloc: Global, link: &mut LocalLink<'_, MemShelf>, case: Case) -> Result<bool, Fail> {
     if !is_stored(alloc, link, FILE)? {
         return Ok(false);
     }
-    let mut streams = streams_of(alloc, link, 1, &[0, 1, 3])?;
-    let calls = failing(alloc, streams.as_slice())?;
-    let front = FILE.get(..4).unwrap_or(&[]);
-    let sink = comes_to(alloc, 1, streams.as_slice(), &[], &[3], (4, front))?;
-    if let Some(last) = streams.get_mut(2) {
-        let len = last.len();
-        last.truncate(len.saturating_sub(1));
+    match case {
+        Case::Restores => are_so(alloc, link),
+        Case::PassedOver => Ok(passes_over(alloc, link)? && loses_well(alloc, link)?),
+        Case::Failing => fails_well(alloc, link),
     }
-    let cut = comes_to(
-        alloc,
-        1,
-        streams.as_slice(),
-        &[],
-        &[],
-        (8, b"refused strange 3 00\n"),
-    )?;
-    if let Some(first) = streams.get_mut(1) {
-        first.truncate(3);
-    }
-    let early = comes_to(
-        alloc,
-        1,
-        streams.as_slice(),
-        &[],
-        &[],
-        (8, b"refused strange 1 00\n"),
-    )?;
-    Ok(calls > 20 && sink && cut && early)
+}
+
+// The same of new ones.
+fn holds(alloc: Global, case: Case) -> Result<bool, Fail> {
+    let mut shelf = shelf(alloc)?;
+    let mut link = link(alloc, &mut shelf)?;
+    let well = is_as_told(alloc, &mut link, case);
+    well
+}
+
+#[test]
+fn a_file_or_a_refusal(rt: HostRuntime) -> Result<(), Fail> {
+    assert!(rt; holds(rt.alloc(), Case::Restores)?);
+    Ok(())
+}
+
+#[test]
+fn a_cloud_passed_over(rt: HostRuntime) -> Result<(), Fail> {
+    assert!(rt; holds(rt.alloc(), Case::PassedOver)?);
+    Ok(())
 }
 
 #[test]
 fn each_failing_call(rt: HostRuntime) -> Result<(), Fail> {
-    let mut shelf = shelf(rt.alloc())?;
-    let mut link = link(rt.alloc(), &mut shelf)?;
-    let well = fails_well(rt.alloc(), &mut link);
-    drop(link);
-    drop(shelf);
-    assert!(rt; well?);
+    assert!(rt; holds(rt.alloc(), Case::Failing)?);
     Ok(())
 }

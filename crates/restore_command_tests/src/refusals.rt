@@ -2,28 +2,33 @@
 //! of their places.
 
 use crate::command::comes_to;
-use crate::streams::{SHARES, recipe_reply, share_reply, stream, streams_of};
-use cd_base::Bytes;
+use crate::streams::{A1, A2, A3, SHARES, recipe_reply, stream, streams_of};
+use cd_base::{Bytes, NoMemory};
 use std::alloc::Global;
 use std::test::Fail;
 
 // The streams of three clouds that have `A`, but that this one is another.
 fn with_one(alloc: Global, place: usize, other: Bytes) -> Result<Vec<Bytes>, Fail> {
-    let mut streams = streams_of(alloc, SHARES, 1)?;
+    let mut streams = streams_of(alloc, &SHARES, 1)?;
     if let Some(one) = streams.get_mut(place) {
         *one = other;
     }
     Ok(streams)
 }
 
+// Whether a restore over these streams is refused by this line.
+fn are_refused(alloc: Global, streams: &[Bytes], line: &str) -> Result<bool, Fail> {
+    comes_to(alloc, 1, streams, &[], &[], (8, line.as_bytes()))
+}
+
 // Whether a restore, in which this comes on one of the streams, is refused by this line.
 fn is_refused(alloc: Global, place: usize, other: Bytes, line: &str) -> Result<bool, Fail> {
     let streams = with_one(alloc, place, other)?;
-    comes_to(alloc, 1, streams.as_slice(), &[], &[], (8, line.as_bytes()))
+    are_refused(alloc, streams.as_slice(), line)
 }
 
 // The first frames on the second stream, and the line.
-const HELLOS: [(&[u8], &str); 11] = [
+static HELLOS: [(&[u8], &str); 11] = [
     // another shape, another number that is needed, no shape, and a cloud that the shape hasn't
     (&[0, 0, 0, 5, 0x81, 5, 3, 2, 1], "refused hello 1 5 3 2\n"),
     (&[0, 0, 0, 5, 0x81, 4, 2, 2, 1], "refused hello 1 4 2 2\n"),
@@ -40,12 +45,17 @@ const HELLOS: [(&[u8], &str); 11] = [
     (&[0, 64, 0, 1, 0x81], "refused strange 1 00\n"),
 ];
 
+// Whether these bytes on the second stream are refused so.
+fn is_no_hello(alloc: Global, bytes: &[u8], line: &str) -> Result<bool, Fail> {
+    let mut other = Bytes::new(alloc);
+    other.extend(bytes)?;
+    is_refused(alloc, 1, other, line)
+}
+
 #[test]
 fn each_wrong_hello_is_named(rt: HostRuntime) -> Result<(), Fail> {
-    for (bytes, line) in HELLOS {
-        let mut other = Bytes::new(rt.alloc());
-        other.extend(bytes)?;
-        assert!(rt; is_refused(rt.alloc(), 1, other, line)?);
+    for (bytes, line) in &HELLOS {
+        assert!(rt; is_no_hello(rt.alloc(), bytes, line)?);
     }
     Ok(())
 }
@@ -60,7 +70,7 @@ const ROTTEN_LINE: &str =
     "refused rotten 2 1111111111111111111111111111111111111111111111111111111111111111 2222222222222222222222222222222222222222222222222222222222222222\n";
 
 // Contents that come from cloud 2 as well in place of its recipe as of its share, and the line.
-const EITHER: [(&[u8], &str); 8] = [
+static EITHER: [(&[u8], &str); 8] = [
     (&[0x8d], "refused fault 2\n"),
     (&[0x91], "refused nomemory 2\n"),
     (
@@ -75,7 +85,7 @@ const EITHER: [(&[u8], &str); 8] = [
 ];
 
 // Contents in place of its recipe: the version isn't there; bytes that are no recipe; and shares.
-const RECIPES: [(&[u8], &str); 3] = [
+static RECIPES: [(&[u8], &str); 3] = [
     (&[0x88], "refused missing 2\n"),
     (&[0x87, 0, 1, 0], "refused strange 2 87\n"),
     (&[0x89, 0, 1, 0, 0, 0, 1, 65], "refused strange 2 89\n"),
@@ -83,7 +93,7 @@ const RECIPES: [(&[u8], &str); 3] = [
 
 // Contents in place of its share: the version isn't there; a share isn't the user's; a recipe; no share and two; one of another
 // length, and one of other bytes.
-const OTHERS: [(&[u8], &str); 7] = [
+static OTHERS: [(&[u8], &str); 7] = [
     (&[0x88], "refused strange 2 88\n"),
     (&[0x8a, 0, 0], "refused strange 2 8a\n"),
     (&[0x87, 65], "refused strange 2 87\n"),
@@ -115,43 +125,78 @@ fn is_no_share(alloc: Global, content: &[u8], line: &str) -> Result<bool, Fail> 
     is_refused(alloc, 1, other, line)
 }
 
+// Whether each of these contents is refused so in place of cloud 2's recipe.
+fn are_no_recipes(alloc: Global, rows: &[(&[u8], &str)]) -> Result<bool, Fail> {
+    let mut well = true;
+    for (content, line) in rows {
+        well = is_no_recipe(alloc, content, line)? && well;
+    }
+    Ok(well)
+}
+
+// The same of cloud 2's share.
+fn are_no_shares(alloc: Global, rows: &[(&[u8], &str)]) -> Result<bool, Fail> {
+    let mut well = true;
+    for (content, line) in rows {
+        well = is_no_share(alloc, content, line)? && well;
+    }
+    Ok(well)
+}
+
 #[test]
 fn each_wrong_reply_is_named(rt: HostRuntime) -> Result<(), Fail> {
-    for (content, line) in EITHER {
-        assert!(rt; is_no_recipe(rt.alloc(), content, line)?);
-        assert!(rt; is_no_share(rt.alloc(), content, line)?);
-    }
-    for (content, line) in RECIPES {
-        assert!(rt; is_no_recipe(rt.alloc(), content, line)?);
-    }
-    for (content, line) in OTHERS {
-        assert!(rt; is_no_share(rt.alloc(), content, line)?);
-    }
+    assert!(rt; are_no_recipes(rt.alloc(), &EITHER)?);
+    assert!(rt; are_no_shares(rt.alloc(), &EITHER)?);
+    assert!(rt; are_no_recipes(rt.alloc(), &RECIPES)?);
+    assert!(rt; are_no_shares(rt.alloc(), &OTHERS)?);
     Ok(())
 }
 
+// Lengths of the secrets of a file of clouds 1 and 2; of that of cloud 3, and its path's length; and the line.
+static DIFFERENT: [(&[u32], &[u32], u8, &str); 4] = [
+    (&[1], &[1], 2, "refused recipesdiffer 1 3 0\n"),
+    (&[1], &[2], 1, "refused recipesdiffer 1 3 1\n"),
+    (&[2_049], &[2_048, 1], 1, "refused recipesdiffer 1 3 2\n"),
+    (
+        &[2_050, 2_048, 3],
+        &[2_050, 2_049, 2],
+        1,
+        "refused recipesdiffer 1 3 4\n",
+    ),
+];
+
+// The stream of a cloud that has this recipe alone.
+fn with_recipe(
+    alloc: Global,
+    cloud: u8,
+    name_len: u8,
+    secrets: &[u32],
+    share: &[u8],
+) -> Result<Bytes, NoMemory> {
+    let recipe = recipe_reply(alloc, name_len, secrets, share)?;
+    stream(alloc, cloud, &[recipe.as_slice()])
+}
+
 // Whether a recipe of cloud 3 that isn't of the file of cloud 1 is refused so.
-fn differs(alloc: Global, secrets: [&[u32]; 2], name_len: u8, line: &str) -> Result<bool, Fail> {
-    let first = recipe_reply(alloc, 1, secrets[0], SHARES[0])?;
-    let second = recipe_reply(alloc, 1, secrets[0], SHARES[1])?;
-    let third = recipe_reply(alloc, name_len, secrets[1], SHARES[2])?;
+fn differs(
+    alloc: Global,
+    secrets: &[u32],
+    others: &[u32],
+    name_len: u8,
+    line: &str,
+) -> Result<bool, Fail> {
     let mut streams = Vec::new(alloc);
-    streams.push(stream(alloc, 1, &[first.as_slice()])?)?;
-    streams.push(stream(alloc, 2, &[second.as_slice()])?)?;
-    streams.push(stream(alloc, 3, &[third.as_slice()])?)?;
-    comes_to(alloc, 1, streams.as_slice(), &[], &[], (8, line.as_bytes()))
+    streams.push(with_recipe(alloc, 1, 1, secrets, SHARES[0])?)?;
+    streams.push(with_recipe(alloc, 2, 1, secrets, SHARES[1])?)?;
+    streams.push(with_recipe(alloc, 3, name_len, others, SHARES[2])?)?;
+    are_refused(alloc, streams.as_slice(), line)
 }
 
 #[test]
 fn recipes_that_differ_are_named(rt: HostRuntime) -> Result<(), Fail> {
-    let one: [&[u32]; 2] = [&[1], &[1]];
-    assert!(rt; differs(rt.alloc(), one, 2, "refused recipesdiffer 1 3 0\n")?);
-    let longer: [&[u32]; 2] = [&[1], &[2]];
-    assert!(rt; differs(rt.alloc(), longer, 1, "refused recipesdiffer 1 3 1\n")?);
-    let more: [&[u32]; 2] = [&[2_049], &[2_048, 1]];
-    assert!(rt; differs(rt.alloc(), more, 1, "refused recipesdiffer 1 3 2\n")?);
-    let cut: [&[u32]; 2] = [&[2_050, 2_048, 3], &[2_050, 2_049, 2]];
-    assert!(rt; differs(rt.alloc(), cut, 1, "refused recipesdiffer 1 3 4\n")?);
+    for (secrets, others, name_len, line) in &DIFFERENT {
+        assert!(rt; differs(rt.alloc(), secrets, others, *name_len, line)?);
+    }
     Ok(())
 }
 
@@ -172,31 +217,38 @@ const PADDED: [&[u8]; 3] = [
     ],
 ];
 
+const BAD_SECRET: &[u8] =
+    b"refused badsecret 0 f1e489291cb90abb89c6f66f12848c5576cb4275c581200a4ad8a3cb90cd665d cfae0d4248f7142f7b17f826cd7a519280e312577690e957830d23dcf35a3fff\n";
+
+// Shares of a secret of so many bytes, and what a restore comes to.
+static OPENED: [([&[u8]; 3], u32, u8, &[u8]); 3] = [
+    ([A1, A2, A3], 1, 0, b"A"),
+    ([A1, A2, OF_B], 1, 8, BAD_SECRET),
+    (PADDED, 2, 8, b"refused badpad 0 3 01\n"),
+];
+
+// Whether a restore of a secret of these shares comes to this.
+fn opens_to(
+    alloc: Global,
+    shares: &[&[u8]; 3],
+    secret_len: u32,
+    wanted: (u8, &[u8]),
+) -> Result<bool, Fail> {
+    let streams = streams_of(alloc, shares, secret_len)?;
+    comes_to(alloc, 1, streams.as_slice(), &[], &[], wanted)
+}
+
 #[test]
 fn secrets_that_do_not_open_are_named(rt: HostRuntime) -> Result<(), Fail> {
-    let whole = streams_of(rt.alloc(), SHARES, 1)?;
-    assert!(rt; comes_to(rt.alloc(), 1, whole.as_slice(), &[], &[], (0, b"A"))?);
-    let mixed = streams_of(rt.alloc(), [SHARES[0], SHARES[1], OF_B], 1)?;
-    let line =
-        b"refused badsecret 0 f1e489291cb90abb89c6f66f12848c5576cb4275c581200a4ad8a3cb90cd665d cfae0d4248f7142f7b17f826cd7a519280e312577690e957830d23dcf35a3fff\n";
-    assert!(rt; comes_to(rt.alloc(), 1, mixed.as_slice(), &[], &[], (8, line))?);
-    let padded = streams_of(rt.alloc(), PADDED, 2)?;
-    assert!(rt;
-        comes_to(
-            rt.alloc(),
-            1,
-            padded.as_slice(),
-            &[],
-            &[],
-            (8, b"refused badpad 0 3 01\n")
-        )?
-    );
+    for (shares, secret_len, status, text) in &OPENED {
+        assert!(rt; opens_to(rt.alloc(), shares, *secret_len, (*status, *text))?);
+    }
     Ok(())
 }
 
 // Whether a restore is refused where one stream ends behind so many bytes: at its position within Hello, and then by its cloud.
 fn is_cut(alloc: Global, place: usize, len: usize) -> Result<bool, Fail> {
-    let mut streams = streams_of(alloc, SHARES, 1)?;
+    let mut streams = streams_of(alloc, &SHARES, 1)?;
     if let Some(one) = streams.get_mut(place) {
         one.truncate(len);
     }
@@ -206,7 +258,7 @@ fn is_cut(alloc: Global, place: usize, len: usize) -> Result<bool, Fail> {
         place.wrapping_add(1)
     };
     let line = format!(in alloc; "refused strange {named} 00\n")?;
-    comes_to(alloc, 1, streams.as_slice(), &[], &[], (8, line.as_bytes()))
+    are_refused(alloc, streams.as_slice(), line.as_str())
 }
 
 // A Hello of 9 bytes, a recipe of 66 and a share of 22.

@@ -39,28 +39,46 @@ pub fn link(alloc: Global, shelf: &mut MemShelf) -> Result<LocalLink<'_, MemShel
     LocalLink::over(alloc, shelf, Shape { n: 4, k: 3 }, rooms())
 }
 
-// Steps a lane until it has no request.
-fn finish(
+// Steps a lane: whether it had a request.
+fn step(
     job: &mut Job,
     link: &mut LocalLink<'_, MemShelf>,
     cloud: CloudNo,
     out: &mut Bytes,
     reply: &mut ReplyBuf,
-) -> Result<(), Fail> {
-    for _ in 0..20 {
-        if job.lanes() <= cloud.0 as usize || !link.reaches(cloud) || !job.next(cloud, out)? {
-            return Ok(());
+) -> Result<bool, Fail> {
+    if job.lanes() <= cloud.0 as usize || !link.reaches(cloud) || !job.next(cloud, out)? {
+        return Ok(false);
+    }
+    if out.is_empty()
+        || out.len() > 4_194_304
+        || link.ask(cloud, out.as_slice(), reply).is_err()
+        || job.answer(cloud, reply.content()).is_err()
+    {
+        return Err(Fail::new("no answer"));
+    }
+    Ok(true)
+}
+
+// Steps each lane until it has no request.
+fn finish(
+    job: &mut Job,
+    link: &mut LocalLink<'_, MemShelf>,
+    out: &mut Bytes,
+    reply: &mut ReplyBuf,
+) -> Result<bool, Fail> {
+    for lane in 0..4 {
+        let mut more = true;
+        for _ in 0..20 {
+            if more {
+                more = step(job, link, CloudNo(lane), out, reply)?;
+            }
         }
-        if out.is_empty() || out.len() > 4_194_304 {
-            return Err(Fail::new("no such request"));
-        }
-        if link.ask(cloud, out.as_slice(), reply).is_err()
-            || job.answer(cloud, reply.content()).is_err()
-        {
-            return Err(Fail::new("no answer"));
+        if more {
+            return Err(Fail::new("no end"));
         }
     }
-    Err(Fail::new("no end"))
+    Ok(job.stored())
 }
 
 /// Whether user 7's first version of this file goes to all clouds.
@@ -76,10 +94,7 @@ pub fn is_stored(
     let mut job = Job::new(alloc, shape, UserId(7), PATH, Version(1), file)?;
     let mut out = Bytes::new(alloc);
     let mut reply = ReplyBuf::make(alloc)?;
-    for lane in 0..4 {
-        finish(&mut job, link, CloudNo(lane), &mut out, &mut reply)?;
-    }
-    Ok(job.stored())
+    finish(&mut job, link, &mut out, &mut reply)
 }
 
 // The content of the first of some frames, none of more than 65,535 bytes, and what is behind it.
@@ -97,6 +112,46 @@ fn next_frame(bytes: &[u8]) -> Option<(&[u8], &[u8])> {
     }
 }
 
+// Appends the frame of a server's reply to a request.
+fn add_reply(
+    link: &mut LocalLink<'_, MemShelf>,
+    cloud: CloudNo,
+    request: &[u8],
+    reply: &mut ReplyBuf,
+    out: &mut Bytes,
+) -> Result<(), Fail> {
+    if request.is_empty()
+        || request.len() > 4_194_304
+        || !link.reaches(cloud)
+        || link.ask(cloud, request, reply).is_err()
+    {
+        return Err(Fail::new("no reply"));
+    }
+    let content = reply.content();
+    let len = content.len();
+    out.extend(&[0, 0, (len / 256 % 256) as u8, (len % 256) as u8])?;
+    Ok(out.extend(content)?)
+}
+
+// Appends those of so many requests at most.
+fn add_replies(
+    link: &mut LocalLink<'_, MemShelf>,
+    cloud: CloudNo,
+    requests: &[u8],
+    reply: &mut ReplyBuf,
+    out: &mut Bytes,
+) -> Result<(), Fail> {
+    let mut rest = requests;
+    for _ in 0..20 {
+        let Some((request, more)) = next_frame(rest) else {
+            return Ok(());
+        };
+        add_reply(link, cloud, request, reply, out)?;
+        rest = more;
+    }
+    Err(Fail::new("many requests"))
+}
+
 /// The frames of a server's replies to the requests whose frames these are.
 pub fn replies(
     alloc: Global,
@@ -106,22 +161,6 @@ pub fn replies(
 ) -> Result<Bytes, Fail> {
     let mut reply = ReplyBuf::make(alloc)?;
     let mut out = Bytes::new(alloc);
-    let mut rest = requests;
-    for _ in 0..20 {
-        let Some((request, more)) = next_frame(rest) else {
-            return Ok(out);
-        };
-        if request.is_empty()
-            || request.len() > 4_194_304
-            || !link.reaches(CloudNo(cloud))
-            || link.ask(CloudNo(cloud), request, &mut reply).is_err()
-        {
-            return Err(Fail::new("no reply"));
-        }
-        let len = reply.content().len();
-        out.extend(&[0, 0, (len / 256 % 256) as u8, (len % 256) as u8])?;
-        out.extend(reply.content())?;
-        rest = more;
-    }
-    Err(Fail::new("many requests"))
+    add_replies(link, CloudNo(cloud), requests, &mut reply, &mut out)?;
+    Ok(out)
 }

@@ -4,18 +4,23 @@
 use cd_base::{Bytes, NoMemory, sha256};
 use std::alloc::Global;
 
-/// The shares 1, 2 and 3 of the secret `A`.
-pub const SHARES: [&[u8]; 3] = [
-    &[
-        0xdb, 0x3d, 0x71, 0x3e, 0x6d, 0xc8, 0x23, 0xd2, 0x89, 0x43, 0xd1,
-    ],
-    &[
-        0x61, 0xfa, 0xe7, 0x8e, 0x1f, 0x6d, 0x96, 0x3b, 0xb9, 0x15, 0xac,
-    ],
-    &[
-        0x25, 0x8d, 0x14, 0x15, 0xb2, 0x3b, 0xb6, 0xe9, 0xcc, 0xb1, 0x44,
-    ],
+/// Share 1 of the secret `A`.
+pub const A1: &[u8] = &[
+    0xdb, 0x3d, 0x71, 0x3e, 0x6d, 0xc8, 0x23, 0xd2, 0x89, 0x43, 0xd1,
 ];
+
+/// Share 2 of the secret `A`.
+pub const A2: &[u8] = &[
+    0x61, 0xfa, 0xe7, 0x8e, 0x1f, 0x6d, 0x96, 0x3b, 0xb9, 0x15, 0xac,
+];
+
+/// Share 3 of the secret `A`.
+pub const A3: &[u8] = &[
+    0x25, 0x8d, 0x14, 0x15, 0xb2, 0x3b, 0xb6, 0xe9, 0xcc, 0xb1, 0x44,
+];
+
+/// The three shares.
+pub static SHARES: [&[u8]; 3] = [A1, A2, A3];
 
 /// Appends the frame of a content.
 fn add_frame(frames: &mut Bytes, content: &[u8]) -> Result<(), NoMemory> {
@@ -33,6 +38,21 @@ pub fn share_reply(alloc: Global, share: &[u8]) -> Result<Bytes, NoMemory> {
     Ok(reply)
 }
 
+// A reply with a recipe up to the length of its file: of a path of one byte, and of one of two.
+static ONE: [u8; 18] = [0x87, 0, 1, 0, 0, 0, 0, 0, 0, 0, 0, 0, 0, 0, 0, 0, 0, 0];
+
+static TWO: [u8; 19] = [0x87, 0, 2, 0, 0, 0, 0, 0, 0, 0, 0, 0, 0, 0, 0, 0, 0, 0, 0];
+
+// Appends so many secrets' fingerprints and lengths.
+fn add_secrets(reply: &mut Bytes, secrets: &[u32], share: &[u8]) -> Result<(), NoMemory> {
+    let fp = sha256(share).0;
+    for secret_len in secrets {
+        reply.extend(&fp)?;
+        reply.extend(&secret_len.to_be_bytes())?;
+    }
+    Ok(())
+}
+
 /// The content of a reply with a recipe: of a path of so many bytes, 1 or 2, and of a file of secrets of these lengths, of each
 /// of which the cloud has this share.
 pub fn recipe_reply(
@@ -45,16 +65,12 @@ pub fn recipe_reply(
     for secret_len in secrets {
         file_len = file_len.wrapping_add(*secret_len);
     }
+    let head: &[u8] = if name_len == 1 { &ONE } else { &TWO };
     let mut reply = Bytes::new(alloc);
-    reply.extend(&[0x87, 0, name_len])?;
-    reply.extend(if name_len == 1 { &[0; 11] } else { &[0; 12] })?;
-    reply.extend(&[0; 4])?;
+    reply.extend(head)?;
     reply.extend(&file_len.to_be_bytes())?;
     reply.extend(&[0, 0, 0, (secrets.len() % 256) as u8])?;
-    for secret_len in secrets {
-        reply.extend(&sha256(share).0)?;
-        reply.extend(&secret_len.to_be_bytes())?;
-    }
+    add_secrets(&mut reply, secrets, share)?;
     Ok(reply)
 }
 
@@ -83,7 +99,7 @@ pub fn whole_stream(
 /// The streams of three clouds that have these shares.
 pub fn streams_of(
     alloc: Global,
-    shares: [&[u8]; 3],
+    shares: &[&[u8]; 3],
     secret_len: u32,
 ) -> Result<Vec<Bytes>, NoMemory> {
     let mut streams = Vec::new(alloc);
