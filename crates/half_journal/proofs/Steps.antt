@@ -1,9 +1,12 @@
 -- The state of a journal from call to call.
-use Rattle.std.proofs.Common.{◌≡◌, ◌⊎◌, inl, inr, ℕ, ◌+◌, ◌-◌, ◌*◌, ◌%◌, ◌^◌, ◌<◌, ◌≤◌, Bool, true, false, List, [], ◌∷◌, ◌++◌, length, Option, Some, None, Result, Ok, Err, OnOk, refl, sym, ◌∙◌, ap, subst, arith, length-append}
+use Rattle.std.proofs.Common.{◌≡◌, ◌⊎◌, inl, inr, ℕ, ◌+◌, ◌-◌, ◌*◌, ◌%◌, ◌^◌, ◌<◌, ◌≤◌, Bool, true, false, List, [], ◌∷◌, ◌++◌, length, take, drop, Option, Some, None, Result, Ok, Err, OnOk, refl, sym, ◌∙◌, ap, subst, arith, append_assoc, length-append}
+use Rattle.std.proofs.Math.Seq.{take-append-add}
+use Rattle.std.proofs.lemmas.List.{drop_at}
 use Rattle.cd_edges.specs.declared.area.Area.TheVariants.{Journal}
 use Rattle.cd_edges.specs.Disk.{Store, Cloud, LeavesOnly, IsAtArea}
 use Rattle.cd_edges.proofs.Moments.{weaker}
 use Rattle.commit_journal.specs.Records.{chain, IsJournal}
+use Rattle.commit_journal.specs.Frames.{IsClosed}
 use Rattle.journal_start.specs.declared.start.Header.{Header}
 use Rattle.journal_start.specs.declared.start.Start.{Start}
 use Rattle.journal_start.specs.Ranges.{IsHeader, IsStart}
@@ -28,6 +31,27 @@ pub half_stays : (old new : records.State) (more : Bool) → steps.StepIs old ne
 half_stays old new true over = over.half
 half_stays old new false same = same.0
 
+-- the gate at which the records end
+closed_gate : (before now : records.State) (store : Store) (bodies : List (List ℕ)) → records.IsReading before store bodies → now.half ≡ before.half → records.IsEnded now store bodies
+    → IsClosed (steps.rest_of before store)
+closed_gate before now store bodies r half e =
+    let j = e.chain_is in
+    let front = chain bodies ++ j.gate ∷ [] in
+    let long : length front ≡ length (chain bodies) + 1 = omega (arith, length-append (chain bodies) (j.gate ∷ [])) in
+    let m = half_len - length front in
+    let sum : half_len ≡ length front + m = omega (arith, long, e.within, e.gate) in
+    let late = j.gate ∷ take m j.behind in
+    let whole : half_of now.half store.read ≡ front ++ j.behind = j.spelled ∙ sym (append_assoc (chain bodies) (j.gate ∷ []) j.behind) in
+    let part : part_of now.half store.read ≡ chain bodies ++ late =
+    ap (take half_len) whole ∙ ap (λ (n : ℕ). take n (front ++ j.behind)) sum ∙ take-append-add front j.behind m ∙ append_assoc (chain bodies) (j.gate ∷ []) (take m j.behind) in
+    record {
+      gate = j.gate;
+      behind = take m j.behind;
+      shut = j.shut;
+      spelled = ap (λ (h : ℕ). drop before.gate (part_of h store.read)) (sym half) ∙ ap (λ (l : List ℕ). drop before.gate l) part
+          ∙ ap (λ (n : ℕ). drop n (chain bodies ++ late)) r.gate ∙ drop_at (chain bodies) late (length (chain bodies)) refl;
+    }
+
 pub took_is : (before after : State) (now : records.State) (store : Store) (w : Where) (more : Bool) (result : Result Bool JournalErr) → IsReading before store w → now.half ≡ before.current.half
     → steps.NextIs before.current now store (all_bodies w) (Ok more) → TookIs (record before { current = now }) after more result → NextIs before after store w result
 took_is before after now store w true (Ok true) is half read same =
@@ -47,7 +71,10 @@ took_is before after now store w false (Ok false) is half read took =
       full = omega (arith, took.0, is.left);
     })
 took_is before after now store w false (Err (Damaged at byte)) is half read early =
-    inr (record { more = early.more; place = early.place ∙ ap (λ (h : ℕ). h * half_len + records_place before.start) half; byte_is = early.byte_is })
+    inr (
+      closed_gate before.current now store (all_bodies w) is.read half read,
+      record { more = early.more; place = early.place ∙ ap (λ (h : ℕ). h * half_len + records_place before.start) half; byte_is = early.byte_is },
+    )
 took_is before after now store w true (Ok false) is half read none = absurd none
 took_is before after now store w true (Err e) is half read none = absurd none
 took_is before after now store w false (Ok true) is half read none = absurd none

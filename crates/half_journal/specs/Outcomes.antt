@@ -4,6 +4,7 @@ use Rattle.std.specs.Int.{w32, to_be_bytes}
 use Rattle.cd_edges.specs.declared.area.Area.TheVariants.{Journal}
 use Rattle.cd_edges.specs.Disk.{Store, Cloud, LeavesOnly, IsAtArea}
 use Rattle.commit_journal.specs.Records.{IsDamage}
+use Rattle.commit_journal.specs.Frames.{IsClosed}
 use Rattle.journal_start.specs.declared.start.Header.{Header}
 use Rattle.journal_start.specs.declared.start.Start.{Start}
 use Rattle.journal_start.specs.Spelling.{records_of}
@@ -28,9 +29,9 @@ pub record EndsEarly (state : State) (at byte : ℕ) : Type 0 where
   pub place : at ≡ state.current.half * half_len + records_place state.start
   pub byte_is : byte ≡ slice_index (to_be_bytes w32 (records_of state.start.checkpoint)) 0
 
--- a record is damaged, or the chain closes early
+-- a record is damaged, or the gate is closed and the chain ends early
 abbrev pub IsDamaged : State → Store → ℕ → ℕ → Type 0
-IsDamaged state store at byte = IsDamage (rest_of state.current store) (gate_at state.current) at byte ⊎ EndsEarly state at byte
+IsDamaged state store at byte = IsDamage (rest_of state.current store) (gate_at state.current) at byte ⊎ (IsClosed (rest_of state.current store) × EndsEarly state at byte)
 
 -- one record was read, or the gate is closed: what follows
 abbrev pub TookIs : State → State → Bool → Result Bool JournalErr → Type 0
