@@ -66,15 +66,15 @@ abbrev AddsFor : Shape → List Command → UserId → Command → Type 0
 AddsFor shape list user command = LawfulIn shape (user_view shape list (user_of command)) command × (user_of command ≡ user)
 
 -- what a request adds is what it adds without deletions
-added_from : (o : Option RequestCommand) (command : Command) → added_by o ≡ Some command → (c : RequestCommand) × (o ≡ Some c) × (command ≡ of_request c)
+pub added_from : (o : Option RequestCommand) (command : Command) → added_by o ≡ Some command → (c : RequestCommand) × (o ≡ Some c) × (command ≡ of_request c)
 added_from None command e = absurd (let no : None ≡ Some command = e in cc)
 added_from (Some c) command e = (c, refl, let f : Some (of_request c) ≡ Some command = e in cc)
 
-deletes_from : (entry : Option FileEntry) (c command : Command) → (delete_outcome entry c).adds ≡ Some command → IsSome entry × (command ≡ c)
+pub deletes_from : (entry : Option FileEntry) (c command : Command) → (delete_outcome entry c).adds ≡ Some command → IsSome entry × (command ≡ c)
 deletes_from None c command e = absurd (let no : None ≡ Some command = e in cc)
 deletes_from (Some entry) c command e = (refl, let f : Some c ≡ Some command = e in cc)
 
-none_added : (command : Command) → added_by None ≡ Some command → ⊥
+pub none_added : (command : Command) → added_by None ≡ Some command → ⊥
 none_added command e = let no : None ≡ Some command = e in cc
 
 adds_for : (shape : Shape) (cloud : ℕ) (list : List Command) (ask : Ask) (command : Command) → (answer_over shape cloud list ask).adds ≡ Some command
@@ -111,7 +111,7 @@ record KeepsRules (shape : Shape) (v : View) : Type 0 where
 rules_begun : (shape : Shape) → KeepsRules shape no_view
 rules_begun shape = record { apart = λ i j a b at_i at_j same. absurd (let no : None ≡ Some a = at_i in cc); owned = λ entry c. absurd (contains_nothing entry c) }
 
-contained : {X : Type 0} (P : X → Type 0) (xs : List X) → ((x : X) → Contains xs x → P x) → All P xs
+pub contained : {X : Type 0} (P : X → Type 0) (xs : List X) → ((x : X) → Contains xs x → P x) → All P xs
 contained P xs each k d below = each (get_or xs k d) (Contains-get_or xs k d below)
 
 rules_step : (shape : Shape) (v : View) (command : Command) → LawfulIn shape v command → KeepsRules shape v → KeepsRules shape (view_after shape v command)

@@ -26,7 +26,7 @@ use Rattle.command_list.proofs.Views.{strings_among, sent_is_held, held_more}
 abbrev own_bytes : List Command → ℕ
 own_bytes some = sum_by (λ (s : List ℕ). length s) (strings_in some)
 
-sums_alike : (f g : List ℕ → ℕ) (xs : List (List ℕ)) → ((x : List ℕ) → Contains xs x → f x ≡ g x) → sum_by f xs ≡ sum_by g xs
+pub sums_alike : (f g : List ℕ → ℕ) (xs : List (List ℕ)) → ((x : List ℕ) → Contains xs x → f x ≡ g x) → sum_by f xs ≡ sum_by g xs
 sums_alike f g [] same = refl
 sums_alike f g (x ∷ xs) same =
     omega (arith, sum_by-cons f x xs, sum_by-cons g x xs, same x (contains_here x xs), sums_alike f g xs (λ y c. same y (contains_later x xs y c)))
@@ -48,7 +48,7 @@ holds_before list more holds s c =
 
 -- ---- full rooms
 
-commands_more : (user : UserId) (list more : List Command) → commands_of user (list ++ more) ≡ commands_of user list ++ commands_of user more
+pub commands_more : (user : UserId) (list more : List Command) → commands_of user (list ++ more) ≡ commands_of user list ++ commands_of user more
 commands_more user list more = filter-append (is_of user) list more
 
 -- In two lists in which a user has the same commands, the same command of the user finds the same room full.

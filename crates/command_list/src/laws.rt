@@ -140,6 +140,9 @@ pub fn law_of_rooms()
         → IsWithin shape rooms list }
     ensures each { (shape : Shape) (rooms : Rooms) (list : List Command) (user : UserId) → IsWithin shape rooms list
         → UsesWithin shape rooms list user }
+    // One command more for which no room is full keeps it so.
+    ensures next { (shape : Shape) (rooms : Rooms) (list : List Command) (command : Command) → IsWithin shape rooms list
+        → full_for shape rooms list command ≡ None → IsWithin shape rooms (list ++ command ∷ []) }
 {}
 
 /// The number of a list's commands, as an opening answers it: one more for each, as far as 64 bits reach.
@@ -150,7 +153,19 @@ pub fn law_of_numbers()
     ensures small { (list : List Command) → length list < 2 ^ 64 → counted list ≡ length list }
 {}
 
-/// A compact list: nothing is made of nothing.
+/// A compact list: each user sees the same in it, and what some user owns is held in it as before.
 pub fn law_of_compact_lists()
     ensures none { (shape : Shape) → compact shape [] ≡ [] }
+    // A user owns the same fingerprints, and has the same entry at each key.
+    ensures own { (shape : Shape) (list : List Command) (user : UserId) (fp : Fp)
+        → Contains (user_view shape (compact shape list) user).own fp ↔ Contains (user_view shape list user).own fp }
+    ensures entries { (shape : Shape) (list : List Command) (user : UserId) (key : Tag × Version)
+        → entry_at (user_view shape (compact shape list) user).files key
+        ≡ entry_at (user_view shape list user).files key }
+    // The same string is held under each fingerprint that some user owns.
+    ensures held { (shape : Shape) (list : List Command) (user : UserId) (fp : Fp)
+        → Contains (user_view shape list user).own fp → held_string (compact shape list) fp ≡ held_string list fp }
+    // It is a list that the cloud could have come to.
+    ensures sound { (shape : Shape) (cloud : ℕ) (list : List Command) → IsSound shape cloud list
+        → IsSound shape cloud (compact shape list) }
 {}
