@@ -1,0 +1,17 @@
+pub mod Apart
+mod Begun
+pub mod Behind
+pub mod Counting
+pub mod Ends
+pub mod Entries
+mod Laid
+pub mod Lists
+mod Numbers
+pub mod Once
+mod OneChain
+mod OneMore
+pub mod Placed
+pub mod Room
+mod Rows
+mod Spends
+pub mod Summing

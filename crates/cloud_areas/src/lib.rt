@@ -1,0 +1,5 @@
+//! Which lists of commands the areas of a cloud stand for, in the store's format with checkpoints: the records of the
+//! current half's chain say a list, and what they place lies in the areas. Nothing of it runs.
+#![tactic(auto)]
+
+pub mod laws;
