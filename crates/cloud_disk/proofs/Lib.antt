@@ -1,0 +1,6 @@
+pub mod Blobs
+pub mod Holding
+pub mod Both
+pub mod Ends
+pub mod Standing
+pub mod Adding

@@ -1,0 +1,87 @@
+-- Blobs that lie in an area before its log's end, and what a flush of the log leaves of them.
+use Rattle.std.specs.Prelude.{◌≡◌, ℕ, ◌+◌, ◌≤◌, List, [], ◌∷◌, ◌++◌, length, All, OnOk, Result, IsTrue}
+use Rattle.cd_edges.specs.declared.area.Area.{Area}
+use Rattle.cd_edges.specs.declared.area.Area.TheVariants.{Journal, Shares, Recipes}
+use Rattle.cd_edges.specs.Disk.{Areas, Image, Cloud, LeavesOnly, IsAtArea}
+use Rattle.cd_edges.specs.Shelf.{stable}
+use Rattle.container_log.specs.Laying.{Placed, placed, IsAt}
+use Rattle.container_log.specs.States.{State, HasStaged, Agrees}
+
+-- ---- one area
+
+-- each blob ends there or before
+abbrev pub IsBelow : ℕ → Placed → Type 0
+IsBelow end b = b.place + length b.blob ≤ end
+
+abbrev pub AreBelow : ℕ → List Placed → Type 0
+AreBelow end blobs = All (IsBelow end) blobs
+
+-- each blob lies at its place in these bytes
+abbrev pub LieIn : List Placed → List ℕ → Type 0
+LieIn blobs bytes = All (IsAt bytes) blobs
+
+-- The log is this area's, and each container that it keeps is what the area has there. These blobs lie in the area before the
+-- log's end, and all of the area is on the disk.
+pub record LogHolds (area : Area) (blobs : List Placed) (log : State) (now : Areas) : Type 0 where
+  pub area_is : log.area ≡ area
+  pub agrees : Agrees log (now log.area).read
+  pub on_disk : now area ≡ stable (now area).read
+  pub below : AreBelow log.end blobs
+  pub laid : LieIn blobs (now area).read
+
+-- the blobs, and those that are staged behind the log's end
+abbrev pub with_staged : List Placed → State → List (List ℕ) → List Placed
+with_staged blobs log staged = blobs ++ placed log.end staged
+
+-- ---- both areas of blobs
+
+-- Both logs do, and the journal is on the disk too.
+pub record LogsHold (in_shares in_recipes : List Placed) (shares recipes : State) (now : Areas) : Type 0 where
+  pub journal : now Journal ≡ stable (now Journal).read
+  pub shares_held : LogHolds Shares in_shares shares now
+  pub recipes_held : LogHolds Recipes in_recipes recipes now
+
+-- an image with this journal and these blobs
+pub record IsHeld (journal : List ℕ) (in_shares in_recipes : List Placed) (image : Image) : Type 0 where
+  pub journal_is : image Journal ≡ journal
+  pub shares_lie : LieIn in_shares (image Shares)
+  pub recipes_lie : LieIn in_recipes (image Recipes)
+
+-- ---- a flush
+
+-- the moments of a write of these bytes with its sync: none where there are no bytes, and else one for each call
+abbrev pub write_moments : List ℕ → ℕ
+write_moments [] = 0
+write_moments (byte ∷ bytes) = 2
+
+-- the moments of a flush
+abbrev pub flush_moments : State → ℕ
+flush_moments log = write_moments log.staged
+
+-- Whatever blobs lie there: each image since has them.
+abbrev pub KeepsBlobs : State → Cloud → Cloud → Type 0
+KeepsBlobs log old new = IsTrue old.told → (blobs : List Placed) → LogHolds log.area blobs log old.now
+    → LeavesOnly old new (IsAtArea old.now log.area (LieIn blobs))
+
+-- Whatever blobs lie there, and whatever is staged: those that were staged lie there too.
+abbrev pub HasFlushed : {T E : Type 0} → State → State → Cloud → Cloud → Result T E → Type 0
+HasFlushed before after old new result = IsTrue old.told → (blobs : List Placed) (staged : List (List ℕ))
+    → LogHolds before.area blobs before old.now → HasStaged before staged
+    → OnOk result (LogHolds before.area (with_staged blobs before staged) after new.now)
+
+-- The same of both areas, whatever lies in them.
+abbrev pub KeepBoth : State → State → Cloud → Cloud → Type 0
+KeepBoth shares recipes old new = IsTrue old.told → (in_shares in_recipes : List Placed) (new_shares : List (List ℕ))
+    → LogsHold in_shares in_recipes shares recipes old.now → HasStaged shares new_shares
+    → LeavesOnly old new (IsHeld (old.now Journal).read in_shares in_recipes)
+
+-- Whatever lies in both areas and is staged for them: it lies there then, and the journal is as it was.
+pub record HaveBoth (in_shares in_recipes : List Placed) (shares recipes : State) (old new : Cloud) : Type 0 where
+  pub held : LogsHold in_shares in_recipes shares recipes new.now
+  pub journal_is : new.now Journal ≡ old.now Journal
+
+abbrev pub HaveFlushed : {T E : Type 0} → State → State → State → State → Cloud → Cloud → Result T E → Type 0
+HaveFlushed shares recipes after_shares after_recipes old new result = IsTrue old.told
+    → (in_shares in_recipes : List Placed) (new_shares new_recipes : List (List ℕ))
+    → LogsHold in_shares in_recipes shares recipes old.now → HasStaged shares new_shares → HasStaged recipes new_recipes
+    → OnOk result (HaveBoth (with_staged in_shares shares new_shares) (with_staged in_recipes recipes new_recipes) after_shares after_recipes old new)

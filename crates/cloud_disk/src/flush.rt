@@ -1,0 +1,69 @@
+//! What is staged in the two logs, written.
+
+ghost use Rattle.std.specs.Prelude.{◌≡◌, ◌≢◌, ℕ, ◌+◌, List, [], IsTrue, OnOk, OnErr};
+ghost use Rattle.cd_edges.specs.declared.area.Area.{Area};
+ghost use Rattle.cd_edges.specs.Disk.{moment};
+ghost use Rattle.cd_edges.specs.Shelf.{IsCall, HasFailed, KeepsCounts};
+ghost use Rattle.container_log.specs.States.{HasStaged, staged_end, after_flush};
+ghost use Rattle.cloud_disk.specs.Held.{flush_moments, KeepsBlobs, HasFlushed, KeepBoth, HaveFlushed};
+
+use cd_base::CloudNo;
+use cd_edges::{Area, Failed, Shelf};
+use container_log::Log;
+
+// Writes what is staged in a log.
+fn flush_log<V: Shelf>(log: &mut Log, shelf: &mut V, cloud: CloudNo) -> Result<(), Failed>
+    ensures any_moment { KeepsBlobs log.old (V.cloud_at shelf.old cloud.0) (V.cloud_at shelf.new cloud.0) }
+    ensures held { HasFlushed log.old log.new (V.cloud_at shelf.old cloud.0) (V.cloud_at shelf.new cloud.0) result }
+    ensures others { IsTrue (V.cloud_at shelf.old cloud.0).told
+        → OnOk result ((other : Area) → other ≢ log.old.area
+        → (V.cloud_at shelf.new cloud.0).now other ≡ (V.cloud_at shelf.old cloud.0).now other) }
+    ensures moments { IsTrue (V.cloud_at shelf.old cloud.0).told
+        → OnOk result (moment (V.cloud_at shelf.new cloud.0)
+        ≡ moment (V.cloud_at shelf.old cloud.0) + flush_moments log.old) }
+    ensures log { log.new ≡ after_flush log.old result }
+    ensures none { HasStaged log.new [] }
+    ensures call { IsCall (V.cloud_at shelf.old) (V.cloud_at shelf.new) cloud.0
+        (V.faults shelf.old) (V.faults shelf.new) }
+    ensures failed { OnErr result (HasFailed (V.cloud_at shelf.old cloud.0) (V.cloud_at shelf.new cloud.0)
+        (V.faults shelf.old) (V.faults shelf.new)) }
+    ensures uncounted { OnOk result (KeepsCounts (V.cloud_at shelf.old cloud.0) (V.cloud_at shelf.new cloud.0)
+        (V.faults shelf.old) (V.faults shelf.new)) }
+{
+    log.flush(shelf, cloud)
+}
+
+// Writes what is staged in both logs, the shares first, and forgets all of it where that fails.
+pub(crate) fn flush_both<V: Shelf>(
+    shares: &mut Log,
+    recipes: &mut Log,
+    shelf: &mut V,
+    cloud: CloudNo,
+) -> Result<(), Failed>
+    ensures any_moment { KeepBoth shares.old recipes.old
+        (V.cloud_at shelf.old cloud.0) (V.cloud_at shelf.new cloud.0) }
+    ensures held { HaveFlushed shares.old recipes.old shares.new recipes.new
+        (V.cloud_at shelf.old cloud.0) (V.cloud_at shelf.new cloud.0) result }
+    ensures moments { IsTrue (V.cloud_at shelf.old cloud.0).told
+        → OnOk result (moment (V.cloud_at shelf.new cloud.0)
+        ≡ moment (V.cloud_at shelf.old cloud.0) + flush_moments shares.old + flush_moments recipes.old) }
+    ensures rooms { (shares.new.area ≡ shares.old.area) × (shares.new.limit ≡ shares.old.limit)
+        × (recipes.new.area ≡ recipes.old.area) × (recipes.new.limit ≡ recipes.old.limit) }
+    ensures ends { OnOk result ((shares.new.end ≡ staged_end shares.old)
+        × (recipes.new.end ≡ staged_end recipes.old)) }
+    ensures none { HasStaged shares.new [] × HasStaged recipes.new [] }
+    ensures call { IsCall (V.cloud_at shelf.old) (V.cloud_at shelf.new) cloud.0
+        (V.faults shelf.old) (V.faults shelf.new) }
+    ensures failed { OnErr result (HasFailed (V.cloud_at shelf.old cloud.0) (V.cloud_at shelf.new cloud.0)
+        (V.faults shelf.old) (V.faults shelf.new)) }
+    ensures uncounted { OnOk result (KeepsCounts (V.cloud_at shelf.old cloud.0) (V.cloud_at shelf.new cloud.0)
+        (V.faults shelf.old) (V.faults shelf.new)) }
+{
+    match flush_log(shares, shelf, cloud) {
+        Ok(()) => flush_log(recipes, shelf, cloud),
+        Err(Failed) => {
+            recipes.unstage();
+            Err(Failed)
+        }
+    }
+}
