@@ -1,0 +1,122 @@
+-- What the steps of a call need and leave. No public clause cites this module.
+use Rattle.std.specs.Prelude.{◌≡◌, ◌⊎◌, ℕ, ◌+◌, ◌*◌, ◌^◌, ◌<◌, ◌≤◌, max, List, [], ◌∷◌, length, Option, Some, None, Result, MatchResult}
+use Rattle.std.specs.FinMap.{FinMap, get, insert, len}
+use Rattle.cd_base.specs.declared.ids.Fp.{Fp}
+use Rattle.cd_base.specs.declared.ids.UserId.{UserId}
+use Rattle.cd_base.specs.declared.rooms.Room.TheVariants.{Files}
+use Rattle.file_index.specs.declared.key.Entry.{Entry}
+use Rattle.file_index.specs.Order.{key_cmp}
+use Rattle.index_base.specs.declared.Accounts.TheVariants.{PerUser}
+use Rattle.file_index.specs.Files.{key_of}
+use Rattle.file_index.specs.Files.{used_by as files_used}
+use Rattle.index_base.specs.Accounts.{limit_for, keys_of}
+use Rattle.journal_start.specs.declared.rooms.Rooms.{Rooms}
+use Rattle.record_body.specs.declared.body.CommitBody.{CommitBody}
+use Rattle.record_body.specs.declared.body.PutItem.{PutItem}
+use Rattle.share_index.specs.declared.key.Place.{Place}
+use Rattle.share_index.specs.Order.{owner_of}
+use Rattle.share_index.specs.Shares.{used_by as owners_used}
+use Rattle.spent_table.specs.Spending.{spent_by}
+use Rattle.cloud_memory.specs.declared.cloud.CloudMemory.{CloudMemory}
+use Rattle.cloud_memory.specs.declared.rooms.Full.{Full}
+use Rattle.cloud_memory.specs.declared.rooms.New.{New}
+use Rattle.cloud_memory.specs.Memory.{Memory}
+use Rattle.cloud_memory.specs.News.{AreNewTo}
+use Rattle.cloud_memory.specs.Rooms.{memory_of}
+use Rattle.cloud_memory.specs.Steps.{with_item, part_in}
+
+-- The limits are as they were.
+pub record KeepsLimits (old new : CloudMemory) : Type 0 where
+  pub fps : new.shares.fps ≡ old.shares.fps
+  pub owners : new.shares.accounts ≡ old.shares.accounts
+  pub files : new.files.accounts ≡ old.files.accounts
+
+-- A fingerprint got this place.
+pub record Placed (old new : CloudMemory) (fp : Fp) (place : Place) : Type 0 where
+  pub places : new.shares.places ≡ insert old.shares.places fp.0 place
+  pub owners : new.shares.owners ≡ old.shares.owners
+  pub files : new.files ≡ old.files
+  pub spent : new.spent ≡ old.spent
+  pub end : new.shares_end ≡ max old.shares_end (place.at + place.len)
+  pub recipes_end : new.recipes_end ≡ old.recipes_end
+  pub limits : KeepsLimits old new
+
+-- The user owns the fingerprint too.
+pub record Owned (old new : CloudMemory) (user : UserId) (fp : Fp) : Type 0 where
+  pub owners : new.shares.owners ≡ insert old.shares.owners (owner_of user.0 fp.0) 0
+  pub places : new.shares.places ≡ old.shares.places
+  pub files : new.files ≡ old.files
+  pub spent : new.spent ≡ old.spent
+  pub shares_end : new.shares_end ≡ old.shares_end
+  pub recipes_end : new.recipes_end ≡ old.recipes_end
+  pub limits : KeepsLimits old new
+
+-- The user doesn't own the fingerprint, and the indexes have room for it.
+pub record HasShareRoom (cloud : CloudMemory) (user : UserId) (fp : Fp) : Type 0 where
+  pub new : get cloud.shares.owners (owner_of user.0 fp.0) ≡ None
+  pub owners : owners_used cloud.shares user.0 < limit_for cloud.shares.accounts user.0
+  pub fps : get cloud.shares.places fp.0 ≡ None → len cloud.shares.places < cloud.shares.fps
+
+-- The share is added with its part of the record.
+pub record Adds (old new : CloudMemory) (user : UserId) (n : New) (item : PutItem) : Type 0 where
+  pub part : item ≡ part_in (memory_of old) n
+  pub taken : memory_of new ≡ with_item user (memory_of old) item
+  pub lacks : get old.shares.owners (owner_of user.0 n.fp.0) ≡ None
+  pub near : new.shares_end ≤ old.shares_end + 8589934592
+  pub limits : KeepsLimits old new
+
+-- The shares are added, one behind another.
+abbrev pub AddsAll : CloudMemory → CloudMemory → UserId → List New → List PutItem → Type 0
+AddsAll old new user [] [] = new ≡ old
+AddsAll old new user [] (item ∷ items) = ⊥
+AddsAll old new user (n ∷ news) [] = ⊥
+AddsAll old new user (n ∷ news) (item ∷ items) = (mid : CloudMemory) × Adds old mid user n item × AddsAll mid new user news items
+
+-- These shares are new to the user, and the indexes have room for all of them.
+pub record MayAdd (cloud : CloudMemory) (user : UserId) (news : List New) : Type 0 where
+  pub apart : AreNewTo (memory_of cloud) user news
+  pub users : ℕ
+  pub limit : ℕ
+  pub accounts : cloud.shares.accounts ≡ PerUser users limit
+  pub known : user.0 < users
+  pub owners : keys_of (λ k. k.user) cloud.shares.owners user.0 + length news ≤ limit
+  pub fps : len cloud.shares.places + length news ≤ cloud.shares.fps
+  pub end : cloud.shares_end + 8589934592 * length news < 2 ^ 63
+
+-- The user's rooms are wide enough for a Put of so many shares with so many bytes, and the indexes have room for it.
+pub record FitsPut (rooms : Rooms) (m : Memory) (user : UserId) (count more : ℕ) : Type 0 where
+  pub place : user.0 < rooms.users
+  pub owners : (spent_by m.spent user).owners + count ≤ rooms.owners
+  pub shares : (spent_by m.spent user).shares + more ≤ rooms.shares
+  pub owned : keys_of (λ k. k.user) m.owners user.0 + count ≤ rooms.owners
+  pub placed : len m.places + count ≤ rooms.users * rooms.owners
+
+-- a memory with another map of entries
+abbrev pub with_files : Memory → FinMap key_cmp Entry → Memory
+with_files m files = record { places = m.places; owners = m.owners; files = files; spent = m.spent; shares_end = m.shares_end; recipes_end = m.recipes_end }
+
+-- The version has the entry that the Commit says.
+pub record Entered (old new : CloudMemory) (body : CommitBody) : Type 0 where
+  pub memory : memory_of new ≡ with_files (memory_of old) (insert old.files.files (key_of body.user.0 body.tag.0 body.version.0) (record { at = body.at; len = body.len; fp = body.fp }))
+  pub room : ¬ (files_used old.files body.user.0 ≡ limit_for old.files.accounts body.user.0)
+  pub limits : KeepsLimits old new
+
+-- The user has as many entries as it may, and nothing changed.
+pub record IsCrowded (old new : CloudMemory) (body : CommitBody) (full : Full) : Type 0 where
+  pub same : new ≡ old
+  pub full_is : full ≡ record { room = Files; used = files_used old.files body.user.0; need = 1; limit = limit_for old.files.accounts body.user.0 }
+  pub used : files_used old.files body.user.0 ≡ limit_for old.files.accounts body.user.0
+
+abbrev pub Enters : CloudMemory → CloudMemory → CommitBody → Result Unit Full → Type 0
+Enters old new body result = MatchResult result (λ _. Entered old new body) (λ full. IsCrowded old new body full)
+
+-- Nothing that is remembered changed: the user has as many entries as it may, or else the other room is full.
+pub record IsRefused (old new : CloudMemory) (body : CommitBody) (other : Option Full) (full : Full) : Type 0 where
+  pub memory : memory_of new ≡ memory_of old
+  pub limits : KeepsLimits old new
+  pub why : (full ≡ record { room = Files; used = files_used old.files body.user.0; need = 1; limit = limit_for old.files.accounts body.user.0 })
+      × (files_used old.files body.user.0 ≡ limit_for old.files.accounts body.user.0)
+      ⊎ ((¬ (files_used old.files body.user.0 ≡ limit_for old.files.accounts body.user.0)) × (other ≡ Some full))
+
+abbrev pub EntersWithin : CloudMemory → CloudMemory → CommitBody → Option Full → Result Unit Full → Type 0
+EntersWithin old new body other result = MatchResult result (λ _. Entered old new body × (other ≡ None)) (λ full. IsRefused old new body other full)

@@ -1,0 +1,24 @@
+-- What the records of a journal need of a memory that takes them.
+use Rattle.std.specs.Prelude.{◌≡◌, ◌<◌, ◌^◌, None, IfSome}
+use Rattle.std.specs.FinMap.{get, len}
+use Rattle.cd_base.specs.declared.ids.Fp.{Fp}
+use Rattle.cd_base.specs.declared.ids.UserId.{UserId}
+use Rattle.index_base.specs.Accounts.{limit_for}
+use Rattle.record_body.specs.declared.body.PutItem.{PutItem}
+use Rattle.share_index.specs.declared.key.Place.{Place}
+use Rattle.share_index.specs.Order.{owner_of}
+use Rattle.share_index.specs.Shares.{used_by as owners_used}
+use Rattle.cloud_areas.specs.Placing.{end_of}
+use Rattle.cloud_memory.specs.declared.cloud.CloudMemory.{CloudMemory}
+
+-- The fingerprint has no place, and the index has room for this one.
+pub record HasPlaceRoom (cloud : CloudMemory) (fp : Fp) (place : Place) : Type 0 where
+  pub new : get cloud.shares.places fp.0 ≡ None
+  pub fps : len cloud.shares.places < cloud.shares.fps
+  pub end : end_of place < 2 ^ 64
+
+-- The share is new to its user, and the index has room for it; and where the item has a place, there is room for that.
+pub record HasItemRoom (cloud : CloudMemory) (user : UserId) (item : PutItem) : Type 0 where
+  pub new : get cloud.shares.owners (owner_of user.0 item.fp.0) ≡ None
+  pub owners : owners_used cloud.shares user.0 < limit_for cloud.shares.accounts user.0
+  pub place : IfSome item.place (HasPlaceRoom cloud item.fp)

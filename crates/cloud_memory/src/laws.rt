@@ -1,0 +1,131 @@
+//! The laws of a server's memory, for the proofs of callers. The calls do nothing.
+
+ghost use Rattle.std.specs.Prelude.{◌≡◌, ◌<◌, ◌≤◌, ℕ, List, [], ◌∷◌, ◌++◌, length, Some, None};
+ghost use Rattle.std.specs.FinMap.{get};
+ghost use Rattle.cd_base.specs.declared.ids.Tag.{Tag};
+ghost use Rattle.cd_base.specs.declared.ids.UserId.{UserId};
+ghost use Rattle.cd_base.specs.declared.ids.Version.{Version};
+ghost use Rattle.cd_base.specs.declared.shape.Shape.{Shape};
+ghost use Rattle.cd_base.specs.declared.ids.Fp.{Fp};
+ghost use Rattle.container_log.specs.Places.{place_of};
+ghost use Rattle.file_index.specs.Files.{key_of};
+ghost use Rattle.journal_start.specs.declared.rooms.Rooms.{Rooms};
+ghost use Rattle.record_body.specs.declared.body.CommitBody.{CommitBody};
+ghost use Rattle.record_bodies.specs.declared.body.DeleteBody.{DeleteBody};
+ghost use Rattle.record_bodies.specs.Spelling as bodies;
+ghost use Rattle.record_bodies.specs.Spelling.{Body};
+ghost use Rattle.user_dedup.specs.declared.file_list.FileEntry.{FileEntry};
+ghost use Rattle.user_dedup.specs.Pages.{entry_at};
+ghost use Rattle.user_dedup.specs.Requests.{fps_of};
+ghost use Rattle.command_list.specs.declared.command.Command.{Command};
+ghost use Rattle.command_list.specs.declared.command.Command.TheVariants as commands;
+ghost use Rattle.command_list.specs.Commands.{user_view};
+ghost use Rattle.command_list.specs.Asking.{IsSound};
+ghost use Rattle.cloud_memory.specs.declared.rooms.New.{New};
+ghost use Rattle.cloud_memory.specs.Memory.{Memory, Remembers, IsPlacedBy, HasEnds};
+ghost use Rattle.cloud_memory.specs.News.{AreOf, AreNewTo};
+ghost use Rattle.command_list.specs.Spending.{files_of, full_for, IsWithin};
+ghost use Rattle.cloud_areas.specs.Chains.{commit_of, IsRecord};
+ghost use Rattle.cloud_areas.specs.Laid.{AreLaid};
+ghost use Rattle.cloud_areas.specs.Placing.{places_given, places_of};
+ghost use Rattle.cloud_memory.specs.Rooms.{full_news, full_commit};
+ghost use Rattle.cloud_memory.specs.Sharing.{AreOwned};
+ghost use Rattle.cloud_memory.specs.Steps.{begun, with_put, parts_of, with_commit, without_entry};
+
+/// A memory of a sound list, with what a Put leaves, is that of the list with the Put.
+pub fn law_of_puts()
+    ensures { (shape : Shape) (cloud : ℕ) (list : List Command) (user : UserId) (strings : List (List ℕ))
+        (news : List New) (m : Memory)
+        → IsSound shape cloud list → Remembers shape list m → AreOf news strings → AreNewTo m user news
+        → user.0 < length m.spent
+        → Remembers shape (list ++ commands.Put user strings ∷ []) (with_put user (parts_of user m news) m) }
+{}
+
+/// A memory of a list, with what a Commit leaves, is that of the list with the Commit. The user doesn't have the
+/// version and owns what the recipe names, and has no more entries than users may have.
+pub fn law_of_commits()
+    ensures { (shape : Shape) (list : List Command) (user : UserId) (tag : Tag) (version : Version)
+        (recipe : List ℕ) (at : ℕ) (m : Memory)
+        → Remembers shape list m → get m.files (key_of user.0 tag.0 version.0) ≡ None
+        → AreOwned m.owners user (fps_of shape recipe)
+        → files_of shape list user ≤ 16384 → user.0 < length m.spent
+        → Remembers shape (list ++ commands.Commit user tag version recipe ∷ [])
+        (with_commit (fps_of shape recipe) (commit_of user tag version recipe at) m) }
+{}
+
+/// A memory of a sound list, with what a Delete leaves, is that of the list with the Delete.
+pub fn law_of_deletes()
+    ensures { (shape : Shape) (cloud : ℕ) (list : List Command) (user : UserId) (tag : Tag) (version : Version)
+        (entry : FileEntry) (m : Memory)
+        → IsSound shape cloud list → Remembers shape list m
+        → entry_at (user_view shape list user).files (tag, version) ≡ Some entry
+        → Remembers shape (list ++ commands.Delete user tag version ∷ [])
+        (without_entry (fps_of shape entry.recipe) user (key_of user.0 tag.0 version.0) m) }
+{}
+
+/// What a memory places is what the records place, with the record of a Put, a Commit or a Delete more.
+pub fn law_of_placing()
+    ensures begun { (users region : ℕ) → IsPlacedBy [] (begun users region) }
+    ensures puts { (records : List Body) (user : UserId) (news : List New) (m : Memory) → IsPlacedBy records m
+        → IsPlacedBy (records ++ bodies.Put user (parts_of user m news) ∷ []) (with_put user (parts_of user m news) m) }
+    ensures commits { (records : List Body) (names : List Fp) (commit : CommitBody) (m : Memory) → IsPlacedBy records m
+        → IsPlacedBy (records ++ bodies.Commit commit ∷ []) (with_commit names commit m) }
+    ensures deletes { (records : List Body) (names : List Fp) (delete : DeleteBody) (m : Memory) → IsPlacedBy records m
+        → IsPlacedBy (records ++ bodies.Delete delete ∷ [])
+        (without_entry names delete.user (key_of delete.user.0 delete.tag.0 delete.version.0) m) }
+{}
+
+/// The logs end behind all that the records place and within what was spent, with one command and its record more.
+pub fn law_of_ends()
+    ensures begun { (users region : ℕ) → HasEnds region [] [] (begun users region) }
+    ensures puts { (shape : Shape) (cloud : ℕ) (list : List Command) (user : UserId) (strings : List (List ℕ))
+        (news : List New)
+        (m : Memory) (region : ℕ) (records : List Body)
+        → IsSound shape cloud list → Remembers shape list m → AreOf news strings → AreNewTo m user news
+        → HasEnds region list records m
+        → HasEnds region (list ++ commands.Put user strings ∷ [])
+        (records ++ bodies.Put user (parts_of user m news) ∷ [])
+        (with_put user (parts_of user m news) m) }
+    ensures commits { (list : List Command) (user : UserId) (tag : Tag) (version : Version)
+        (recipe : List ℕ) (names : List Fp)
+        (m : Memory) (region : ℕ) (records : List Body) → HasEnds region list records m
+        → HasEnds region (list ++ commands.Commit user tag version recipe ∷ [])
+        (records ++ bodies.Commit (commit_of user tag version recipe (place_of m.recipes_end (length recipe))) ∷ [])
+        (with_commit names (commit_of user tag version recipe (place_of m.recipes_end (length recipe))) m) }
+    ensures deletes { (list : List Command) (user : UserId) (tag : Tag) (version : Version)
+        (names : List Fp) (m : Memory)
+        (region : ℕ) (records : List Body) → HasEnds region list records m
+        → HasEnds region (list ++ commands.Delete user tag version ∷ [])
+        (records ++ bodies.Delete (record { user = user; tag = tag; version = version }) ∷ [])
+        (without_entry names user (key_of user.0 tag.0 version.0) m) }
+{}
+
+/// The room that is full by a memory is the one that is full by its list, which is sound and within its rooms: the
+/// indexes' own numbers are never the first that is passed there.
+pub fn law_of_full_rooms()
+    ensures puts { (shape : Shape) (cloud : ℕ) (rooms : Rooms) (list : List Command) (user : UserId) (m : Memory)
+        (strings : List (List ℕ)) (news : List New)
+        → IsSound shape cloud list → Remembers shape list m → IsWithin shape rooms list
+        → AreOf news strings → AreNewTo m user news
+        → full_news rooms user m news ≡ full_for shape rooms list (commands.Put user strings) }
+    ensures commits { (shape : Shape) (cloud : ℕ) (rooms : Rooms) (list : List Command) (user : UserId) (m : Memory)
+        (tag : Tag) (version : Version) (recipe : List ℕ)
+        → IsSound shape cloud list → Remembers shape list m → IsWithin shape rooms list
+        → full_commit rooms user m (length recipe)
+        ≡ full_for shape rooms list (commands.Commit user tag version recipe) }
+{}
+
+/// What a Put and a Commit of a list that the memory remembers write behind its ends is the record of the command.
+pub fn law_of_records()
+    ensures puts { (shape : Shape) (list : List Command) (user : UserId) (strings : List (List ℕ)) (news : List New)
+        (m : Memory) (region : ℕ) (records : List Body)
+        → Remembers shape list m → AreOf news strings → HasEnds region list records m
+        → IsRecord region records list (commands.Put user strings) (bodies.Put user (parts_of user m news)) [] }
+    ensures laid { (user : UserId) (news : List New) (m : Memory)
+        → AreLaid m.shares_end (places_of (places_given (parts_of user m news))) }
+    ensures commits { (list : List Command) (user : UserId) (tag : Tag) (version : Version) (recipe : List ℕ)
+        (m : Memory) (region : ℕ) (records : List Body) → HasEnds region list records m
+        → IsRecord region records list (commands.Commit user tag version recipe)
+        (bodies.Commit (commit_of user tag version recipe (place_of m.recipes_end (length recipe))))
+        (record { place = place_of m.recipes_end (length recipe); blob = recipe } ∷ []) }
+{}

@@ -1,0 +1,11 @@
+//! A server's memory with rooms for each user.
+#![tactic(auto)]
+
+#[cfg(test)]
+mod limits;
+#[cfg(test)]
+mod lists;
+#[cfg(test)]
+mod puts;
+#[cfg(test)]
+mod walks;

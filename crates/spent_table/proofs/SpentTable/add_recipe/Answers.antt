@@ -1,0 +1,6 @@
+use Rattle.std.proofs.Common.{◌∙◌}
+use Rattle.spent_table.proofs.Adding.{recipe_more}
+use Rattle.spent_table.proofs.SpentTable.add_recipe.Goals as goal
+
+pub returns : goal.returns
+returns c = c.set.ensures ∙ recipe_more c.args.self.now c.args.user.0 c.of-spent.result _ c.args.bytes c.of-spent.ensures

@@ -1,0 +1,10 @@
+use Rattle.std.proofs.Common.{◌+◌, ◌∙◌, ℕ, ap}
+use Rattle.std.specs.Prelude.{min}
+use Rattle.spent_table.proofs.Sums.{sum_more, sum_all}
+use Rattle.spent_table.proofs.sum_of_owners.Goals as goal
+
+pub loop-row-preserved : goal.loop-row-preserved
+loop-row-preserved c = sum_more (λ spent. spent.owners) c.args.rows.now c.loop-row.row-index c.loop-row.sum c.saturating_add-sum.result _ c.loop-row-test.true c.loop-row.invariant (c.saturating_add-sum.ensures ∙ ap (λ (x : ℕ). min (c.loop-row.sum + x) 18446744073709551615) c.from.ensures)
+
+pub returns : goal.returns
+returns c = sum_all (λ spent. spent.owners) c.args.rows.now c.loop-row.row-index c.loop-row.sum c.loop-row-test.false c.loop-row.invariant
