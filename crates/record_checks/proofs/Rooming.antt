@@ -1,0 +1,112 @@
+-- Room for the shares of a Put.
+use Rattle.std.proofs.Common.{◌≡◌, ℕ, ◌+◌, ◌<◌, ◌^◌, Bool, true, false, cond, List, [], ◌∷◌, length, Option, Some, None, refl, sym, ap, ◌∙◌, subst, arith, eq-eqb}
+use Rattle.std.specs.Prelude.{◌==◌, ◌↔◌, nat_lt, count_by, is_some, IsSome, IfSome, if◌then◌else◌}
+use Rattle.std.specs.FinMap.{FinMap, get, insert, len, len-insert}
+use Rattle.std.proofs.lemmas.List.Sums.{sum_by-cons}
+use Rattle.cd_base.specs.declared.ids.Fp.{Fp}
+use Rattle.cd_base.specs.declared.ids.UserId.{UserId}
+use Rattle.index_base.specs.declared.Accounts.{Accounts}
+use Rattle.index_base.specs.declared.Accounts.TheVariants.{PerUser}
+use Rattle.index_base.specs.Accounts.{limit_for, use_for, keys_of}
+use Rattle.journal_start.specs.declared.rooms.Rooms.{Rooms}
+use Rattle.pool_map.specs.MapSums.{sum_by-insert_new}
+use Rattle.record_body.specs.declared.body.PutItem.{PutItem}
+use Rattle.share_index.specs.declared.key.Owner.{Owner}
+use Rattle.share_index.specs.declared.key.Place.{Place}
+use Rattle.share_index.specs.Order.{fp_cmp, owner_cmp, owner_of}
+use Rattle.share_index.proofs.Owning.{owner_total}
+use Rattle.share_index.proofs.Placing.{fp_total}
+use Rattle.command_list.specs.Spending.{Spent, nothing, limits_of}
+use Rattle.cloud_areas.specs.Placing.{end_of}
+use Rattle.cloud_memory.specs.declared.cloud.CloudMemory.{CloudMemory}
+use Rattle.cloud_memory.specs.Memory.{Memory}
+use Rattle.cloud_memory.specs.Records.{HasPlaceRoom, HasItemRoom}
+use Rattle.cloud_memory.specs.Rooms.{memory_of, HasRooms}
+use Rattle.cloud_memory.specs.Steps.{with_item, with_items, places_with}
+use Rattle.record_checks.specs.declared.ground.Ground.{Ground}
+use Rattle.record_checks.specs.Checks.{IsRightItem, AreRight}
+use Rattle.record_checks.specs.Steps.{has_place, HasRoomFor}
+use Rattle.record_checks.proofs.Faults.{none_there}
+
+pub keys_more : (m : FinMap owner_cmp ℕ) (user : UserId) (fp : List ℕ) → get m (owner_of user.0 fp) ≡ None
+    → keys_of (λ (k : Owner). k.user) (insert m (owner_of user.0 fp) 0) user.0 ≡ 1 + keys_of (λ (k : Owner). k.user) m user.0
+keys_more m user fp none =
+    sum_by-insert_new owner_total (λ (e : Owner × ℕ). cond (e.0.user == user.0) 1 0) m (owner_of user.0 fp) 0 none
+    ∙ ap (λ (b : Bool). cond b 1 0 + keys_of (λ (k : Owner). k.user) m user.0) (eq-eqb user.0 user.0 refl)
+
+pub one_placed : (places : FinMap fp_cmp Place) (fp : Fp) (p : Place) → get places fp.0 ≡ None → len (insert places fp.0 p) ≡ len places + 1
+one_placed places fp p none = len-insert fp_total places fp.0 p ∙ ap (λ (o : Option Place). cond (is_some o) (len places) (len places + 1)) none
+
+-- one item more
+counted : (item : PutItem) (items : List PutItem) → count_by has_place (item ∷ items) ≡ cond (is_some item.place) 1 0 + count_by has_place items
+counted item items = sum_by-cons (λ (x : PutItem). cond (has_place x) 1 0) item items
+
+-- a share that passes its checks has one place more where its record gives it one
+places_more : (places : FinMap fp_cmp Place) (fp : Fp) (o : Option Place) → IsSome o ↔ (get places fp.0 ≡ None) → len (places_with places fp o) ≡ len places + cond (is_some o) 1 0
+places_more places fp None flagged = omega arith
+places_more places fp (Some p) flagged = one_placed places fp p (flagged.0 refl)
+
+-- the user's limit, by the index
+pub limit_is : (rooms : Rooms) (user : UserId) → (limits_of rooms user).owners ≡ limit_for (PerUser rooms.users rooms.owners) user.0
+limit_is rooms user = by_test (nat_lt user.0 rooms.users)
+  where
+    allowed : Spent
+    allowed = record { owners = rooms.owners; shares = rooms.shares; recipes = rooms.recipes }
+
+    by_test : (b : Bool) → (if◌then◌else◌ {A = Spent} b allowed nothing).owners ≡ (if b then rooms.owners else 0)
+    by_test true = refl
+    by_test false = refl
+
+module _ (g : Ground) (inside : Bool) (user : UserId) where
+  pub own_after : (m : Memory) (items : List PutItem) → AreRight g inside user m items
+      → keys_of (λ (k : Owner). k.user) (with_items user m items).owners user.0 ≡ keys_of (λ (k : Owner). k.user) m.owners user.0 + length items
+  own_after m [] right = omega arith
+  own_after m (item ∷ items) right =
+      let rest = own_after (with_item user m item) items right.1 in
+      let one = keys_more m.owners user item.fp.0 (none_there (get m.owners (owner_of user.0 item.fp.0)) right.0.new) in
+      omega (arith, rest, one)
+
+  pub placed_after : (m : Memory) (items : List PutItem) → AreRight g inside user m items → len (with_items user m items).places ≡ len m.places + count_by has_place items
+  placed_after m [] right = omega arith
+  placed_after m (item ∷ items) right =
+      let rest = placed_after (with_item user m item) items right.1 in
+      let one = places_more m.places item.fp item.place right.0.flagged in
+      let count = counted item items in
+      omega (arith, rest, one, count)
+
+  pub item_room : (cloud : CloudMemory) (item : PutItem) (items : List PutItem) → HasRoomFor g.rooms cloud user (item ∷ items) → IsRightItem g inside (memory_of cloud) user item
+      → IfSome item.place (λ (p : Place). end_of p < 2 ^ 64) → HasItemRoom cloud user item
+  item_room cloud item items room right small = record {
+    new = none_there (get cloud.shares.owners (owner_of user.0 item.fp.0)) right.new;
+    owners =
+        subst (λ (a : Accounts). use_for (λ (k : Owner). k.user) a cloud.shares.owners user.0 < limit_for a user.0) (sym room.rooms_are.owners)
+        (let more = room.owners in let limit = limit_is g.rooms user in omega (arith, more, limit));
+    place = by_place item.place refl small;
+  }
+    where
+      by_place : (o : Option Place) → o ≡ item.place → IfSome o (λ (p : Place). end_of p < 2 ^ 64) → IfSome o (HasPlaceRoom cloud item.fp)
+      by_place None is few = tt
+      by_place (Some p) is few = record {
+        new = right.flagged.0 (ap is_some (sym is));
+        fps =
+            let more = room.fps in
+            let here : count_by has_place (item ∷ items) ≡ 1 + count_by has_place items = counted item items ∙ ap (λ (b : Bool). cond b 1 0 + count_by has_place items) (ap is_some (sym is)) in
+            let fps = room.rooms_are.fps in
+            omega (arith, more, here, fps);
+        end = few;
+      }
+
+  pub room_after : (cloud next : CloudMemory) (item : PutItem) (items : List PutItem) → HasRoomFor g.rooms cloud user (item ∷ items) → IsRightItem g inside (memory_of cloud) user item
+      → memory_of next ≡ with_item user (memory_of cloud) item → HasRooms g.rooms next → HasRoomFor g.rooms next user items
+  room_after cloud next item items room right taken rooms = record {
+    rooms_are = rooms;
+    owners =
+        let more = room.owners in
+        let one = ap (λ (m : Memory). keys_of (λ (k : Owner). k.user) m.owners user.0) taken ∙ keys_more cloud.shares.owners user item.fp.0 (none_there (get cloud.shares.owners (owner_of user.0 item.fp.0)) right.new) in
+        omega (arith, more, one);
+    fps =
+        let more = room.fps in
+        let one = ap (λ (m : Memory). len m.places) taken ∙ places_more cloud.shares.places item.fp item.place right.flagged in
+        let count = counted item items in
+        omega (arith, more, one, count);
+  }

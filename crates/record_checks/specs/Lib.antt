@@ -1,0 +1,4 @@
+pub mod Checks
+pub mod Judging
+pub mod Noting
+pub mod Steps

@@ -1,0 +1,19 @@
+//! What is known of a store before its records.
+
+use cd_base::Shape;
+use journal_start::Rooms;
+
+/// What is known of a store before its records: by its start and its device.
+#[derive(Clone, Copy, Debug, PartialEq, Eq)]
+pub struct Ground {
+    /// The store's shape.
+    pub shape: Shape,
+    /// The rooms of its users.
+    pub rooms: Rooms,
+    /// The region that its blobs lie in.
+    pub region: u8,
+    /// The length of the area of shares, in bytes.
+    pub shares_len: u64,
+    /// The length of the area of recipes, in bytes.
+    pub recipes_len: u64,
+}

@@ -1,0 +1,22 @@
+//! One record of a journal with checkpoints, checked and taken into a server's memory.
+//!
+//! No call takes memory. A record comes from a disk: whatever its bytes are, the answer is exact.
+#![tactic(auto)]
+
+mod commits;
+mod damage;
+mod ground;
+mod items;
+mod kepts;
+pub mod laws;
+mod limits;
+mod noting;
+mod places;
+mod puts;
+mod record;
+mod taking;
+
+pub use damage::Damage;
+pub use ground::Ground;
+pub use record::{recipe_of, take};
+pub use taking::Taking;

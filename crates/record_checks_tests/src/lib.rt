@@ -1,0 +1,5 @@
+//! The checks of a journal's records.
+#![tactic(auto)]
+
+#[cfg(test)]
+mod records;
