@@ -1,0 +1,8 @@
+mod Behind
+mod Counted
+mod Front
+mod Inside
+mod Items
+mod Sized
+mod Split
+mod Taken

@@ -1,0 +1,9 @@
+pub mod Asked
+pub mod Chain
+pub mod Checkpoint
+pub mod Counts
+pub mod Known
+pub mod Next
+pub mod Places
+pub mod Segments
+pub mod Sums

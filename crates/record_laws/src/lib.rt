@@ -1,0 +1,4 @@
+//! What the records of a chain leave in a server's memory, and that each lawful record is taken. Nothing of it runs.
+#![tactic(auto)]
+
+pub mod laws;
