@@ -1,0 +1,51 @@
+-- All records of a journal, into a memory of no commands.
+use Rattle.std.proofs.Common.{◌≡◌, ℕ, List, Result, Ok, Err, ap, subst}
+use Rattle.cd_edges.specs.Disk.{Store}
+use Rattle.journal_halves.specs.Journals.{Where}
+use Rattle.half_journal.specs.declared.errors.OpenErr.{OpenErr}
+use Rattle.half_journal.specs.declared.errors.OpenErr.TheVariants.{Fault, NotBegun, Damaged, OtherStore}
+use Rattle.half_journal.specs.declared.journal.Stage.{Stage}
+use Rattle.half_journal.specs.Openings.{OnFault}
+use Rattle.half_journal.specs.States.{State}
+use Rattle.cloud_memory.specs.Memory.{Memory}
+use Rattle.cloud_memory.specs.Steps.{begun}
+use Rattle.record_checks.specs.declared.ground.Ground.{Ground}
+use Rattle.record_checks.specs.declared.taking.Taking.{Taking}
+use Rattle.record_checks.specs.Noting.{nothing_noted}
+use Rattle.store_opening.specs.Exact.{Closes, number_behind}
+use Rattle.store_opening.specs.Steps.{IsTraced, From, AllAs, HasEnded}
+
+pub traced_begun : (g : Ground) (users : ℕ) (m : Memory) (t : Taking) → m ≡ begun users g.region → t ≡ nothing_noted → IsTraced g m t
+traced_begun g users m t same none = record { shares = λ e. ap (λ (x : Memory). x.shares_end) same; recipes = λ e. ap (λ (x : Memory). x.recipes_end) same }
+
+module _ (g : Ground) (recipes : List ℕ) (store : Store) (w : Where) (before : State) (m0 : Memory) (t0 : Taking) (users : ℕ) (same : m0 ≡ begun users g.region) (none : t0 ≡ nothing_noted)
+    (after : State) (mid : Memory) (u : Taking) where
+  from_begun : (new : Memory) (answer : Result ℕ OpenErr) → From g recipes store new before 0 m0 t0 answer → From g recipes store new before 0 (begun users g.region) nothing_noted answer
+  from_begun new answer from =
+      subst (λ (t : Taking). From g recipes store new before 0 (begun users g.region) t answer) none (subst (λ (m : Memory). From g recipes store new before 0 m t0 answer) same from)
+
+  pub all_closed : (records number : ℕ) (answer : Result ℕ OpenErr) → AllAs g recipes store w before m0 t0 after mid u (Ok records) → number ≡ number_behind before.start records → Closes g mid u number answer
+      → From g recipes store mid before 0 (begun users g.region) nothing_noted answer
+  all_closed records number answer all is closes = from_begun mid answer (all.1 answer (subst (λ (n : ℕ). Closes g mid u n answer) is closes))
+
+  pub all_ended : (records : ℕ) → AllAs g recipes store w before m0 t0 after mid u (Ok records) → HasEnded after store w
+  all_ended records all = record { bodies = all.0.0; ended = all.0.2 }
+
+  pub all_failed : (error : OpenErr) (new : Memory) → AllAs g recipes store w before m0 t0 after mid u (Err error)
+      → OnFault {T = ℕ} (Err error) (Unit {0}) (From g recipes store new before 0 (begun users g.region) nothing_noted (Err error))
+  all_failed Fault new all = tt
+  all_failed (Damaged at byte) new all = from_begun new (Err (Damaged at byte)) (all new)
+  all_failed (NotBegun len) new all = absurd all
+  all_failed (OtherStore found asked at) new all = absurd all
+
+-- the same of another stage
+pub restaged_end : (state : State) (stage : Stage) (store : Store) (w : Where) → HasEnded state store w → HasEnded (record state { stage = stage }) store w
+restaged_end state stage store w h = let e = h.ended in record { bodies = h.bodies; ended = record { half = e.half; start = e.start; is_current = e.is_current; read = e.read; full = e.full } }
+
+-- an answer that isn't a failed call's
+pub unfailed_counts : {T : Type 0} (result : Result T OpenErr) (failed counts : Type 0) → OnFault result ⊥ (Unit {0}) → counts → OnFault result failed counts
+unfailed_counts (Ok value) failed counts is holds = holds
+unfailed_counts (Err Fault) failed counts is holds = absurd is
+unfailed_counts (Err (Damaged at byte)) failed counts is holds = holds
+unfailed_counts (Err (NotBegun len)) failed counts is holds = holds
+unfailed_counts (Err (OtherStore found asked at)) failed counts is holds = holds

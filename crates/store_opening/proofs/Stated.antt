@@ -1,0 +1,29 @@
+-- The laws that an opening stands on, of lists and of records.
+use Rattle.std.proofs.Common.{◌≡◌, ℕ, ◌≤◌, List, [], ◌∷◌, ◌++◌, length, take, drop}
+use Rattle.cd_edges.specs.declared.area.Area.TheVariants.{Journal, Recipes}
+use Rattle.cd_edges.specs.Disk.{Image}
+use Rattle.journal_start.specs.declared.start.Header.{Header}
+use Rattle.journal_halves.specs.Journals.{Where, HasChain}
+use Rattle.record_bodies.specs.Spelling.{Body, body_bytes, FitsBody}
+use Rattle.share_index.specs.declared.key.Place.{Place}
+use Rattle.command_list.specs.declared.command.Command.{Command}
+use Rattle.command_list.specs.Commands.{counted}
+use Rattle.cloud_areas.specs.Standing.{Chain, region_in, number_at, Holds, HasChainOf, StandsFor}
+use Rattle.cloud_memory.specs.Memory.{Memory}
+use Rattle.cloud_memory.specs.Steps.{begun}
+use Rattle.record_checks.specs.declared.taking.Taking.{Taking}
+use Rattle.record_checks.specs.Noting.{IsNoted}
+use Rattle.record_laws.specs.Leaving.{checkpoint_records, front_left}
+use Rattle.lawful_records.specs.Fronts.{marks_of, IsNext, Wants, PassesWith}
+
+pub record Laws : Type 0 where
+  pub there : (header : Header) (image : Image) (list : List Command) (c : Chain) (before : List Body) (body : Body) (place : Place) → IsNext header image list c before body → FitsBody body
+      → Wants header image c before body place → PassesWith header image c before body (take place.len (drop place.at (image Recipes)))
+  pub nowhere : (header : Header) (image : Image) (list : List Command) (c : Chain) (before : List Body) (body : Body) → IsNext header image list c before body → FitsBody body
+      → ((place : Place) → ¬ (Wants header image c before body place)) → PassesWith header image c before body []
+  pub begun_is : (header : Header) (image : Image) (c : Chain) → front_left header image c [] ≡ begun header.rooms.users (region_in c)
+  pub whole : (header : Header) (image : Image) (list : List Command) (c : Chain) → Holds header image list c → checkpoint_records c ≤ length c.records
+  pub marked : (at : ℕ) (m : Memory) (old new : Taking) (before : List Body) (body : Body) → FitsBody body → old.spent ≡ marks_of before → IsNoted at (body_bytes body) m old new
+      → new.spent ≡ marks_of (before ++ body ∷ [])
+  pub number : (image : Image) (header : Header) (list : List Command) (w : Where) → StandsFor image header list → HasChain (image Journal) w → counted list ≡ number_at w
+  pub chain_of : (image : Image) (header : Header) (list : List Command) (w : Where) → StandsFor image header list → HasChain (image Journal) w → HasChainOf image header list w

@@ -1,0 +1,5 @@
+pub mod Synced
+pub mod Starts
+pub mod Exact
+pub mod Steps
+pub mod Spared

@@ -1,0 +1,25 @@
+-- What the opening of a journal whose areas are synced first does to a told cloud. No public clause cites this module.
+use Rattle.std.specs.Prelude.{◌≡◌, ◌≢◌, Bool, false, Result, OnOk}
+use Rattle.cd_edges.specs.declared.area.Area.{Area}
+use Rattle.cd_edges.specs.declared.area.Area.TheVariants.{Journal}
+use Rattle.cd_edges.specs.Disk.{Cloud, LeavesOnly}
+use Rattle.cd_edges.specs.Shelf.{stable}
+use Rattle.journal_start.specs.declared.start.Header.{Header}
+use Rattle.journal_halves.specs.Journals.{HasChain}
+use Rattle.half_journal.specs.declared.errors.OpenErr.{OpenErr}
+use Rattle.half_journal.specs.Openings.{IsUnbegun, MayBecome, OpensIs, IsOpened, OnFault}
+use Rattle.half_journal.specs.States.{State, new_of}
+use Rattle.store_opening.specs.Synced.{AreSynced, BeginsSynced}
+
+-- Each image since, the answer, and what stands after Ok.
+pub record IsStarted (header : Header) (begin : Bool) (old new : Cloud) (after : State) (result : Result (Unit {0}) OpenErr) : Type 0 where
+  pub any_moment : LeavesOnly old new (MayBecome old.now header begin)
+  pub answer : OpensIs (old.now Journal).read header begin result
+  pub opened : OnOk result (IsOpened after (new.now Journal) header)
+  pub begun : ¬ IsUnbegun (old.now Journal).read → OnOk result (new.now Journal ≡ stable (old.now Journal).read)
+  pub unbegun : IsUnbegun (old.now Journal).read → OnOk result (HasChain (new.now Journal).read (new_of header))
+  pub others : OnOk result ((other : Area) → other ≢ Journal → new.now other ≡ stable (old.now other).read)
+  pub synced : OnFault result (Unit {0}) (BeginsSynced old new)
+  -- nothing but the syncs was made, where none was to be begun or some half is
+  pub unasked : begin ≡ false → OnFault result (Unit {0}) (AreSynced old new)
+  pub begun_stays : ¬ IsUnbegun (old.now Journal).read → OnFault result (Unit {0}) (AreSynced old new)

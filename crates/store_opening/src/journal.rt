@@ -1,0 +1,48 @@
+//! The journal of a cloud whose areas are synced first.
+
+ghost use Rattle.std.specs.Prelude.{◌≡◌, IsTrue};
+ghost use Rattle.cd_edges.specs.Shelf.{IsCall, HasFailed, KeepsCounts};
+ghost use Rattle.journal_start.specs.Ranges.{IsHeader};
+ghost use Rattle.half_journal.specs.declared.journal.Stage.TheVariants.{Reading};
+ghost use Rattle.half_journal.specs.States.{state_of};
+ghost use Rattle.half_journal.specs.Openings.{OnFault};
+ghost use Rattle.half_journal.specs.Outcomes.{stage_after};
+ghost use Rattle.store_opening.specs.Starts.{IsStarted};
+
+use crate::syncs::sync_all;
+use cd_base::CloudNo;
+use cd_edges::{Failed, Shelf};
+use half_journal::{Journal, OpenErr};
+use journal_start::Header;
+
+/// Syncs the three areas, and then opens the journal, or begins it where no half is begun and `begin` is true. After an Err the
+/// journal is shut.
+pub(crate) fn open_journal<V: Shelf>(
+    journal: &mut Journal,
+    shelf: &mut V,
+    cloud: CloudNo,
+    header: &Header,
+    begin: bool,
+) -> Result<(), OpenErr>
+    requires { IsHeader header.now }
+    ensures started { IsTrue (V.cloud_at shelf.old cloud.0).told
+        → IsStarted header.now begin (V.cloud_at shelf.old cloud.0) (V.cloud_at shelf.new cloud.0)
+        (state_of journal.new) result }
+    ensures stage { (state_of journal.new).stage ≡ stage_after Reading result }
+    ensures limit { (state_of journal.new).limit ≡ (state_of journal.old).limit }
+    ensures call { IsCall (V.cloud_at shelf.old) (V.cloud_at shelf.new) cloud.0 (V.faults shelf.old)
+        (V.faults shelf.new) }
+    ensures counts { OnFault result
+        (HasFailed (V.cloud_at shelf.old cloud.0) (V.cloud_at shelf.new cloud.0) (V.faults shelf.old)
+        (V.faults shelf.new))
+        (KeepsCounts (V.cloud_at shelf.old cloud.0) (V.cloud_at shelf.new cloud.0) (V.faults shelf.old)
+        (V.faults shelf.new)) }
+{
+    match sync_all(shelf, cloud) {
+        Ok(()) => journal.open(shelf, cloud, header, begin),
+        Err(Failed) => {
+            journal.shut();
+            Err(OpenErr::Fault)
+        }
+    }
+}

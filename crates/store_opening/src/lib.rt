@@ -1,0 +1,15 @@
+//! The opening of a cloud in the store's format with checkpoints: its areas are made sure of, its journal is read or begun, and
+//! each record is checked and taken into a server's memory.
+//!
+//! No call takes memory.
+#![tactic(auto)]
+
+mod ends;
+mod journal;
+pub mod laws;
+mod loading;
+mod opening;
+mod records;
+mod syncs;
+
+pub use opening::reopen;

@@ -1,0 +1,181 @@
+//! A journal that is opened, and read into an empty memory.
+
+ghost use Rattle.std.specs.Prelude.{◌≡◌, ◌≤◌, ℕ, [], length, is_ok, if◌then◌else◌, List, IsTrue, IfOk, OnOk, OnErr};
+ghost use Rattle.cd_base.specs.Limits.{recipe_limit};
+ghost use Rattle.cd_edges.specs.declared.area.Area.{Area};
+ghost use Rattle.cd_edges.specs.Disk.{reads};
+ghost use Rattle.cd_edges.specs.Shelf.{IsCall, HasFailed, KeepsCounts, Stays};
+ghost use Rattle.journal_start.specs.Spelling.{region_of};
+ghost use Rattle.journal_halves.specs.Journals.{Where};
+ghost use Rattle.half_journal.specs.declared.journal.Stage.{Stage};
+ghost use Rattle.half_journal.specs.Openings.{OnFault};
+ghost use Rattle.half_journal.specs.Outcomes.{stage_after};
+ghost use Rattle.half_journal.specs.States.{state_of, IsReading, IsEnded};
+ghost use Rattle.cloud_memory.specs.Rooms.{memory_of, HasRooms};
+ghost use Rattle.cloud_memory.specs.Steps.{begun};
+ghost use Rattle.record_checks.specs.Noting.{nothing_noted};
+ghost use Rattle.store_opening.specs.Exact.{ReplaysAll, Closes, number_behind};
+ghost use Rattle.store_opening.specs.Steps.{From, HasEnded, IsTraced, IsOfRecords};
+
+use crate::ends::{close, number_of};
+use crate::records::take_all;
+use cd_base::CloudNo;
+use cd_edges::{Area, Failed, Shelf};
+use cloud_memory::CloudMemory;
+use half_journal::{Journal, OpenErr};
+use journal_start::Header;
+use record_checks::{Ground, Taking};
+
+// What is known before the records, whose blobs lie in this region.
+fn survey<V: Shelf>(
+    shelf: &mut V,
+    cloud: CloudNo,
+    header: &Header,
+    region: u8,
+) -> Result<Ground, Failed>
+    ensures known { IfOk result (λ ground. (ground.shape ≡ header.now.shape) × (ground.rooms ≡ header.now.rooms)
+        × (ground.region ≡ region)) }
+    ensures lengths { IsTrue (V.cloud_at shelf.old cloud.0).told → IfOk result (λ ground.
+        (ground.shares_len ≡ length ((V.cloud_at shelf.old cloud.0).now Area.Shares).read)
+        × (ground.recipes_len ≡ length ((V.cloud_at shelf.old cloud.0).now Area.Recipes).read)) }
+    ensures stays { Stays (V.cloud_at shelf.old cloud.0) (V.cloud_at shelf.new cloud.0) }
+    ensures call { IsCall (V.cloud_at shelf.old) (V.cloud_at shelf.new) cloud.0 (V.faults shelf.old)
+        (V.faults shelf.new) }
+    ensures failed { OnErr result
+        (HasFailed (V.cloud_at shelf.old cloud.0) (V.cloud_at shelf.new cloud.0) (V.faults shelf.old)
+        (V.faults shelf.new)) }
+    ensures uncounted { OnOk result
+        (KeepsCounts (V.cloud_at shelf.old cloud.0) (V.cloud_at shelf.new cloud.0) (V.faults shelf.old)
+        (V.faults shelf.new)) }
+{
+    let shares_len = shelf.len(cloud, Area::Shares)?;
+    let recipes_len = shelf.len(cloud, Area::Recipes)?;
+    Ok(Ground {
+        shape: header.shape,
+        rooms: header.rooms,
+        region,
+        shares_len,
+        recipes_len,
+    })
+}
+
+// The region of the journal's blobs: 0 or 1, as in each start.
+fn region_in(journal: &Journal) -> u8
+    ensures small { result ≤ 1 }
+    ensures value { region_of (state_of journal.now).start.checkpoint ≤ 1
+        → result ≡ region_of (state_of journal.now).start.checkpoint }
+{
+    if journal.region() == 0 { 0 } else { 1 }
+}
+
+// Looks where the records end, of which there are so many. After an Err the journal is shut.
+fn finish(
+    journal: &mut Journal,
+    memory: &CloudMemory,
+    taking: &Taking,
+    ground: &Ground,
+    records: u64,
+) -> Result<u64, OpenErr>
+    requires { IsTraced ground.now (memory_of memory.now) taking.now }
+    ensures closes { Closes ground.now (memory_of memory.now) taking.now
+        (number_behind (state_of journal.old).start records) result }
+    ensures journal { state_of journal.new ≡ record
+        (state_of journal.old) { stage = (if is_ok result then (state_of journal.old).stage else Stage.Shut) } }
+    ensures kind { IsOfRecords result }
+    ensures unfailed { OnFault result ⊥ (Unit {0}) }
+{
+    let number = number_of(journal.start(), records);
+    match close(memory, taking, ground, number) {
+        Ok(number) => Ok(number),
+        Err(error) => {
+            journal.shut();
+            Err(error)
+        }
+    }
+}
+
+// Takes the records behind the start into a memory of no commands, and looks where they end. After an Err the journal is shut.
+fn read_records<V: Shelf>(
+    journal: &mut Journal,
+    memory: &mut CloudMemory,
+    ground: &Ground,
+    shelf: &mut V,
+    cloud: CloudNo,
+    buffer: &mut [u8],
+) -> Result<u64, OpenErr>
+    requires reading { (state_of journal.old).stage ≡ Stage.Reading }
+    requires rooms { HasRooms ground.now.rooms memory.old }
+    requires begun { memory_of memory.old ≡ begun ground.now.rooms.users ground.now.region }
+    requires buffer { recipe_limit ≤ length buffer.old }
+    ensures exact { IsTrue (V.cloud_at shelf.old cloud.0).told → (w : Where)
+        → IsReading (state_of journal.old) ((V.cloud_at shelf.old cloud.0).now Area.Journal) w → w.bodies ≡ []
+        → OnFault result (Unit {0})
+        (From ground.now ((V.cloud_at shelf.old cloud.0).now Area.Recipes).read
+        ((V.cloud_at shelf.old cloud.0).now Area.Journal) (memory_of memory.new) (state_of journal.old) 0
+        (begun ground.now.rooms.users ground.now.region) nothing_noted result) }
+    ensures ended { IsTrue (V.cloud_at shelf.old cloud.0).told → (w : Where)
+        → IsReading (state_of journal.old) ((V.cloud_at shelf.old cloud.0).now Area.Journal) w → w.bodies ≡ []
+        → OnOk result (HasEnded (state_of journal.new) ((V.cloud_at shelf.old cloud.0).now Area.Journal) w) }
+    ensures rooms { HasRooms ground.now.rooms memory.new }
+    ensures stage { (state_of journal.new).stage ≡ stage_after Stage.AtEnd result }
+    ensures limit { (state_of journal.new).limit ≡ (state_of journal.old).limit }
+    ensures kind { IsOfRecords result }
+    ensures stays { Stays (V.cloud_at shelf.old cloud.0) (V.cloud_at shelf.new cloud.0) }
+    ensures call { IsCall (V.cloud_at shelf.old) (V.cloud_at shelf.new) cloud.0 (V.faults shelf.old)
+        (V.faults shelf.new) }
+    ensures counts { OnFault result
+        (HasFailed (V.cloud_at shelf.old cloud.0) (V.cloud_at shelf.new cloud.0) (V.faults shelf.old)
+        (V.faults shelf.new))
+        (KeepsCounts (V.cloud_at shelf.old cloud.0) (V.cloud_at shelf.new cloud.0) (V.faults shelf.old)
+        (V.faults shelf.new)) }
+{
+    let mut taking = Taking::new();
+    match take_all(journal, memory, &mut taking, ground, shelf, cloud, buffer) {
+        Ok(records) => finish(journal, memory, &taking, ground, records),
+        Err(error) => Err(error),
+    }
+}
+
+/// Forgets what was remembered, and takes the records behind the journal's start into the memory. Answers how many commands there
+/// are. After an Err the journal is shut.
+pub(crate) fn load<V: Shelf>(
+    journal: &mut Journal,
+    memory: &mut CloudMemory,
+    shelf: &mut V,
+    cloud: CloudNo,
+    header: &Header,
+    buffer: &mut [u8],
+) -> Result<u64, OpenErr>
+    requires reading { (state_of journal.old).stage ≡ Stage.Reading }
+    requires rooms { HasRooms header.now.rooms memory.old }
+    requires buffer { recipe_limit ≤ length buffer.old }
+    ensures exact { IsTrue (V.cloud_at shelf.old cloud.0).told → (w : Where)
+        → IsReading (state_of journal.old) ((V.cloud_at shelf.old cloud.0).now Area.Journal) w → w.bodies ≡ []
+        → OnFault result (Unit {0})
+        (ReplaysAll header.now w.half w.start (reads (V.cloud_at shelf.old cloud.0).now) (memory_of memory.new) result) }
+    ensures ended { IsTrue (V.cloud_at shelf.old cloud.0).told → (w : Where)
+        → IsReading (state_of journal.old) ((V.cloud_at shelf.old cloud.0).now Area.Journal) w → w.bodies ≡ []
+        → OnOk result (HasEnded (state_of journal.new) ((V.cloud_at shelf.old cloud.0).now Area.Journal) w) }
+    ensures rooms { HasRooms header.now.rooms memory.new }
+    ensures stage { (state_of journal.new).stage ≡ stage_after Stage.AtEnd result }
+    ensures limit { (state_of journal.new).limit ≡ (state_of journal.old).limit }
+    ensures kind { IsOfRecords result }
+    ensures stays { Stays (V.cloud_at shelf.old cloud.0) (V.cloud_at shelf.new cloud.0) }
+    ensures call { IsCall (V.cloud_at shelf.old) (V.cloud_at shelf.new) cloud.0 (V.faults shelf.old)
+        (V.faults shelf.new) }
+    ensures counts { OnFault result
+        (HasFailed (V.cloud_at shelf.old cloud.0) (V.cloud_at shelf.new cloud.0) (V.faults shelf.old)
+        (V.faults shelf.new))
+        (KeepsCounts (V.cloud_at shelf.old cloud.0) (V.cloud_at shelf.new cloud.0) (V.faults shelf.old)
+        (V.faults shelf.new)) }
+{
+    let region = region_in(journal);
+    memory.clear(region);
+    match survey(shelf, cloud, header, region) {
+        Ok(ground) => read_records(journal, memory, &ground, shelf, cloud, buffer),
+        Err(Failed) => {
+            journal.shut();
+            Err(OpenErr::Fault)
+        }
+    }
+}

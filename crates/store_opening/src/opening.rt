@@ -1,0 +1,170 @@
+//! The opening of a cloud.
+
+ghost use Rattle.std.specs.Prelude.{◌≡◌, ◌≤◌, ℕ, List, [], length, IsTrue, IfOk, OnOk, OnErr};
+ghost use Rattle.cd_base.specs.Limits.{recipe_limit};
+ghost use Rattle.cd_edges.specs.Disk.{reads};
+ghost use Rattle.cd_edges.specs.Shelf.{IsCall, HasFailed, KeepsCounts};
+ghost use Rattle.container_log.specs.States.{HasStaged};
+ghost use Rattle.journal_start.specs.Ranges.{IsHeader};
+ghost use Rattle.journal_halves.specs.Halves.{half_limit};
+ghost use Rattle.half_journal.specs.declared.journal.Stage.{Stage};
+ghost use Rattle.half_journal.specs.Openings.{OnFault};
+ghost use Rattle.half_journal.specs.Outcomes.{stage_after};
+ghost use Rattle.half_journal.specs.States.{state_of};
+ghost use Rattle.cloud_disk.specs.Disk.{ended_at};
+ghost use Rattle.cloud_memory.specs.Rooms.{memory_of, HasRooms};
+ghost use Rattle.store_opening.specs.Exact.{Opens};
+ghost use Rattle.store_opening.specs.Spared.{Spares, KeepsLists, IsReadWhole, IsFor, IsLoaded, MayBegin, IsOkOrFault};
+ghost use Rattle.store_opening.specs.Steps.{IsFound};
+ghost use Rattle.record_laws.specs.Leaving.{MayHold};
+ghost use Rattle.cd_edges.specs.declared.area.Area.{Area};
+ghost use Rattle.command_list.specs.declared.command.Command.{Command};
+ghost use Rattle.command_list.specs.Commands.{counted};
+ghost use Rattle.cloud_areas.specs.Standing.{StandsFor};
+
+use crate::journal::open_journal;
+use crate::loading::load;
+use cd_base::CloudNo;
+use cd_edges::Shelf;
+use cloud_areas::laws::{law_of_numbers, law_of_standing};
+use cloud_disk::CloudDisk;
+use cloud_memory::CloudMemory;
+use half_journal::{Journal, OpenErr};
+use journal_start::Header;
+use lawful_records::laws::{law_of_fronts, law_of_lawful_records};
+
+// Opens the journal of synced areas or begins it, and takes each record into the memory. After an Err the journal is shut.
+fn open_all<V: Shelf>(
+    journal: &mut Journal,
+    memory: &mut CloudMemory,
+    shelf: &mut V,
+    cloud: CloudNo,
+    header: &Header,
+    begin: bool,
+    buffer: &mut [u8],
+) -> Result<u64, OpenErr>
+    requires header { IsHeader header.now }
+    requires rooms { HasRooms header.now.rooms memory.old }
+    requires buffer { recipe_limit ≤ length buffer.old }
+    ensures kept { IsTrue (V.cloud_at shelf.old cloud.0).told
+        → KeepsLists header.now (V.cloud_at shelf.old cloud.0) (V.cloud_at shelf.new cloud.0) }
+    ensures spares { IsTrue (V.cloud_at shelf.old cloud.0).told
+        → Spares header.now begin (V.cloud_at shelf.old cloud.0) (V.cloud_at shelf.new cloud.0) result }
+    ensures exact { IsTrue (V.cloud_at shelf.old cloud.0).told → OnFault result (Unit {0})
+        (Opens header.now begin (reads (V.cloud_at shelf.old cloud.0).now) (memory_of memory.new) result) }
+    ensures read { IsTrue (V.cloud_at shelf.old cloud.0).told
+        → IfOk result (λ commands. IsReadWhole header.now (state_of journal.new) (memory_of memory.new) commands
+        (V.cloud_at shelf.new cloud.0)) }
+    ensures stands { IsTrue (V.cloud_at shelf.old cloud.0).told → (list : List Command)
+        → StandsFor (reads (V.cloud_at shelf.old cloud.0).now) header.now list
+        → OnOk result (StandsFor (reads (V.cloud_at shelf.new cloud.0).now) header.now list) }
+    ensures found { IsTrue (V.cloud_at shelf.old cloud.0).told → (list : List Command)
+        → StandsFor (reads (V.cloud_at shelf.old cloud.0).now) header.now list → MayHold header.now list
+        → (state_of journal.old).limit ≡ half_limit header.now.rooms
+        → IfOk result (λ commands. IsFound header.now list (state_of journal.new) (memory_of memory.new) commands
+        (V.cloud_at shelf.new cloud.0)) }
+    ensures whole { IsTrue (V.cloud_at shelf.old cloud.0).told → (list : List Command)
+        → StandsFor (reads (V.cloud_at shelf.old cloud.0).now) header.now list → MayHold header.now list
+        → MayBegin ((V.cloud_at shelf.old cloud.0).now Area.Journal).read begin → IsOkOrFault result }
+    ensures rooms { HasRooms header.now.rooms memory.new }
+    ensures stage { (state_of journal.new).stage ≡ stage_after Stage.AtEnd result }
+    ensures limit { (state_of journal.new).limit ≡ (state_of journal.old).limit }
+    ensures call { IsCall (V.cloud_at shelf.old) (V.cloud_at shelf.new) cloud.0 (V.faults shelf.old)
+        (V.faults shelf.new) }
+    ensures counts { OnFault result
+        (HasFailed (V.cloud_at shelf.old cloud.0) (V.cloud_at shelf.new cloud.0) (V.faults shelf.old)
+        (V.faults shelf.new))
+        (KeepsCounts (V.cloud_at shelf.old cloud.0) (V.cloud_at shelf.new cloud.0) (V.faults shelf.old)
+        (V.faults shelf.new)) }
+{
+    law_of_standing();
+    law_of_numbers();
+    law_of_fronts();
+    law_of_lawful_records();
+    match open_journal(journal, shelf, cloud, header, begin) {
+        Ok(()) => load(journal, memory, shelf, cloud, header, buffer),
+        Err(error) => Err(error),
+    }
+}
+
+/// Opens the cloud: syncs Journal, Shares and Recipes in this order, finds the current half of the journal, or begins
+/// half 0 where no half is begun and `begin` is true, and takes each record of its chain into the memory, which forgets
+/// what it had. Answers how many commands there are: those before the checkpoint that the chain begins with, and one
+/// for each record behind it, as far as 64 bits reach. `recipe` is a buffer of at least 1,180,190 bytes: what lies
+/// where a record's recipe is to lie is read into it.
+///
+/// Whatever the areas hold, damaged or another store's: a crash at any moment leaves what it might have left before,
+/// and the areas read as that too, but where a journal is begun: there it may leave no half begun, or half 0 with this
+/// header alone. A begun journal is never written: after any answer but Fault the three syncs were made, and nothing
+/// else.
+///
+/// Whenever a crash comes, and after an Err too, each image of the cloud stands for one of the lists that the images
+/// stood for before. After Ok the journal is at its end and the logs end where the memory says, with nothing staged.
+/// After an Err the journal is shut and the logs are as they were: only `reopen` may be called. It takes no memory.
+/// Where no device call fails, the bytes of the areas give the answer, and one alone (`laws::law_of_openings`). Places
+/// are those of the area Journal, from 0.
+///
+/// - `Fault`: a device call failed. It comes only where the cloud's count of faults rose.
+/// - `NotBegun`: no half is begun, the area has so many bytes, and `begin` is false. Only the three syncs were
+///   made.
+/// - `OtherStore`: the current half begins with another header than the asked one; `at` is the place of that
+///   header.
+/// - `Damaged`: the start of a begun half is damaged, or both have one epoch, as `half_journal` says; or a record
+///   behind the current start is, as `Journal::next` says of its frame and `record_checks::take` of its body; or the
+///   chain ends before all records of its checkpoint, at the first byte of their number in the start; or, after the
+///   last record, the shares or else the recipes end further on than what was spent allows, at the first byte of the
+///   place of the first blob that ends there. Each record before was taken.
+pub fn reopen<V: Shelf>(
+    disk: &mut CloudDisk,
+    memory: &mut CloudMemory,
+    shelf: &mut V,
+    cloud: CloudNo,
+    header: &Header,
+    begin: bool,
+    recipe: &mut [u8],
+) -> Result<u64, OpenErr>
+    requires header { IsHeader header.now }
+    requires rooms { HasRooms header.now.rooms memory.old }
+    requires recipe { recipe_limit ≤ length recipe.old }
+
+    ensures kept { IsTrue (V.cloud_at shelf.old cloud.0).told
+        → KeepsLists header.now (V.cloud_at shelf.old cloud.0) (V.cloud_at shelf.new cloud.0) }
+    ensures spares { IsTrue (V.cloud_at shelf.old cloud.0).told
+        → Spares header.now begin (V.cloud_at shelf.old cloud.0) (V.cloud_at shelf.new cloud.0) result }
+    ensures exact { IsTrue (V.cloud_at shelf.old cloud.0).told → OnFault result (Unit {0})
+        (Opens header.now begin (reads (V.cloud_at shelf.old cloud.0).now) (memory_of memory.new) result) }
+    ensures read { IsTrue (V.cloud_at shelf.old cloud.0).told
+        → IfOk result (λ commands. IsReadWhole header.now disk.new.journal (memory_of memory.new) commands
+        (V.cloud_at shelf.new cloud.0)) }
+    ensures loaded { IsTrue (V.cloud_at shelf.old cloud.0).told → IsFor header.now disk.old → (list : List Command)
+        → StandsFor (reads (V.cloud_at shelf.old cloud.0).now) header.now list → MayHold header.now list
+        → IfOk result (λ commands. (commands ≡ counted list)
+        × IsLoaded header.now list disk.new (memory_of memory.new) (V.cloud_at shelf.new cloud.0)) }
+    ensures whole { IsTrue (V.cloud_at shelf.old cloud.0).told → (list : List Command)
+        → StandsFor (reads (V.cloud_at shelf.old cloud.0).now) header.now list → MayHold header.now list
+        → MayBegin ((V.cloud_at shelf.old cloud.0).now Area.Journal).read begin → IsOkOrFault result }
+
+    ensures shares { OnOk result (disk.new.shares ≡ ended_at (memory_of memory.new).shares_end disk.old.shares) }
+    ensures recipes { OnOk result (disk.new.recipes ≡ ended_at (memory_of memory.new).recipes_end disk.old.recipes) }
+    ensures none { OnOk result (HasStaged disk.new.shares [] × HasStaged disk.new.recipes []) }
+    ensures logs { OnErr result ((disk.new.shares ≡ disk.old.shares) × (disk.new.recipes ≡ disk.old.recipes)) }
+    ensures rooms { HasRooms header.now.rooms memory.new }
+    ensures stage { disk.new.journal.stage ≡ stage_after Stage.AtEnd result }
+    ensures limit { disk.new.journal.limit ≡ disk.old.journal.limit }
+    ensures call { IsCall (V.cloud_at shelf.old) (V.cloud_at shelf.new) cloud.0 (V.faults shelf.old)
+        (V.faults shelf.new) }
+    ensures counts { OnFault result
+        (HasFailed (V.cloud_at shelf.old cloud.0) (V.cloud_at shelf.new cloud.0) (V.faults shelf.old)
+        (V.faults shelf.new))
+        (KeepsCounts (V.cloud_at shelf.old cloud.0) (V.cloud_at shelf.new cloud.0) (V.faults shelf.old)
+        (V.faults shelf.new)) }
+{
+    let journal = disk.journal_mut();
+    match open_all(journal, memory, shelf, cloud, header, begin, recipe) {
+        Ok(commands) => {
+            disk.reset(memory.shares_end(), memory.recipes_end());
+            Ok(commands)
+        }
+        Err(error) => Err(error),
+    }
+}

@@ -1,0 +1,268 @@
+//! The records of a journal, taken into the memory one after another.
+
+ghost use Rattle.std.specs.Prelude.{◌≡◌, ◌+◌, ◌≤◌, ◌<◌, ◌^◌, [], length, take, drop, nat_lt, is_ok, if◌then◌else◌, IsTrue, OnOk};
+ghost use Rattle.cd_base.specs.Limits.{recipe_limit};
+ghost use Rattle.cd_edges.specs.declared.area.Area.{Area};
+ghost use Rattle.cd_edges.specs.Shelf.{IsCall, HasFailed, KeepsCounts, Stays};
+ghost use Rattle.commit_journal.specs.Records.{IsBody};
+ghost use Rattle.half_journal.specs.declared.journal.Stage.{Stage};
+ghost use Rattle.half_journal.specs.Openings.{OnFault};
+ghost use Rattle.half_journal.specs.Outcomes.{stage_after};
+ghost use Rattle.half_journal.specs.States.{state_of, IsReading};
+ghost use Rattle.journal_start.specs.Spelling.{records_of};
+ghost use Rattle.journal_halves.specs.Journals.{Where};
+ghost use Rattle.cloud_memory.specs.Rooms.{memory_of, HasRooms};
+ghost use Rattle.store_opening.specs.Steps.{BodyAs, OneAs, NextAs, AllAs, IsTraced, IsOfRecords, OnTrue, stage_of};
+
+use cd_base::CloudNo;
+use cd_edges::{Area, Failed, Shelf};
+use cloud_memory::CloudMemory;
+use half_journal::{Journal, JournalErr, OpenErr};
+use record_checks::{Ground, Taking, recipe_of, take};
+
+// Takes the record that was read last, with these bytes where its recipe lies. After an Err the journal is shut.
+fn take_body(
+    journal: &mut Journal,
+    memory: &mut CloudMemory,
+    taking: &mut Taking,
+    ground: &Ground,
+    inside: bool,
+    read: &[u8],
+) -> Result<(), OpenErr>
+    requires rooms { HasRooms ground.now.rooms memory.old }
+    requires body { IsBody (state_of journal.old).current.body }
+    requires place { 5 ≤ (state_of journal.old).current.body_at }
+    requires end { (state_of journal.old).current.body_at + length (state_of journal.old).current.body < 2 ^ 64 }
+    requires read { length read.now < 2 ^ 32 }
+    ensures judged { BodyAs ground.now inside read.now (memory_of memory.old) taking.old
+        (state_of journal.old).current.body_at (state_of journal.old).current.body
+        (memory_of memory.new) taking.new result }
+    ensures traced { IsTraced ground.now (memory_of memory.old) taking.old
+        → OnOk result (IsTraced ground.now (memory_of memory.new) taking.new) }
+    ensures rooms { HasRooms ground.now.rooms memory.new }
+    ensures journal { state_of journal.new ≡ record
+        (state_of journal.old) { stage = (if is_ok result then (state_of journal.old).stage else Stage.Shut) } }
+{
+    match take(
+        memory,
+        taking,
+        ground,
+        inside,
+        journal.body(),
+        journal.body_at(),
+        read,
+    ) {
+        Ok(()) => Ok(()),
+        Err(damage) => {
+            journal.shut();
+            Err(OpenErr::Damaged {
+                at: damage.at,
+                byte: damage.byte,
+            })
+        }
+    }
+}
+
+// Reads what lies at a place of the area of recipes, as much as `out` holds, and takes the record that was read last with it.
+// After an Err the journal is shut.
+fn take_read<V: Shelf>(
+    journal: &mut Journal,
+    memory: &mut CloudMemory,
+    taking: &mut Taking,
+    ground: &Ground,
+    inside: bool,
+    shelf: &mut V,
+    cloud: CloudNo,
+    place: u64,
+    out: &mut [u8],
+) -> Result<(), OpenErr>
+    requires rooms { HasRooms ground.now.rooms memory.old }
+    requires body { IsBody (state_of journal.old).current.body }
+    requires place { 5 ≤ (state_of journal.old).current.body_at }
+    requires end { (state_of journal.old).current.body_at + length (state_of journal.old).current.body < 2 ^ 64 }
+    requires out { length out.old < 2 ^ 32 }
+    ensures judged { IsTrue (V.cloud_at shelf.old cloud.0).told → OnFault result (Unit {0})
+        (BodyAs ground.now inside
+        (take (length out.old) (drop place ((V.cloud_at shelf.old cloud.0).now Area.Recipes).read))
+        (memory_of memory.old) taking.old (state_of journal.old).current.body_at (state_of journal.old).current.body
+        (memory_of memory.new) taking.new result) }
+    ensures traced { IsTraced ground.now (memory_of memory.old) taking.old
+        → OnOk result (IsTraced ground.now (memory_of memory.new) taking.new) }
+    ensures rooms { HasRooms ground.now.rooms memory.new }
+    ensures journal { state_of journal.new ≡ record
+        (state_of journal.old) { stage = (if is_ok result then (state_of journal.old).stage else Stage.Shut) } }
+    ensures kind { IsOfRecords result }
+    ensures stays { Stays (V.cloud_at shelf.old cloud.0) (V.cloud_at shelf.new cloud.0) }
+    ensures call { IsCall (V.cloud_at shelf.old) (V.cloud_at shelf.new) cloud.0 (V.faults shelf.old)
+        (V.faults shelf.new) }
+    ensures counts { OnFault result
+        (HasFailed (V.cloud_at shelf.old cloud.0) (V.cloud_at shelf.new cloud.0) (V.faults shelf.old)
+        (V.faults shelf.new))
+        (KeepsCounts (V.cloud_at shelf.old cloud.0) (V.cloud_at shelf.new cloud.0) (V.faults shelf.old)
+        (V.faults shelf.new)) }
+{
+    match shelf.read(cloud, Area::Recipes, place, out) {
+        Ok(count) => {
+            let (read, _) = out.split_at(count);
+            take_body(journal, memory, taking, ground, inside, read)
+        }
+        Err(Failed) => {
+            journal.shut();
+            Err(OpenErr::Fault)
+        }
+    }
+}
+
+// Takes the record that was read last: first what lies where its recipe is to lie is read, if its checks ask for it. After an
+// Err the journal is shut.
+fn take_record<V: Shelf>(
+    journal: &mut Journal,
+    memory: &mut CloudMemory,
+    taking: &mut Taking,
+    ground: &Ground,
+    inside: bool,
+    shelf: &mut V,
+    cloud: CloudNo,
+    buffer: &mut [u8],
+) -> Result<(), OpenErr>
+    requires rooms { HasRooms ground.now.rooms memory.old }
+    requires body { IsBody (state_of journal.old).current.body }
+    requires place { 5 ≤ (state_of journal.old).current.body_at }
+    requires end { (state_of journal.old).current.body_at + length (state_of journal.old).current.body < 2 ^ 64 }
+    requires buffer { recipe_limit ≤ length buffer.old }
+    ensures judged { IsTrue (V.cloud_at shelf.old cloud.0).told → OnFault result (Unit {0})
+        (OneAs ground.now inside ((V.cloud_at shelf.old cloud.0).now Area.Recipes).read
+        (memory_of memory.old) taking.old (state_of journal.old).current.body_at (state_of journal.old).current.body
+        (memory_of memory.new) taking.new result) }
+    ensures traced { IsTraced ground.now (memory_of memory.old) taking.old
+        → OnOk result (IsTraced ground.now (memory_of memory.new) taking.new) }
+    ensures rooms { HasRooms ground.now.rooms memory.new }
+    ensures journal { state_of journal.new ≡ record
+        (state_of journal.old) { stage = (if is_ok result then (state_of journal.old).stage else Stage.Shut) } }
+    ensures kind { IsOfRecords result }
+    ensures buffer { length buffer.new ≡ length buffer.old }
+    ensures stays { Stays (V.cloud_at shelf.old cloud.0) (V.cloud_at shelf.new cloud.0) }
+    ensures call { IsCall (V.cloud_at shelf.old) (V.cloud_at shelf.new) cloud.0 (V.faults shelf.old)
+        (V.faults shelf.new) }
+    ensures counts { OnFault result
+        (HasFailed (V.cloud_at shelf.old cloud.0) (V.cloud_at shelf.new cloud.0) (V.faults shelf.old)
+        (V.faults shelf.new))
+        (KeepsCounts (V.cloud_at shelf.old cloud.0) (V.cloud_at shelf.new cloud.0) (V.faults shelf.old)
+        (V.faults shelf.new)) }
+{
+    match recipe_of(memory, ground, inside, journal.body()) {
+        Some(place) => {
+            let (out, _) = buffer.split_at_mut(place.len as usize);
+            match take_read(
+                journal, memory, taking, ground, inside, shelf, cloud, place.at, out,
+            ) {
+                Ok(()) => Ok(()),
+                Err(error) => Err(error),
+            }
+        }
+        None => take_body(journal, memory, taking, ground, inside, &[]),
+    }
+}
+
+// Takes the next record into the memory: true. False where the gate is closed behind all records of the checkpoint. `inside` says
+// whether that record is one of them. After an Err the journal is shut.
+fn take_next<V: Shelf>(
+    journal: &mut Journal,
+    memory: &mut CloudMemory,
+    taking: &mut Taking,
+    ground: &Ground,
+    inside: bool,
+    shelf: &mut V,
+    cloud: CloudNo,
+    buffer: &mut [u8],
+) -> Result<bool, OpenErr>
+    requires reading { (state_of journal.old).stage ≡ Stage.Reading }
+    requires rooms { HasRooms ground.now.rooms memory.old }
+    requires buffer { recipe_limit ≤ length buffer.old }
+    ensures exact { IsTrue (V.cloud_at shelf.old cloud.0).told → (w : Where)
+        → IsReading (state_of journal.old) ((V.cloud_at shelf.old cloud.0).now Area.Journal) w
+        → inside ≡ nat_lt (length w.bodies) (records_of w.start.checkpoint)
+        → NextAs ground.now ((V.cloud_at shelf.old cloud.0).now Area.Recipes).read
+        ((V.cloud_at shelf.old cloud.0).now Area.Journal) w (state_of journal.old) (memory_of memory.old) taking.old
+        (state_of journal.new) (memory_of memory.new) taking.new result }
+    ensures traced { IsTraced ground.now (memory_of memory.old) taking.old
+        → OnOk result (IsTraced ground.now (memory_of memory.new) taking.new) }
+    ensures rooms { HasRooms ground.now.rooms memory.new }
+    ensures gate { OnTrue result ((state_of journal.old).current.gate + 6 ≤ (state_of journal.new).current.gate) }
+    ensures stage { (state_of journal.new).stage ≡ stage_of result }
+    ensures start { (state_of journal.new).start ≡ (state_of journal.old).start }
+    ensures limit { (state_of journal.new).limit ≡ (state_of journal.old).limit }
+    ensures kind { IsOfRecords result }
+    ensures buffer { length buffer.new ≡ length buffer.old }
+    ensures stays { Stays (V.cloud_at shelf.old cloud.0) (V.cloud_at shelf.new cloud.0) }
+    ensures call { IsCall (V.cloud_at shelf.old) (V.cloud_at shelf.new) cloud.0 (V.faults shelf.old)
+        (V.faults shelf.new) }
+    ensures counts { OnFault result
+        (HasFailed (V.cloud_at shelf.old cloud.0) (V.cloud_at shelf.new cloud.0) (V.faults shelf.old)
+        (V.faults shelf.new))
+        (KeepsCounts (V.cloud_at shelf.old cloud.0) (V.cloud_at shelf.new cloud.0) (V.faults shelf.old)
+        (V.faults shelf.new)) }
+{
+    match journal.next(shelf, cloud) {
+        Ok(true) => match take_record(
+            journal, memory, taking, ground, inside, shelf, cloud, buffer,
+        ) {
+            Ok(()) => Ok(true),
+            Err(error) => Err(error),
+        },
+        Ok(false) => Ok(false),
+        Err(JournalErr::Damaged { at, byte }) => Err(OpenErr::Damaged { at, byte }),
+        Err(JournalErr::Failed) => Err(OpenErr::Fault),
+    }
+}
+
+/// Takes each record behind the start into the memory, and answers how many there are. After an Err the journal is shut.
+pub(crate) fn take_all<V: Shelf>(
+    journal: &mut Journal,
+    memory: &mut CloudMemory,
+    taking: &mut Taking,
+    ground: &Ground,
+    shelf: &mut V,
+    cloud: CloudNo,
+    buffer: &mut [u8],
+) -> Result<u64, OpenErr>
+    requires reading { (state_of journal.old).stage ≡ Stage.Reading }
+    requires rooms { HasRooms ground.now.rooms memory.old }
+    requires buffer { recipe_limit ≤ length buffer.old }
+    ensures exact { IsTrue (V.cloud_at shelf.old cloud.0).told → (w : Where)
+        → IsReading (state_of journal.old) ((V.cloud_at shelf.old cloud.0).now Area.Journal) w → w.bodies ≡ []
+        → AllAs ground.now ((V.cloud_at shelf.old cloud.0).now Area.Recipes).read
+        ((V.cloud_at shelf.old cloud.0).now Area.Journal) w (state_of journal.old) (memory_of memory.old) taking.old
+        (state_of journal.new) (memory_of memory.new) taking.new result }
+    ensures traced { IsTraced ground.now (memory_of memory.old) taking.old
+        → OnOk result (IsTraced ground.now (memory_of memory.new) taking.new) }
+    ensures rooms { HasRooms ground.now.rooms memory.new }
+    ensures stage { (state_of journal.new).stage ≡ stage_after Stage.AtEnd result }
+    ensures start { (state_of journal.new).start ≡ (state_of journal.old).start }
+    ensures limit { (state_of journal.new).limit ≡ (state_of journal.old).limit }
+    ensures kind { IsOfRecords result }
+    ensures stays { Stays (V.cloud_at shelf.old cloud.0) (V.cloud_at shelf.new cloud.0) }
+    ensures call { IsCall (V.cloud_at shelf.old) (V.cloud_at shelf.new) cloud.0 (V.faults shelf.old)
+        (V.faults shelf.new) }
+    ensures counts { OnFault result
+        (HasFailed (V.cloud_at shelf.old cloud.0) (V.cloud_at shelf.new cloud.0) (V.faults shelf.old)
+        (V.faults shelf.new))
+        (KeepsCounts (V.cloud_at shelf.old cloud.0) (V.cloud_at shelf.new cloud.0) (V.faults shelf.old)
+        (V.faults shelf.new)) }
+{
+    let of_checkpoint = u64::from(journal.records());
+    let mut records: u64 = 0;
+    while take_next(
+        journal,
+        memory,
+        taking,
+        ground,
+        records < of_checkpoint,
+        shelf,
+        cloud,
+        buffer,
+    )? {
+        records += 1;
+    }
+    Ok(records)
+}
