@@ -250,12 +250,13 @@ fn serve_by<P: Ports, R: Responder>(
     Served::Spent
 }
 
-/// Serves the connection on a port until its stream ends, a length comes that no frame has, the ports fail, or 1,099,511,627,776 bytes
-/// came: each frame that comes is answered by one frame, in order, however the bytes come in pieces.
+/// Serves the connection on a port until its stream ends, a length comes that no frame has, the ports fail, or
+/// 1,099,511,627,776 bytes came: each frame that comes is answered by one frame, in order, however the bytes come in pieces.
 ///
-/// Where the ports tell their bytes: all whole frames that came were answered, and the bytes sent are the frames of the replies. For
-/// `Failed` the frames that were answered are the first of those that came, and the last reply's frame may be cut short. For `End` and
-/// `Cut` no byte is left to come. `Failed` comes only where the ports' count of faults rose. The framer's bytes are forgotten first.
+/// Where the ports tell their bytes: all whole frames that came were answered, and the bytes sent are the frames of the
+/// replies. For `Failed` the frames that were answered are the first of those that came, and the last reply's frame may be
+/// cut short. For `End` and `Cut` no byte is left to come. `Failed` comes only where the ports' count of faults rose. The
+/// framer's bytes are forgotten first.
 pub fn serve_frames<P: Ports, R: Responder>(
     responder: &mut R,
     ports: &mut P,
