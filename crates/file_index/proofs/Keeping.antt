@@ -121,10 +121,19 @@ module _ (p : Pool (Pair FileKey Entry)) (accounts : Accounts) (kept : IsKept p 
       let l = is_limit ∙ ap (limit_of p) at ∙ limit-is known in
       λ i. Full (u i) (l i)
 
+  pub charges : (a : ℕ) → a ≡ account_for accounts user → charged (contents key_cmp p) a ≡ used_by index user
+  charges a at = ap (charged (contents key_cmp p)) at ∙ use-is
+
+  pub limits_are : (a : ℕ) → a ≡ account_for accounts user → IsKnown accounts user → limit_of p a ≡ limit_for accounts user
+  limits_are a at known = ap (limit_of p) at ∙ limit-is known
+
+  pub unused : (IsKnown accounts user → ⊥) → used_by index user ≡ 0
+  unused unknown = unknown-use key_total key_exact (λ (k : FileKey). k.user) value accounts (contents key_cmp p) kept.charged user unknown
+
   -- a user without an account
   pub stranger : (IsKnown accounts user → ⊥) → limit_for accounts user ≡ 0 → (used_by index user ≡ limit_for accounts user) × (Full 0 0 ≡ Full (used_by index user) (limit_for accounts user))
   stranger unknown none =
-      let u = unknown-use key_total key_exact (λ (k : FileKey). k.user) value accounts (contents key_cmp p) kept.charged user unknown in
+      let u = unused unknown in
       (u ∙ sym none, (λ i. Full (sym u i) (sym none i)))
 
 -- what is said of a lent key, said of its copy

@@ -3,11 +3,12 @@
 //! An index takes all its memory when it is made. From then on `put` answers by the room alone.
 #![tactic(auto)]
 
-ghost use Rattle.std.specs.Prelude.{◌≡◌, ◌≤◌, ◌<◌, ◌*◌, ◌^◌, ◌↔◌, IfOk, IfErr, OnOk, OnErr, IsErr, IsSome, MatchOption, None, option_map, length};
+ghost use Rattle.std.specs.Prelude.{ℕ, ◌≡◌, ◌≤◌, ◌<◌, ◌*◌, ◌^◌, ◌↔◌, IfOk, IfErr, OnOk, OnErr, IsErr, IsSome};
+ghost use Rattle.std.specs.Prelude.{MatchOption, None, option_map, length};
 ghost use Rattle.std.specs.FinMap as map;
 ghost use Rattle.index_base.specs.declared.Accounts.TheVariants.{Shared, PerUser};
 ghost use Rattle.index_base.specs.declared.IndexErr.TheVariants.{Full};
-ghost use Rattle.index_base.specs.Accounts.{limit_for, slots_of};
+ghost use Rattle.index_base.specs.Accounts.{IsKnown, limit_for, slots_of};
 ghost use Rattle.index_base.specs.Slots.{slot_of, IsListed, IsRewritten};
 ghost use Rattle.file_index.specs.Files.{key_of, used_by, IsNext, HasNoNext, entry_with};
 ghost use Rattle.file_index.specs.Kept.{IsLeastFrom, HasNoneFrom, HasTags, IsFound};
@@ -20,6 +21,16 @@ pub use key::{Entry, FileKey};
 use pool_map::{SortedTable, Table, TableFull};
 use std::alloc::Global;
 use std::marker::Model;
+
+// The limit of each account.
+fn limit_in(accounts: Accounts) -> u32
+    ensures { (user : ℕ) → IsKnown accounts user → result ≡ limit_for accounts user }
+{
+    match accounts {
+        Accounts::Shared(limit) => limit,
+        Accounts::PerUser(_, limit) => limit,
+    }
+}
 
 /// The files of a cloud: from a user, a tag and a version to the place of a recipe. Contracts see the finite map, in the order
 /// of users, tags and versions, what stands in each slot, and the accounts that limit it.
@@ -165,6 +176,18 @@ impl FileIndex {
         ensures { result ≡ map.len self.now.files }
     {
         self.table.len()
+    }
+
+    /// How many files count against the user's limit: all of them where all users share one account, and else the user's
+    /// own. It is kept, and not counted anew.
+    pub fn used_by(&self, user: UserId) -> u32
+        ensures { result ≡ used_by self.now user.0 }
+    {
+        let charged = self.accounts.account_of(user.0);
+        match charged {
+            Some(account) => limit_in(self.accounts) - self.table.spare(account),
+            None => 0,
+        }
     }
 
     /// The number of slots, which are numbered from 0, with an entry or without.
