@@ -1,6 +1,7 @@
 -- A checkpoint that takes the place of a chain, and the list that both say.
 use Rattle.std.specs.Prelude.{ℕ, ◌-◌, ◌≤◌, List, All}
-use Rattle.cd_edges.specs.Disk.{Cloud, LeavesOnly, reads}
+use Rattle.cd_edges.specs.declared.area.Area.TheVariants.{Journal}
+use Rattle.cd_edges.specs.Disk.{Cloud, LeavesOnly, IsAtArea, reads}
 use Rattle.container_log.specs.Laying.{Placed}
 use Rattle.journal_start.specs.declared.start.Header.{Header}
 use Rattle.journal_halves.specs.Halves.{half_limit}
@@ -34,3 +35,7 @@ pub record IsSummed (header : Header) (list : List Command) (c next : Chain) (di
 -- each image since stands for the list
 abbrev pub KeepsList : Header → List Command → Cloud → Cloud → Type 0
 KeepsList header list old new = LeavesOnly old new (λ image. StandsFor image header list)
+
+-- each image since has all areas but the journal as they might have been left before
+abbrev pub KeepsOthers : Cloud → Cloud → Type 0
+KeepsOthers old new = LeavesOnly old new (IsAtArea old.now Journal (λ bytes. Unit {0}))

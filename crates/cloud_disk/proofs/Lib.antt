@@ -4,3 +4,4 @@ pub mod Both
 pub mod Ends
 pub mod Standing
 pub mod Adding
+mod Fronts

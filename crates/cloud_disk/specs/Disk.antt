@@ -4,7 +4,7 @@ use Rattle.cd_edges.specs.declared.area.Area.{Area}
 use Rattle.cd_edges.specs.declared.area.Area.TheVariants.{Journal, Shares, Recipes}
 use Rattle.cd_edges.specs.Disk.{Areas, Image, Cloud, LeavesOnly, reads}
 use Rattle.cd_edges.specs.Shelf.{stable, Stays}
-use Rattle.container_log.specs.Laying.{Placed, placed}
+use Rattle.container_log.specs.Laying.{Placed, placed, IsAt}
 use Rattle.container_log.specs.States as logs
 use Rattle.share_index.specs.declared.key.Place.{Place}
 use Rattle.journal_start.specs.declared.start.Header.{Header}
@@ -102,6 +102,11 @@ StandsForEither header list command image = StandsFor image header list ⊎ Stan
 -- each image since does
 abbrev pub KeepsOrAdds : Header → List Command → Command → Cloud → Cloud → Type 0
 KeepsOrAdds header list command old new = LeavesOnly old new (StandsForEither header list command)
+
+-- What lies in front of the ends of both logs lies there still.
+pub record KeepsFronts (disk : Disk) (old new : Cloud) : Type 0 where
+  pub shares : (b : Placed) → b.place + length b.blob ≤ disk.shares.end → IsAt (old.now Shares).read b → IsAt (new.now Shares).read b
+  pub recipes : (b : Placed) → b.place + length b.blob ≤ disk.recipes.end → IsAt (old.now Recipes).read b → IsAt (new.now Recipes).read b
 
 -- The logs end behind what was staged, and the gate lies behind one more record.
 pub record EndsBehind (old new : Disk) (bytes : List ℕ) : Type 0 where

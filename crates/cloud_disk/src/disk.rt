@@ -24,7 +24,7 @@ ghost use Rattle.cloud_areas.specs.Standing.{Chain};
 ghost use Rattle.cloud_areas.specs.Adding.{with_record};
 ghost use Rattle.cloud_disk.specs.Held.{flush_moments};
 ghost use Rattle.cloud_disk.specs.Disk.{Disk, regions_end, empty_log, ended_at, without_staged, IsOn, AreEnds, Stages};
-ghost use Rattle.cloud_disk.specs.Disk.{IsPrepared, KeepsOrAdds, EndsBehind, SameRooms};
+ghost use Rattle.cloud_disk.specs.Disk.{IsPrepared, KeepsOrAdds, KeepsFronts, EndsBehind, SameRooms};
 ghost use Rattle.cloud_disk.specs.Lending.{LendsJournal, LendsShares, LendsRecipes};
 
 use crate::flush::flush_both;
@@ -255,6 +255,10 @@ impl CloudDisk {
             → IsPrepared header list c command b laid self.old body.now (V.cloud_at shelf.old cloud.0)
             → OnOk result (IsOn header (list ++ command ∷ []) (with_record c b laid) self.new
             (V.cloud_at shelf.new cloud.0)) }
+        ensures kept { (header : Header) (list : List Command) (c : Chain) (command : Command)
+            (b : Body) (laid : List Placed)
+            → IsPrepared header list c command b laid self.old body.now (V.cloud_at shelf.old cloud.0)
+            → OnOk result (KeepsFronts self.old (V.cloud_at shelf.old cloud.0) (V.cloud_at shelf.new cloud.0)) }
         ensures moments { IsTrue (V.cloud_at shelf.old cloud.0).told
             → OnOk result (moment (V.cloud_at shelf.new cloud.0) ≡ moment (V.cloud_at shelf.old cloud.0)
             + flush_moments self.old.shares + flush_moments self.old.recipes + 4) }

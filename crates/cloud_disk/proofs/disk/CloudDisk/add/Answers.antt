@@ -9,10 +9,11 @@ use Rattle.cloud_areas.specs.Placing.{shares_in}
 use Rattle.cloud_areas.specs.Chains.{laid_shares}
 use Rattle.cloud_areas.specs.Standing.{where_of}
 use Rattle.cloud_disk.specs.Held.{flush_moments}
-use Rattle.cloud_disk.specs.Disk.{Disk, IsPrepared, SameRooms}
+use Rattle.cloud_disk.specs.Disk.{Disk, IsPrepared, KeepsFronts, SameRooms}
 use Rattle.cloud_disk.proofs.Both.{moments_after, failed_later, counts_kept}
 use Rattle.cloud_disk.proofs.Standing.{logs_hold}
 use Rattle.cloud_disk.proofs.Adding.{OneMore, while_flushed, while_added, still_ended, added_on}
+use Rattle.cloud_disk.proofs.Fronts.{fronts_kept}
 use Rattle.cloud_disk.proofs.disk.CloudDisk.add.Goals as goal
 
 pub returns-in-Err-clause-any_moment : goal.returns-in-Err-clause-any_moment
@@ -58,6 +59,18 @@ returns-in-Ok-clause-added g c header list chain command b laid prepared =
     added_on header list chain command b laid one disk body c0 p room c.append.result new c1 c2 (told_on c1 c2 c.append.ensures.call.told told1) both.held
     c.in-Ok.ensures.ends.0 c.in-Ok.ensures.ends.1 c.append.ensures.limit
     (c.append.ensures.added told1 (where_of chain) (still_ended header list chain command b laid one disk body c0 p c1 both.journal_is)) (c.append.ensures.others told1)
+
+pub returns-in-Ok-clause-kept : goal.returns-in-Ok-clause-kept
+returns-in-Ok-clause-kept g c header list chain command b laid prepared =
+    let number = c.args.cloud.0 in let body = c.args.body.now in let inside = c.self.inside in
+    let disk : Disk = record { journal = journals.state_of inside.journal; shares = inside.shares; recipes = inside.recipes } in
+    let c0 = g.V.Shelf.cloud_at c.args.shelf.now number in let c1 = g.V.Shelf.cloud_at c.flush_both.new.shelf number in let c2 = g.V.Shelf.cloud_at c.append.new.shelf number in
+    let p = subst (λ (d : Disk). IsPrepared header list chain command b laid d body c0) (sym c.self.view_is) prepared in
+    let told1 = told_on c0 c1 c.flush_both.ensures.call.told p.on.read.told in
+    subst (λ (d : Disk). OnOk c.append.result (KeepsFronts d c0 c2)) c.self.view_is
+    (fronts_kept (laid_shares list (shares_in chain.records)) chain.recipes disk c.flush_both.new.shares c.flush_both.new.recipes c0 c1 p.shares.strings p.recipes.strings (logs_hold header list chain disk c0 p.on)
+    (λ ins inr h. c.in-Ok.ensures.held p.on.read.told ins inr p.shares.strings p.recipes.strings h p.shares.staged p.recipes.staged)
+    c.append.result c2 (c.append.ensures.others told1))
 
 pub returns-in-Ok-clause-moments : goal.returns-in-Ok-clause-moments
 returns-in-Ok-clause-moments g c told =
