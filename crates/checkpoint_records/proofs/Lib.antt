@@ -17,5 +17,4 @@ pub mod SpentLaw
 pub mod RecordsLaw
 pub mod Given
 pub mod Summed
-pub mod Fitting
 pub mod NoneOwned

@@ -1,10 +1,9 @@
 -- A user that owns nothing has no slot.
-use Rattle.std.proofs.Common.{◌≡◌, ℕ, ◌+◌, ◌<◌, cond, List, [], ◌∷◌, Option, Some, None, drop, get_or, refl, sym, ap, ◌∙◌, subst, arith, eq-eqb}
+use Rattle.std.proofs.Common.{◌≡◌, ℕ, ◌+◌, ◌<◌, cond, List, [], ◌∷◌, Some, None, drop, refl, sym, ap, ◌∙◌, arith, eq-eqb}
 use Rattle.std.specs.Prelude.{◌==◌}
 use Rattle.std.specs.FinMap.{FinMap, get}
 use Rattle.std.specs.List.{Contains}
 use Rattle.std.proofs.lemmas.List.{get_or-drop}
-use Rattle.cd_base.specs.declared.ids.Fp.{Fp}
 use Rattle.index_base.specs.Accounts.{keys_of}
 use Rattle.index_base.specs.Slots.{IsListed}
 use Rattle.pool_map.specs.MapSums.{sum_by-remove}

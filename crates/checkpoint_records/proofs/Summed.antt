@@ -160,6 +160,12 @@ module _ (header : Header) (list : List Command) (c : Chain) (commands region : 
     pub short : 63 + records_len (records_of memory) ≤ half_limit header.rooms
     short = omega (arith, room, behind, start_len)
 
+    -- behind them there is room for one record more, whichever it is
+    pub roomy : (body : Body) → FitsBody body → 63 + records_len (records_of memory) + (length (body_bytes body) + 5) ≤ half_limit header.rooms
+    roomy body fits =
+        let more = law header list next body k.within is_checkpoint fit fits in
+        omega (arith, more, chain_first (start_bytes next.start) (map body_bytes (records_of memory) ++ body_bytes body ∷ []), chain_behind (records_of memory) (body_bytes body), start_len)
+
     within : used_by (where_of next) ≤ half_limit header.rooms
     within = omega (arith, used, short)
 

@@ -7,7 +7,8 @@ use Rattle.share_index.specs.Shares.{Shares}
 use Rattle.spent_table.specs.declared.Spent.{Spent as Row}
 use Rattle.checkpoint_records.specs.Marked.{slots_limit, AreUnmarked}
 use Rattle.checkpoint_records.specs.Records.{first_of}
-use Rattle.checkpoint_records.specs.Ready.{AreShares, AreRecipes, IsReady}
+use Rattle.cloud_memory.specs.Fitting.{AreShares, AreRecipes}
+use Rattle.checkpoint_records.specs.Ready.{IsReady}
 use Rattle.checkpoint_records.specs.declared.position.Position.{Position}
 
 none_in : (n slot : ℕ) → get_or (replicate n false) slot false ≡ false

@@ -8,7 +8,7 @@ ghost use Rattle.spent_table.specs.Spending.{spent_by};
 ghost use Rattle.checkpoint_laying.specs.Laying.{IsNext};
 ghost use Rattle.checkpoint_records.specs.Picking.{IsNextPicked};
 ghost use Rattle.checkpoint_records.specs.Records.{commit_at, commits_from, spent_at, spents_from};
-ghost use Rattle.checkpoint_records.specs.Ready.{AreRecipes};
+ghost use Rattle.cloud_memory.specs.Fitting.{AreRecipes};
 ghost use Rattle.checkpoint_records.specs.Steps.{IsNextSpent};
 
 use cd_base::UserId;

@@ -6,7 +6,7 @@ ghost use Rattle.record_bodies.specs.Spelling.{Kept, FitsKept, body_bytes, kept_
 ghost use Rattle.checkpoint_laying.specs.Laying.{IsNext};
 ghost use Rattle.checkpoint_records.specs.Picking.{IsNextPicked, batches};
 ghost use Rattle.checkpoint_records.specs.Records.{kept_at, kept_from};
-ghost use Rattle.checkpoint_records.specs.Ready.{AreShares};
+ghost use Rattle.cloud_memory.specs.Fitting.{AreShares};
 ghost use Rattle.checkpoint_records.specs.Steps.{AreKept};
 
 use cd_base::Fp;

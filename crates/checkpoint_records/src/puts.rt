@@ -9,7 +9,8 @@ ghost use Rattle.record_bodies.specs.Spelling.{Put, body_bytes};
 ghost use Rattle.cloud_areas.specs.Checkpoints.{put_body};
 ghost use Rattle.checkpoint_records.specs.Picking.{IsNextPicked};
 ghost use Rattle.checkpoint_records.specs.Records.{owned_at, listed, item_of, puts_from};
-ghost use Rattle.checkpoint_records.specs.Ready.{AreShares, AreMarked, IsAtPuts};
+ghost use Rattle.cloud_memory.specs.Fitting.{AreShares};
+ghost use Rattle.checkpoint_records.specs.Ready.{AreMarked, IsAtPuts};
 ghost use Rattle.checkpoint_records.specs.Steps.{AreListed, KeepsOthers, Steps};
 
 use crate::{Marks, Position};

@@ -5,7 +5,8 @@ ghost use Rattle.cloud_memory.specs.declared.cloud.CloudMemory.{CloudMemory};
 ghost use Rattle.checkpoint_laying.specs.Laying.{IsNext};
 ghost use Rattle.checkpoint_records.specs.Records.{coming, records_of};
 ghost use Rattle.cloud_memory.specs.Rooms.{memory_of};
-ghost use Rattle.checkpoint_records.specs.Ready.{FitsRecords, IsReady};
+ghost use Rattle.cloud_memory.specs.Fitting.{FitsRecords};
+ghost use Rattle.checkpoint_records.specs.Ready.{IsReady};
 ghost use Rattle.checkpoint_records.specs.Steps.{Steps};
 
 use crate::entries::{write_commit, write_spent};

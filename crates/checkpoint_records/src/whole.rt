@@ -5,17 +5,19 @@ ghost use Rattle.cd_edges.specs.Disk.{Cloud};
 ghost use Rattle.cd_edges.specs.Shelf.{IsCall, HasFailed, KeepsCounts};
 ghost use Rattle.journal_halves.specs.Halves.{half_limit};
 ghost use Rattle.journal_start.specs.Ranges.{IsHeader};
+ghost use Rattle.checkpoint_writing.specs.Leaving.{OthersStay};
 ghost use Rattle.half_journal.specs.declared.journal.Stage.TheVariants.{AtEnd};
 ghost use Rattle.command_list.specs.declared.command.Command.{Command};
 ghost use Rattle.cloud_areas.specs.Standing.{Chain};
 ghost use Rattle.checkpoint_laying.specs.Laying.{records_len};
-ghost use Rattle.checkpoint_laying.specs.Settling.{KeepsList};
+ghost use Rattle.checkpoint_laying.specs.Settling.{KeepsList, KeepsOthers};
 ghost use Rattle.checkpoint_records.specs.Records.{coming, records_of};
 ghost use Rattle.cloud_memory.specs.Rooms.{memory_of};
-ghost use Rattle.checkpoint_records.specs.Ready.{FitsRecords, IsReady};
+ghost use Rattle.cloud_memory.specs.Fitting.{FitsRecords};
+ghost use Rattle.checkpoint_records.specs.Ready.{IsReady};
 ghost use Rattle.checkpoint_records.specs.Known.{IsKnown, HasCheckpoint, CountsWithin, stage_behind};
 ghost use Rattle.checkpoint_records.specs.Known.{IfFailed, UnlessFailed, IfLong, UnlessLong};
-ghost use Rattle.record_bodies.specs.Spelling.{FitsBody};
+ghost use Rattle.record_bodies.specs.Spelling.{Body, FitsBody, body_bytes};
 
 use crate::{Marks, MemoryRecords};
 use cd_base::CloudNo;
@@ -60,9 +62,10 @@ fn count_within(records: &mut MemoryRecords<'_>, limit: u64, buffer: &mut BodyBu
 /// cloud stands for the list whenever a crash comes; after Ok the disk stands for it by the checkpoint's chain, and the memory
 /// is placed by its records.
 ///
-/// `Long` comes exactly where the records are longer than a half may be, which those of a list within its rooms never are, and
-/// then nothing has changed. `Failed` comes only where the cloud's count of faults rose, and then the journal is shut. The
-/// memory and the logs are as they were. It takes no memory.
+/// Behind the records there is room for one more, whichever it is. `Long` comes exactly where the records are longer than a
+/// half may be, which those of a list within its rooms never are, and then nothing has changed. `Failed` comes only where the
+/// cloud's count of faults rose, and then the journal is shut. The memory and the logs are as they were, and no area but the
+/// journal is written. It takes no memory.
 pub fn checkpoint_of_memory<V: Shelf>(
     memory: &CloudMemory,
     disk: &mut CloudDisk,
@@ -86,6 +89,9 @@ pub fn checkpoint_of_memory<V: Shelf>(
     ensures any_moment { (list : List Command) (c : Chain)
         → IsKnown header.now list c commands region memory.now disk.old (V.cloud_at shelf.old cloud.0)
         → KeepsList header.now list (V.cloud_at shelf.old cloud.0) (V.cloud_at shelf.new cloud.0) }
+    ensures only_journal { (list : List Command) (c : Chain)
+        → IsKnown header.now list c commands region memory.now disk.old (V.cloud_at shelf.old cloud.0)
+        → KeepsOthers (V.cloud_at shelf.old cloud.0) (V.cloud_at shelf.new cloud.0) }
     ensures settled { (list : List Command) (c : Chain)
         → IsKnown header.now list c commands region memory.now disk.old (V.cloud_at shelf.old cloud.0)
         → OnOk result (HasCheckpoint header.now list c commands region memory.now
@@ -93,9 +99,14 @@ pub fn checkpoint_of_memory<V: Shelf>(
     ensures short { (list : List Command) (c : Chain)
         → IsKnown header.now list c commands region memory.now disk.old (V.cloud_at shelf.old cloud.0)
         → 63 + records_len (records_of memory.now) ≤ disk.old.journal.limit }
+    ensures roomy { (list : List Command) (c : Chain) (body : Body)
+        → IsKnown header.now list c commands region memory.now disk.old (V.cloud_at shelf.old cloud.0)
+        → FitsBody body
+        → 63 + records_len (records_of memory.now) + (length (body_bytes body) + 5) ≤ disk.old.journal.limit }
     ensures long { IfLong result (disk.old.journal.limit < 63 + records_len (records_of memory.now)) }
     ensures fits { UnlessLong result (63 + records_len (records_of memory.now) ≤ disk.old.journal.limit) }
     ensures same { IfLong result ((disk.new ≡ disk.old) × (shelf.new ≡ shelf.old)) }
+    ensures others { OthersStay (V.cloud_at shelf.old cloud.0) (V.cloud_at shelf.new cloud.0) result }
     ensures stage { disk.new.journal.stage ≡ stage_behind result }
     ensures gate { OnOk result (disk.new.journal.current.gate + 1 ≡ 63 + records_len (records_of memory.now)) }
     ensures limit { disk.new.journal.limit ≡ disk.old.journal.limit }

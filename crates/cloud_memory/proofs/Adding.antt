@@ -32,7 +32,7 @@ use Rattle.cloud_memory.proofs.Puts.{place_for, placed_more}
 -- ---- the others
 
 -- none of the shares has the first one's fingerprint
-abbrev Others : New → List New → Type 0
+abbrev pub Others : New → List New → Type 0
 Others n [] = Unit {0}
 Others n (m ∷ ms) = (bytes_eq n.fp.0 m.fp.0 ≡ false) × Others n ms
 
@@ -40,13 +40,13 @@ others_at : (n : New) (ns : List New) → ((j : ℕ) (fp : Fp) → slice_get (ma
 others_at n [] other = tt
 others_at n (m ∷ ms) other = (other 0 m.fp refl, others_at n ms (λ j fp e. other (suc j) fp e))
 
-others : (n : New) (ns : List New) → AreApart (n ∷ ns) → Others n ns
+pub others : (n : New) (ns : List New) → AreApart (n ∷ ns) → Others n ns
 others n ns apart = others_at n ns (λ j fp e. false_from_ne_true _ (λ t.
     let same : n.fp ≡ fp = (fp_same n.fp fp).0 t in
     let wrong : 0 ≡ suc j = apart 0 (suc j) fp (ap (λ f. Some f) same) e in
     absurd (omega (arith, wrong))))
 
-rest_apart : (n : New) (ns : List New) → AreApart (n ∷ ns) → AreApart ns
+pub rest_apart : (n : New) (ns : List New) → AreApart (n ∷ ns) → AreApart ns
 rest_apart n ns apart i j fp a b = let e = apart (suc i) (suc j) fp a b in omega (arith, e)
 
 and_false : (a b : Bool) → b ≡ false → (a && b) ≡ false
@@ -154,7 +154,7 @@ adding_more start now next user news items place d item lt same adding one =
 -- ---- what is left
 
 pub limits_on : (old mid new : CloudMemory) → KeepsLimits old mid → KeepsLimits mid new → KeepsLimits old new
-limits_on old mid new a b = record { fps = b.fps ∙ a.fps; owners = b.owners ∙ a.owners; files = b.files ∙ a.files }
+limits_on old mid new a b = record { fps = b.fps ∙ a.fps; owners = b.owners ∙ a.owners; files = b.files ∙ a.files; slots = b.slots ∙ a.slots }
 
 pub record Added (old new : CloudMemory) (user : UserId) (news : List New) (items : List PutItem) : Type 0 where
   pub parts : items ≡ parts_of user (memory_of old) news
@@ -165,7 +165,12 @@ pub all_added : (old new : CloudMemory) (user : UserId) (news : List New) (items
 all_added old new user [] [] all = record {
   parts = refl;
   taken = ap memory_of all;
-  limits = record { fps = ap (λ (x : CloudMemory). x.shares.fps) all; owners = ap (λ (x : CloudMemory). x.shares.accounts) all; files = ap (λ (x : CloudMemory). x.files.accounts) all };
+  limits = record {
+    fps = ap (λ (x : CloudMemory). x.shares.fps) all;
+    owners = ap (λ (x : CloudMemory). x.shares.accounts) all;
+    files = ap (λ (x : CloudMemory). x.files.accounts) all;
+    slots = ap (λ (x : CloudMemory). length x.shares.place_slots) all;
+  };
 }
 all_added old new user [] (i ∷ is) all = absurd all
 all_added old new user (n ∷ ns) [] all = absurd all
@@ -207,16 +212,17 @@ first_held m user n ns = by_place (get m.places n.fp.0) refl
     by_place (Some p) is =
         ap placed_len (stays_placed mid user ns n.fp p (here ∙ ap (λ (o : Option Place). option_or o (Some (place_for m n))) is)) ∙ sym (ap (λ (o : Option Place). len_or o n.len) is)
 
-same_held : (m : Memory) (user : UserId) (n : New) (ns : List New) → Others n ns
-    → sum_by (held_len (with_item user m (part_in m n)).places) ns ≡ sum_by (held_len m.places) ns
-same_held m user n [] other = refl
-same_held m user n (x ∷ ns) other =
+-- what is read of the others' places stays
+pub same_read : (f : Option Place → New → ℕ) (m : Memory) (user : UserId) (n : New) (ns : List New) → Others n ns
+    → sum_by (λ (x : New). f (get (with_item user m (part_in m n)).places x.fp.0) x) ns ≡ sum_by (λ (x : New). f (get m.places x.fp.0) x) ns
+same_read f m user n [] other = refl
+same_read f m user n (x ∷ xs) other =
     let mid = with_item user m (part_in m n) in
-    let one : held_len mid.places x ≡ held_len m.places x =
-    ap (λ (o : Option Place). len_or o x.len)
+    let one : f (get mid.places x.fp.0) x ≡ f (get m.places x.fp.0) x =
+    ap (λ (o : Option Place). f o x)
     (placed_more m user n x.fp ∙ ap (λ (b : Bool). option_or (get m.places x.fp.0) (cond b (Some (place_for m n)) None)) other.0 ∙ or_none (get m.places x.fp.0)) in
-    let rest = same_held m user n ns other.1 in
-    sum_by-cons (held_len mid.places) x ns ∙ (λ i. one i + rest i) ∙ sym (sum_by-cons (held_len m.places) x ns)
+    let rest = same_read f m user n xs other.1 in
+    sum_by-cons (λ (x : New). f (get mid.places x.fp.0) x) x xs ∙ (λ i. one i + rest i) ∙ sym (sum_by-cons (λ (x : New). f (get m.places x.fp.0) x) x xs)
   where
     or_none : (o : Option Place) → option_or o None ≡ o
     or_none None = refl
@@ -229,7 +235,7 @@ cost_held m user (n ∷ ns) apart =
     let mid = with_item user m (part_in m n) in
     let last = (with_items user mid (parts_of user mid ns)).places in
     let one = first_held m user n ns in
-    let rest = cost_held mid user ns (rest_apart n ns apart) ∙ same_held m user n ns (others n ns apart) in
+    let rest = cost_held mid user ns (rest_apart n ns apart) ∙ same_read (λ (o : Option Place) (x : New). len_or o x.len) m user n ns (others n ns apart) in
     sum_by-cons (λ (item : PutItem). placed_len (get last item.fp.0)) (part_in m n) (parts_of user mid ns)
     ∙ (λ i. one i + rest i) ∙ sym (sum_by-cons (held_len m.places) n ns)
 

@@ -15,8 +15,10 @@ pub mod PlacingLaw
 pub mod EndsLaw
 mod Entering
 mod Holding
+mod PutLength
 mod Answering
 pub mod KeyCounts
 pub mod FullRooms
 pub mod Recording
 mod Unowned
+pub mod Fitting

@@ -103,7 +103,7 @@ refusal_none room used need limit e = by_test (nat_lt limit (used + need)) refl 
     by_test true is e = absurd (let never : ◌≡◌ {A = Option FullRoom} (Some (record { room = room; used = used; need = need; limit = limit })) None = e in cc)
     by_test false is e = ltb-false limit (used + need) is
 
-none_left : (a b : Option FullRoom) → option_or a b ≡ None → (a ≡ None) × (b ≡ None)
+pub none_left : (a b : Option FullRoom) → option_or a b ≡ None → (a ≡ None) × (b ≡ None)
 none_left None b e = (refl, e)
 none_left (Some x) b e = absurd (let never : Some x ≡ None = e in cc)
 

@@ -15,7 +15,7 @@ use Rattle.cloud_memory.specs.Steps.{raised, with_use}
 use Rattle.cloud_memory.proofs.Naming.{one_more, raised_here}
 
 keeps_on : (a b c : Shares) → KeepsPlaces a b → KeepsPlaces b c → KeepsPlaces a c
-keeps_on a b c one two = record { places = two.places ∙ one.places; fps = two.fps ∙ one.fps; accounts = two.accounts ∙ one.accounts }
+keeps_on a b c one two = record { places = two.places ∙ one.places; fps = two.fps ∙ one.fps; accounts = two.accounts ∙ one.accounts; slots = two.slots ∙ one.slots }
 
 -- So far these names were taken.
 pub record Walked (by : FinMap owner_cmp ℕ → Fp → FinMap owner_cmp ℕ) (start now : Shares) (names : List Fp) (place : ℕ) : Type 0 where
@@ -34,7 +34,7 @@ take_whole (name ∷ names) zero past = absurd (omega (arith, past))
 take_whole (name ∷ names) (suc place) past = ap (λ (l : List Fp). name ∷ l) (take_whole names place (omega (arith, past)))
 
 pub walked_none : (by : FinMap owner_cmp ℕ → Fp → FinMap owner_cmp ℕ) (start : Shares) (names : List Fp) → Walked by start start names 0
-walked_none by start names = record { owners = refl; kept = record { places = refl; fps = refl; accounts = refl } }
+walked_none by start names = record { owners = refl; kept = record { places = refl; fps = refl; accounts = refl; slots = refl } }
 
 pub walked_more : (by : FinMap owner_cmp ℕ → Fp → FinMap owner_cmp ℕ) (start now next : Shares) (names : List Fp) (place : ℕ) (fp : Fp) → slice_get names place ≡ Some fp
     → Walked by start now names place → next.owners ≡ by now.owners fp → KeepsPlaces now next → Walked by start next names (place + 1)

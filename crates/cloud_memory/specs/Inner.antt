@@ -1,9 +1,8 @@
 -- What the steps of a call need and leave. No public clause cites this module.
-use Rattle.std.specs.Prelude.{◌≡◌, ◌⊎◌, ℕ, ◌+◌, ◌*◌, ◌^◌, ◌<◌, ◌≤◌, max, List, [], ◌∷◌, length, Option, Some, None, Result, MatchResult}
+use Rattle.std.specs.Prelude.{◌≡◌, ℕ, ◌+◌, ◌*◌, ◌^◌, ◌<◌, ◌≤◌, max, List, [], ◌∷◌, length, Option, None, Result, MatchResult, is_some, if◌then◌else◌}
 use Rattle.std.specs.FinMap.{FinMap, get, insert, len}
 use Rattle.cd_base.specs.declared.ids.Fp.{Fp}
 use Rattle.cd_base.specs.declared.ids.UserId.{UserId}
-use Rattle.cd_base.specs.declared.rooms.Room.TheVariants.{Files}
 use Rattle.file_index.specs.declared.key.Entry.{Entry}
 use Rattle.file_index.specs.Order.{key_cmp}
 use Rattle.index_base.specs.declared.Accounts.TheVariants.{PerUser}
@@ -22,14 +21,16 @@ use Rattle.cloud_memory.specs.declared.rooms.Full.{Full}
 use Rattle.cloud_memory.specs.declared.rooms.New.{New}
 use Rattle.cloud_memory.specs.Memory.{Memory}
 use Rattle.cloud_memory.specs.News.{AreNewTo}
+use Rattle.cloud_memory.specs.Records.{full_entries}
 use Rattle.cloud_memory.specs.Rooms.{memory_of}
 use Rattle.cloud_memory.specs.Steps.{with_item, part_in}
 
--- The limits are as they were.
+-- The limits are as they were, and the number of slots for places.
 pub record KeepsLimits (old new : CloudMemory) : Type 0 where
   pub fps : new.shares.fps ≡ old.shares.fps
   pub owners : new.shares.accounts ≡ old.shares.accounts
   pub files : new.files.accounts ≡ old.files.accounts
+  pub slots : length new.shares.place_slots ≡ length old.shares.place_slots
 
 -- A fingerprint got this place.
 pub record Placed (old new : CloudMemory) (fp : Fp) (place : Place) : Type 0 where
@@ -91,6 +92,10 @@ pub record FitsPut (rooms : Rooms) (m : Memory) (user : UserId) (count more : �
   pub owned : keys_of (λ k. k.user) m.owners user.0 + count ≤ rooms.owners
   pub placed : len m.places + count ≤ rooms.users * rooms.owners
 
+-- the bytes of a share's part of a Put's record: its fingerprint and a flag, and a place where there was none
+abbrev pub part_len : Option Place → New → ℕ
+part_len o n = length n.fp.0 + (if is_some o then 1 else 13)
+
 -- a memory with another map of entries
 abbrev pub with_files : Memory → FinMap key_cmp Entry → Memory
 with_files m files = record { places = m.places; owners = m.owners; files = files; spent = m.spent; shares_end = m.shares_end; recipes_end = m.recipes_end }
@@ -104,19 +109,8 @@ pub record Entered (old new : CloudMemory) (body : CommitBody) : Type 0 where
 -- The user has as many entries as it may, and nothing changed.
 pub record IsCrowded (old new : CloudMemory) (body : CommitBody) (full : Full) : Type 0 where
   pub same : new ≡ old
-  pub full_is : full ≡ record { room = Files; used = files_used old.files body.user.0; need = 1; limit = limit_for old.files.accounts body.user.0 }
+  pub full_is : full ≡ full_entries old body.user
   pub used : files_used old.files body.user.0 ≡ limit_for old.files.accounts body.user.0
 
 abbrev pub Enters : CloudMemory → CloudMemory → CommitBody → Result Unit Full → Type 0
 Enters old new body result = MatchResult result (λ _. Entered old new body) (λ full. IsCrowded old new body full)
-
--- Nothing that is remembered changed: the user has as many entries as it may, or else the other room is full.
-pub record IsRefused (old new : CloudMemory) (body : CommitBody) (other : Option Full) (full : Full) : Type 0 where
-  pub memory : memory_of new ≡ memory_of old
-  pub limits : KeepsLimits old new
-  pub why : (full ≡ record { room = Files; used = files_used old.files body.user.0; need = 1; limit = limit_for old.files.accounts body.user.0 })
-      × (files_used old.files body.user.0 ≡ limit_for old.files.accounts body.user.0)
-      ⊎ ((¬ (files_used old.files body.user.0 ≡ limit_for old.files.accounts body.user.0)) × (other ≡ Some full))
-
-abbrev pub EntersWithin : CloudMemory → CloudMemory → CommitBody → Option Full → Result Unit Full → Type 0
-EntersWithin old new body other result = MatchResult result (λ _. Entered old new body × (other ≡ None)) (λ full. IsRefused old new body other full)

@@ -5,3 +5,4 @@ pub mod Rooms
 pub mod Sharing
 pub mod Steps
 pub mod Records
+pub mod Fitting

@@ -1,5 +1,5 @@
 -- What uses leave in an index of shares, and what a user owns.
-use Rattle.std.specs.Prelude.{◌≡◌, ℕ, List, take, slice_get, All, Option, Some, None, IsSome, MatchOption}
+use Rattle.std.specs.Prelude.{◌≡◌, ℕ, List, length, take, slice_get, All, Option, Some, None, IsSome, MatchOption}
 use Rattle.std.specs.FinMap.{FinMap, get}
 use Rattle.cd_base.specs.declared.ids.Fp.{Fp}
 use Rattle.cd_base.specs.declared.ids.UserId.{UserId}
@@ -26,3 +26,4 @@ pub record KeepsPlaces (old new : Shares) : Type 0 where
   pub places : new.places ≡ old.places
   pub fps : new.fps ≡ old.fps
   pub accounts : new.accounts ≡ old.accounts
+  pub slots : length new.place_slots ≡ length old.place_slots

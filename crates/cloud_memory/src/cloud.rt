@@ -1,6 +1,6 @@
 //! The memory of a cloud's list.
 
-ghost use Rattle.std.specs.Prelude.{◌≡◌, ◌↔◌, ◌<◌, ◌≤◌, ◌+◌, ◌*◌, ◌^◌, ℕ, List, [], ◌∷◌, ◌++◌, length, map, sum_by};
+ghost use Rattle.std.specs.Prelude.{◌≡◌, ◌≢◌, ◌↔◌, ◌<◌, ◌≤◌, ◌+◌, ◌*◌, ◌^◌, ℕ, List, [], ◌∷◌, ◌++◌, length, map, sum_by};
 ghost use Rattle.std.specs.Prelude.{option_map, IfOk, OnOk, OnErr, MatchResult, Some, None, IfSome, IsSome, IsTrue};
 ghost use Rattle.std.specs.Prelude.{slice_get, if◌then◌else◌};
 ghost use Rattle.std.specs.FinMap as maps;
@@ -9,6 +9,8 @@ ghost use Rattle.cd_base.specs.declared.shape.Shape.{Shape};
 ghost use Rattle.container_log.specs.Places.{place_of};
 ghost use Rattle.journal_start.specs.Ranges.{AreRooms};
 ghost use Rattle.file_index.specs.Files.{key_of};
+ghost use Rattle.file_index.specs.Files.{used_by as files_used};
+ghost use Rattle.index_base.specs.Accounts.{limit_for};
 ghost use Rattle.record_bodies.specs.Spelling as bodies;
 ghost use Rattle.record_bodies.specs.Spelling.{Body};
 ghost use Rattle.share_index.specs.Order.{owner_of};
@@ -28,14 +30,12 @@ ghost use Rattle.cloud_areas.specs.Laid.{AreLaid};
 ghost use Rattle.cloud_areas.specs.Placing.{places_given, places_of};
 ghost use Rattle.cloud_memory.specs.Memory.{Remembers, IsPlacedBy, HasEnds, as_spent, uses_of, summary, summary_of, keys_above};
 ghost use Rattle.cloud_memory.specs.News.{AreOf, AreNewTo, seen};
-ghost use Rattle.cloud_memory.specs.Rooms.{memory_of, HasRooms, full_put, full_news, full_commit};
+ghost use Rattle.cloud_memory.specs.Rooms.{memory_of, HasRooms, full_news, full_commit};
 ghost use Rattle.cloud_memory.specs.Sharing.{AreOwned};
-ghost use Rattle.cloud_memory.specs.Steps.{begun, with_put, parts_of, held_len, with_commit, without_entry};
-ghost use Rattle.cloud_memory.specs.Inner.{Placed, Owned, Adds, AddsAll, HasShareRoom, MayAdd, Enters, EntersWithin};
-ghost use Rattle.cloud_memory.specs.Inner.{KeepsLimits, with_files};
+ghost use Rattle.cloud_memory.specs.Steps.{begun, with_put, parts_of, with_commit, without_entry};
+ghost use Rattle.cloud_memory.specs.Inner.{Placed, Owned, Adds, AddsAll, HasShareRoom, MayAdd, Enters, Entered};
 
 use crate::places::{farther, place_behind};
-use crate::rooms::{either, full_room, owners_limit, recipes_limit, shares_limit};
 use crate::uses::{lower_all, raise_all};
 use crate::{Full, New};
 use cd_base::{Fp, NoMemory, Room, Tag, UserId, Version};
@@ -253,54 +253,6 @@ impl CloudMemory {
         }
     }
 
-    // The bytes that are held under the share's fingerprint, once it is put.
-    fn held_len(&self, new: &New) -> u64
-        ensures len { result ≡ held_len self.now.shares.places new.now }
-        ensures small { result < 2 ^ 32 }
-    {
-        match self.shares.place_of(&new.fp) {
-            Some(place) => u64::from(place.len),
-            None => u64::from(new.len),
-        }
-    }
-
-    // The bytes that are held under these shares' fingerprints, once they are put.
-    fn held_lens(&self, news: &[New]) -> u64
-        requires { length news.now ≤ 256 }
-        ensures sum { result ≡ sum_by (held_len self.now.shares.places) news.now }
-        ensures small { result < 2 ^ 40 + 1 }
-    {
-        let mut sum: u64 = 0;
-        for new in news {
-            sum += self.held_len(new);
-        }
-        sum
-    }
-
-    // The first of the user's rooms that a Put of so many shares, with so many bytes, would pass.
-    fn room_for_put(&self, rooms: &Rooms, user: UserId, count: u32, more: u64) -> Option<Full>
-        requires { AreRooms rooms.now }
-        ensures { option_map seen result ≡ full_put rooms.now user (memory_of self.now) count more }
-    {
-        let spent = self.spent.of(user);
-        let put = u64::from(spent.owners);
-        let need = u64::from(count);
-        let most = owners_limit(rooms, user);
-        let bytes = shares_limit(rooms, user);
-        let own = self.shares.owned_by(user);
-        let mine = u64::from(own);
-        let all = self.shares.placed();
-        let laid = u64::from(all);
-        let slots = u64::from(rooms.users * rooms.owners);
-        let owners = full_room(Room::Owners, put, need, most);
-        let shares = full_room(Room::Shares, spent.shares, more, bytes);
-        let owned = full_room(Room::Owners, mine, need, most);
-        let placed = full_room(Room::Owners, laid, need, slots);
-        let third = either(owned, placed);
-        let second = either(shares, third);
-        either(owners, second)
-    }
-
     /// Adds a Put of these shares, in order, as the last command, where the user's rooms are wide enough, and gives
     /// for each share its part of the record: where the share lies, if it has no place yet. The shares are new to the
     /// user, no two of them alike. What is spent counts each share with the length that is held under its fingerprint.
@@ -379,29 +331,15 @@ impl CloudMemory {
         }
     }
 
-    // Takes a version out that was entered.
-    fn leave(&mut self, body: &CommitBody)
-        ensures memory { memory_of self.new ≡ with_files (memory_of self.old)
-            (maps.remove self.old.files.files (key_of body.now.user.0 body.now.tag.0 body.now.version.0)) }
-        ensures limits { KeepsLimits self.old self.new }
-    {
-        self.files.remove(body.user, &body.tag, body.version);
-    }
-
-    // Enters a version that the user doesn't have, where the user may have one more and the other room isn't full.
-    fn enter_within(&mut self, body: &CommitBody, other: Option<Full>) -> Result<(), Full>
-        requires { maps.get self.old.files.files (key_of body.now.user.0 body.now.tag.0 body.now.version.0) ≡ None }
-        ensures { EntersWithin self.old self.new body.now other result }
+    // Enters a version that the user doesn't have, where the user may have one more.
+    fn enter_roomy(&mut self, body: &CommitBody)
+        requires new { maps.get self.old.files.files (key_of body.now.user.0 body.now.tag.0 body.now.version.0) ≡ None }
+        requires room { files_used self.old.files body.now.user.0 ≢ limit_for self.old.files.accounts body.now.user.0 }
+        ensures { Entered self.old self.new body.now }
     {
         match self.enter(body) {
-            Err(full) => Err(full),
-            Ok(()) => match other {
-                Some(full) => {
-                    self.leave(body);
-                    Err(full)
-                }
-                None => Ok(()),
-            },
+            Ok(()) => {}
+            Err(_) => unreachable!(),
         }
     }
 
@@ -462,12 +400,10 @@ impl CloudMemory {
             fp,
         };
         let more = u64::from(len);
-        let spent = self.spent.of(user);
-        let most = recipes_limit(rooms, user);
-        let other = full_room(Room::Recipes, spent.recipes, more, most);
-        match self.enter_within(&body, other) {
-            Err(full) => Err(full),
-            Ok(()) => {
+        match self.full_for_commit(rooms, user, len) {
+            Some(full) => Err(full),
+            None => {
+                self.enter_roomy(&body);
                 raise_all(&mut self.shares, user, recipe);
                 self.spent.add_recipe(user, more);
                 self.recipes_end = farther(self.recipes_end, at + more);

@@ -1,6 +1,6 @@
 //! The laws of a server's memory, for the proofs of callers. The calls do nothing.
 
-ghost use Rattle.std.specs.Prelude.{◌≡◌, ◌<◌, ◌≤◌, ℕ, List, [], ◌∷◌, ◌++◌, length, Some, None};
+ghost use Rattle.std.specs.Prelude.{◌≡◌, ◌<◌, ◌≤◌, ℕ, List, [], ◌∷◌, ◌++◌, length, All, Some, None};
 ghost use Rattle.std.specs.FinMap.{get};
 ghost use Rattle.cd_base.specs.declared.ids.Tag.{Tag};
 ghost use Rattle.cd_base.specs.declared.ids.UserId.{UserId};
@@ -8,12 +8,17 @@ ghost use Rattle.cd_base.specs.declared.ids.Version.{Version};
 ghost use Rattle.cd_base.specs.declared.shape.Shape.{Shape};
 ghost use Rattle.cd_base.specs.declared.ids.Fp.{Fp};
 ghost use Rattle.container_log.specs.Places.{place_of};
+ghost use Rattle.file_index.specs.declared.key.FileKey.{FileKey};
 ghost use Rattle.file_index.specs.Files.{key_of};
 ghost use Rattle.journal_start.specs.declared.rooms.Rooms.{Rooms};
+ghost use Rattle.message_fields.specs.Shares.{share_limit};
 ghost use Rattle.record_body.specs.declared.body.CommitBody.{CommitBody};
+ghost use Rattle.record_body.specs.declared.body.PutItem.{PutItem};
 ghost use Rattle.record_bodies.specs.declared.body.DeleteBody.{DeleteBody};
+ghost use Rattle.record_bodies.specs.declared.body.KeptItem.{KeptItem};
 ghost use Rattle.record_bodies.specs.Spelling as bodies;
-ghost use Rattle.record_bodies.specs.Spelling.{Body};
+ghost use Rattle.record_bodies.specs.Spelling.{Body, FitsKept};
+ghost use Rattle.spent_table.specs.declared.Spent.{Spent};
 ghost use Rattle.user_dedup.specs.declared.file_list.FileEntry.{FileEntry};
 ghost use Rattle.user_dedup.specs.Pages.{entry_at};
 ghost use Rattle.user_dedup.specs.Requests.{fps_of};
@@ -30,7 +35,9 @@ ghost use Rattle.cloud_areas.specs.Laid.{AreLaid};
 ghost use Rattle.cloud_areas.specs.Placing.{places_given, places_of};
 ghost use Rattle.cloud_memory.specs.Rooms.{full_news, full_commit};
 ghost use Rattle.cloud_memory.specs.Sharing.{AreOwned};
+ghost use Rattle.cloud_memory.specs.Fitting.{FitsPart, FitsRecords};
 ghost use Rattle.cloud_memory.specs.Steps.{begun, with_put, parts_of, with_commit, without_entry};
+ghost use Rattle.cloud_memory.specs.Steps.{with_items, with_kepts, with_entry, spends, with_spent};
 
 /// A memory of a sound list, with what a Put leaves, is that of the list with the Put.
 pub fn law_of_puts()
@@ -128,4 +135,29 @@ pub fn law_of_records()
         → IsRecord region records list (commands.Commit user tag version recipe)
         (bodies.Commit (commit_of user tag version recipe (place_of m.recipes_end (length recipe))))
         (record { place = place_of m.recipes_end (length recipe); blob = recipe } ∷ []) }
+{}
+
+/// A memory that fits records fits them after a command more: a Put whose shares have from 1 to 8,208 bytes, by its shares or
+/// by its record's items, a Commit of a recipe that has a byte, and any Delete. So it does after a record more.
+pub fn law_of_fitting()
+    ensures begun { (users region : ℕ) → FitsRecords (begun users region) }
+    ensures puts { (user : UserId) (news : List New) (m : Memory)
+        → All (λ (n : New). (1 ≤ n.len) × (n.len ≤ share_limit)) news
+        → FitsRecords m → FitsRecords (with_put user (parts_of user m news) m) }
+    ensures items { (user : UserId) (items : List PutItem) (m : Memory) → All FitsPart items
+        → FitsRecords m → FitsRecords (with_put user items m) }
+    ensures commits { (names : List Fp) (c : CommitBody) (m : Memory) → 1 ≤ c.len
+        → FitsRecords m → FitsRecords (with_commit names c m) }
+    ensures deletes { (names : List Fp) (user : UserId) (key : FileKey) (m : Memory)
+        → FitsRecords m → FitsRecords (without_entry names user key m) }
+    // what a record leaves
+    ensures parts { (user : UserId) (items : List PutItem) (m : Memory) → All FitsPart items
+        → FitsRecords m → FitsRecords (with_items user m items) }
+    ensures kepts { (items : List KeptItem) (m : Memory) → All FitsKept items
+        → FitsRecords m → FitsRecords (with_kepts m items) }
+    ensures entries { (names : List Fp) (c : CommitBody) (m : Memory) → 1 ≤ c.len
+        → FitsRecords m → FitsRecords (with_entry names c m) }
+    ensures spends { (user : UserId) (more : Spent) (m : Memory) → FitsRecords m → FitsRecords (spends user more m) }
+    ensures spent { (user : UserId) (spent : Spent) (m : Memory) → FitsRecords m
+        → FitsRecords (with_spent user spent m) }
 {}

@@ -4,6 +4,7 @@
 //! A memory takes all it needs when it is made, and calls no device.
 #![tactic(auto)]
 
+mod asking;
 mod cloud;
 pub mod laws;
 mod owning;

@@ -1,6 +1,6 @@
 //! A journal's records in the memory, each by its own places.
 
-ghost use Rattle.std.specs.Prelude.{◌≡◌, ◌↔◌, ◌<◌, ◌+◌, ◌^◌, length, None, IsErr, OnOk, OnErr};
+ghost use Rattle.std.specs.Prelude.{◌≡◌, ◌↔◌, ◌<◌, ◌+◌, ◌^◌, length, None, IsErr, IfErr, OnOk, OnErr};
 ghost use Rattle.std.specs.FinMap as maps;
 ghost use Rattle.index_base.specs.Accounts.{keys_of, limit_for};
 ghost use Rattle.journal_start.specs.declared.rooms.Rooms.{Rooms};
@@ -11,7 +11,7 @@ ghost use Rattle.file_index.specs.Files.{used_by as files_used};
 ghost use Rattle.spent_table.specs.Spending.{spent_by};
 ghost use Rattle.user_dedup.specs.Owning.{fps_in};
 ghost use Rattle.cloud_memory.specs.Inner.{Owned};
-ghost use Rattle.cloud_memory.specs.Records.{HasPlaceRoom, HasItemRoom};
+ghost use Rattle.cloud_memory.specs.Records.{HasPlaceRoom, HasItemRoom, full_entries};
 ghost use Rattle.cloud_memory.specs.Rooms.{memory_of, HasRooms};
 ghost use Rattle.cloud_memory.specs.Sharing.{AreOwned};
 ghost use Rattle.cloud_memory.specs.Steps.{with_item, with_kept, with_entry, with_spent, spends};
@@ -80,7 +80,7 @@ impl CloudMemory {
 
     /// Takes a Commit's record with its recipe, of which the user owns each fingerprint: the version, which the user
     /// doesn't have, gets the entry, and each of them a use more for each item that names it. Nothing is spent.
-    /// `Full` comes exactly where the user has as many entries as it may; nothing changes then.
+    /// `Full` comes exactly where the user has as many entries as it may, and says how many; nothing changes then.
     pub fn take_entry(&mut self, commit: &CommitBody, recipe: &RecipeView<'_>) -> Result<(), Full>
         requires new { maps.get self.old.files.files
             (key_of commit.now.user.0 commit.now.tag.0 commit.now.version.0) ≡ None }
@@ -88,12 +88,16 @@ impl CloudMemory {
         requires owned { AreOwned self.old.shares.owners commit.now.user (fps_in recipe.now.items) }
         ensures full { IsErr result
             ↔ files_used self.old.files commit.now.user.0 ≡ limit_for self.old.files.accounts commit.now.user.0 }
+        ensures numbers { IfErr result (λ full. full ≡ full_entries self.old commit.now.user) }
         ensures taken { OnOk result (memory_of self.new
             ≡ with_entry (fps_in recipe.now.items) commit.now (memory_of self.old)) }
         ensures rooms { (rooms : Rooms) → HasRooms rooms self.old → HasRooms rooms self.new }
         ensures err { OnErr result (self.new ≡ self.old) }
     {
-        self.enter(commit)?;
+        match self.enter(commit) {
+            Ok(()) => {}
+            Err(full) => return Err(full),
+        }
         raise_all(&mut self.shares, commit.user, recipe);
         let end = commit.at + u64::from(commit.len);
         self.recipes_end = farther(self.recipes_end, end);

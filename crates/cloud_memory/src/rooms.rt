@@ -2,7 +2,7 @@
 
 ghost use Rattle.std.specs.Prelude.{◌≡◌, option_map};
 ghost use Rattle.std.specs.Option.{option_or};
-ghost use Rattle.command_list.specs.Spending.{refusal, limits_of};
+ghost use Rattle.command_list.specs.Spending.{refusal, limits_of, files_limit};
 ghost use Rattle.cloud_memory.specs.News.{seen};
 
 use cd_base::{Fp, Room, UserId};
@@ -79,6 +79,17 @@ pub(crate) fn recipes_limit(rooms: &Rooms, user: UserId) -> u64
 {
     if user.0 < rooms.users {
         rooms.recipes
+    } else {
+        0
+    }
+}
+
+// How many entries the user may have.
+pub(crate) fn entries_limit(rooms: &Rooms, user: UserId) -> u64
+    ensures { result ≡ files_limit rooms.now user }
+{
+    if user.0 < rooms.users {
+        u64::from(rooms.files)
     } else {
         0
     }

@@ -3,7 +3,7 @@ use Rattle.file_index.specs.Files.{Files}
 use Rattle.share_index.specs.Shares.{Shares}
 use Rattle.spent_table.specs.declared.Spent.{Spent as Row}
 use Rattle.checkpoint_records.specs.Records.{first_of}
-use Rattle.checkpoint_records.specs.Ready.{AreShares, AreRecipes}
+use Rattle.cloud_memory.specs.Fitting.{AreShares, AreRecipes}
 use Rattle.checkpoint_records.proofs.Unmarked.{ready_first}
 use Rattle.checkpoint_records.proofs.records.MemoryRecords.of.Goals as goal
 

@@ -80,6 +80,7 @@ returns-in-None-clause-rooms c =
       fps = added.limits.fps ∙ c.requires.rooms.fps;
       owners = added.limits.owners ∙ c.requires.rooms.owners;
       files = added.limits.files ∙ c.requires.rooms.files;
+      slots = added.limits.slots ∙ c.requires.rooms.slots;
       users =
           ap (λ (l : List Spent). length l) c.add_shares-in-None.ensures
           ∙ rows_long c.add_shares.new.self.spent c.args.user (both (spent_by c.add_shares.new.self.spent c.args.user) (of_shares (length c.args.news.now) c.held_lens-more.result))

@@ -1,7 +1,7 @@
 -- A memory that fits records fits them after a command more.
-use Rattle.std.proofs.Common.{◌≡◌, ◌⊎◌, inl, inr, ℕ, ◌≤◌, Bool, true, false, cond, List, [], ◌∷◌, length, Option, Some, None, refl, sym, ap, ◌∙◌, subst}
-use Rattle.std.specs.Prelude.{All, is_some, fold}
-use Rattle.std.specs.FinMap.{FinMap, get, insert, remove, empty, get-insert, get-remove, get-empty}
+use Rattle.std.proofs.Common.{◌≡◌, ℕ, ◌≤◌, Bool, true, false, cond, List, [], ◌∷◌, Option, Some, None, refl, sym, ap, ◌∙◌, subst}
+use Rattle.std.specs.Prelude.{All, is_some}
+use Rattle.std.specs.FinMap.{FinMap, get, get-insert, get-remove, get-empty}
 use Rattle.std.specs.Ordering.{eq_by_cmp}
 use Rattle.std.proofs.lemmas.List.Elements.{All-nil, All-cons, All-head, All-tail}
 use Rattle.cd_base.specs.declared.ids.Fp.{Fp}
@@ -14,13 +14,16 @@ use Rattle.file_index.proofs.Order.{key_total}
 use Rattle.message_fields.specs.Shares.{share_limit}
 use Rattle.record_body.specs.declared.body.CommitBody.{CommitBody}
 use Rattle.record_body.specs.declared.body.PutItem.{PutItem}
+use Rattle.record_bodies.specs.declared.body.KeptItem.{KeptItem}
+use Rattle.record_bodies.specs.Spelling.{FitsKept}
+use Rattle.spent_table.specs.declared.Spent.{Spent}
 use Rattle.share_index.specs.declared.key.Place.{Place}
 use Rattle.share_index.specs.Order.{fp_cmp}
 use Rattle.share_index.proofs.Placing.{fp_total}
 use Rattle.cloud_memory.specs.declared.rooms.New.{New}
 use Rattle.cloud_memory.specs.Memory.{Memory}
-use Rattle.cloud_memory.specs.Steps.{begun, with_item, with_items, with_put, places_with, part_in, parts_of, with_commit, without_entry}
-use Rattle.checkpoint_records.specs.Ready.{AreShares, AreRecipes, FitsPart, FitsRecords}
+use Rattle.cloud_memory.specs.Steps.{begun, with_item, with_items, with_put, places_with, part_in, parts_of, with_commit, without_entry, with_kept, with_kepts, with_entry, spends, with_spent}
+use Rattle.cloud_memory.specs.Fitting.{AreShares, AreRecipes, FitsPart, FitsRecords}
 
 pub begun_fits : (users region : ℕ) → FitsRecords (begun users region)
 begun_fits users region = record {
@@ -75,10 +78,33 @@ parts_fit user m (n ∷ news) fit =
 pub news_fit : (user : UserId) (news : List New) (m : Memory) → All (λ (n : New). (1 ≤ n.len) × (n.len ≤ share_limit)) news → FitsRecords m → FitsRecords (with_put user (parts_of user m news) m)
 news_fit user news m fit old = put_fits user (parts_of user m news) m (parts_fit user m news fit) old
 
+-- ---- what a record leaves
+
+pub filled_fits : (user : UserId) (items : List PutItem) (m : Memory) → All FitsPart items → FitsRecords m → FitsRecords (with_items user m items)
+filled_fits user items m parts fit = record { shares = items_fit user items m parts fit.shares; recipes = same_files user items m fit.recipes }
+
+pub kepts_fit : (items : List KeptItem) (m : Memory) → All FitsKept items → FitsRecords m → FitsRecords (with_kepts m items)
+kepts_fit [] m kept fit = fit
+kepts_fit (item ∷ items) m kept fit = kepts_fit items (with_kept m item) (All-tail FitsKept item items kept) (record {
+  shares = more_places m.places item.fp (Some item.place) (λ place e. part place e (All-head FitsKept item items kept)) fit.shares;
+  recipes = fit.recipes;
+})
+  where
+    part : (place : Place) → ◌≡◌ {A = Option Place} (Some item.place) (Some place) → FitsKept item → (1 ≤ place.len) × (place.len ≤ share_limit)
+    part place e fits =
+        let same : item.place.len ≡ place.len = ap (λ o. (place_or item.place o).len) e in
+        subst (λ (l : ℕ). (1 ≤ l) × (l ≤ share_limit)) same fits.1.1
+
+pub spends_fits : (user : UserId) (more : Spent) (m : Memory) → FitsRecords m → FitsRecords (spends user more m)
+spends_fits user more m fit = record { shares = fit.shares; recipes = fit.recipes }
+
+pub spent_fits : (user : UserId) (spent : Spent) (m : Memory) → FitsRecords m → FitsRecords (with_spent user spent m)
+spent_fits user spent m fit = record { shares = fit.shares; recipes = fit.recipes }
+
 -- ---- entries
 
-pub commit_fits : (names : List Fp) (c : CommitBody) (m : Memory) → 1 ≤ c.len → FitsRecords m → FitsRecords (with_commit names c m)
-commit_fits names c m some fit = record {
+pub entry_fits : (names : List Fp) (c : CommitBody) (m : Memory) → 1 ≤ c.len → FitsRecords m → FitsRecords (with_entry names c m)
+entry_fits names c m some fit = record {
   shares = fit.shares;
   recipes = λ key e at. by_test key e (eq_by_cmp key_cmp key (key_of c.user.0 c.tag.0 c.version.0)) (sym (get-insert key_total m.files (key_of c.user.0 c.tag.0 c.version.0) _ key) ∙ at);
 }
@@ -90,6 +116,9 @@ commit_fits names c m some fit = record {
     by_test : (key : FileKey) (e : Entry) (b : Bool) → cond b (Some (record { at = c.at; len = c.len; fp = c.fp })) (get m.files key) ≡ Some e → 1 ≤ e.len
     by_test key e true is = subst (λ (l : ℕ). 1 ≤ l) (ap (len_or e) is) some
     by_test key e false is = fit.recipes key e is
+
+pub commit_fits : (names : List Fp) (c : CommitBody) (m : Memory) → 1 ≤ c.len → FitsRecords m → FitsRecords (with_commit names c m)
+commit_fits names c m some fit = let e = entry_fits names c m some fit in record { shares = e.shares; recipes = e.recipes }
 
 pub delete_fits : (names : List Fp) (user : UserId) (key : FileKey) (m : Memory) → FitsRecords m → FitsRecords (without_entry names user key m)
 delete_fits names user key m fit = record {

@@ -1,0 +1,28 @@
+-- A memory whose shares and recipes fit records.
+use Rattle.std.specs.Prelude.{◌≡◌, ℕ, ◌≤◌, List, Some}
+use Rattle.std.specs.FinMap.{FinMap, get}
+use Rattle.file_index.specs.declared.key.Entry.{Entry}
+use Rattle.file_index.specs.declared.key.FileKey.{FileKey}
+use Rattle.file_index.specs.Order.{key_cmp}
+use Rattle.message_fields.specs.Shares.{share_limit}
+use Rattle.record_body.specs.declared.body.PutItem.{PutItem}
+use Rattle.share_index.specs.declared.key.Place.{Place}
+use Rattle.share_index.specs.Order.{fp_cmp}
+use Rattle.cloud_memory.specs.Memory.{Memory}
+
+-- Each share has from 1 to 8,208 bytes.
+abbrev pub AreShares : FinMap fp_cmp Place → Type 0
+AreShares places = (fp : List ℕ) (place : Place) → get places fp ≡ Some place → (1 ≤ place.len) × (place.len ≤ share_limit)
+
+-- Each recipe has a byte.
+abbrev pub AreRecipes : FinMap key_cmp Entry → Type 0
+AreRecipes files = (key : FileKey) (e : Entry) → get files key ≡ Some e → 1 ≤ e.len
+
+-- What the memory has fits records: each share has from 1 to 8,208 bytes, and each recipe has one.
+pub record FitsRecords (m : Memory) : Type 0 where
+  pub shares : AreShares m.places
+  pub recipes : AreRecipes m.files
+
+-- What an item of a Put places has from 1 to 8,208 bytes.
+abbrev pub FitsPart : PutItem → Type 0
+FitsPart item = (place : Place) → item.place ≡ Some place → (1 ≤ place.len) × (place.len ≤ share_limit)
