@@ -1,5 +1,5 @@
 -- All records of a journal, into a memory of no commands.
-use Rattle.std.proofs.Common.{◌≡◌, ℕ, List, Result, Ok, Err, ap, subst}
+use Rattle.std.proofs.Common.{◌≡◌, ℕ, List, Result, Ok, Err, sym, ap, subst}
 use Rattle.cd_edges.specs.Disk.{Store}
 use Rattle.journal_halves.specs.Journals.{Where}
 use Rattle.half_journal.specs.declared.errors.OpenErr.{OpenErr}
@@ -7,8 +7,10 @@ use Rattle.half_journal.specs.declared.errors.OpenErr.TheVariants.{Fault, NotBeg
 use Rattle.half_journal.specs.declared.journal.Stage.{Stage}
 use Rattle.half_journal.specs.Openings.{OnFault}
 use Rattle.half_journal.specs.States.{State}
+use Rattle.cloud_memory.specs.Fitting.{FitsRecords}
 use Rattle.cloud_memory.specs.Memory.{Memory}
 use Rattle.cloud_memory.specs.Steps.{begun}
+use Rattle.cloud_memory.proofs.Fitting.{begun_fits}
 use Rattle.record_checks.specs.declared.ground.Ground.{Ground}
 use Rattle.record_checks.specs.declared.taking.Taking.{Taking}
 use Rattle.record_checks.specs.Noting.{nothing_noted}
@@ -16,7 +18,11 @@ use Rattle.store_opening.specs.Exact.{Closes, number_behind}
 use Rattle.store_opening.specs.Steps.{IsTraced, From, AllAs, HasEnded}
 
 pub traced_begun : (g : Ground) (users : ℕ) (m : Memory) (t : Taking) → m ≡ begun users g.region → t ≡ nothing_noted → IsTraced g m t
-traced_begun g users m t same none = record { shares = λ e. ap (λ (x : Memory). x.shares_end) same; recipes = λ e. ap (λ (x : Memory). x.recipes_end) same }
+traced_begun g users m t same none = record {
+  shares = λ e. ap (λ (x : Memory). x.shares_end) same;
+  recipes = λ e. ap (λ (x : Memory). x.recipes_end) same;
+  fit = subst FitsRecords (sym same) (begun_fits users g.region);
+}
 
 module _ (g : Ground) (recipes : List ℕ) (store : Store) (w : Where) (before : State) (m0 : Memory) (t0 : Taking) (users : ℕ) (same : m0 ≡ begun users g.region) (none : t0 ≡ nothing_noted)
     (after : State) (mid : Memory) (u : Taking) where

@@ -1,5 +1,6 @@
 pub mod Synced
 pub mod Reading
+pub mod Fit
 pub mod Traced
 pub mod Stepping
 pub mod Along

@@ -1,22 +1,27 @@
--- The place fields that are noted: where none is, no blob has moved the end.
+-- The place fields that are noted: where none is, no blob has moved the end. And what is taken fits records.
+use Rattle.std.specs.Prelude.{All}
 use Rattle.std.proofs.Common.{◌≡◌, ℕ, ◌+◌, Bool, true, false, List, [], ◌∷◌, length, max, Option, Some, None, Result, Ok, Err, refl, sym, ◌∙◌, ap, subst, arith, if◌then◌else◌, nat_lt}
 use Rattle.cd_base.specs.declared.ids.UserId.{UserId}
 use Rattle.record_bodies.specs.declared.body.KeptItem.{KeptItem}
-use Rattle.record_bodies.specs.Spelling.{Body}
+use Rattle.record_bodies.specs.Reading.{body_at}
+use Rattle.record_bodies.specs.Spelling.{Body, FitsBody}
 use Rattle.record_body.specs.declared.body.PutItem.{PutItem}
-use Rattle.record_body.specs.Spelling.{item_bytes}
+use Rattle.record_body.specs.Spelling.{FitsItem, item_bytes}
 use Rattle.share_index.specs.declared.key.Place.{Place}
 use Rattle.spent_table.specs.declared.Spent.{Spent}
+use Rattle.user_dedup.specs.Requests.{fps_of}
 use Rattle.cloud_areas.specs.Placing.{end_of}
 use Rattle.cloud_memory.specs.Memory.{Memory}
-use Rattle.cloud_memory.specs.Steps.{end_with, with_item, with_items, with_kept, with_kepts}
+use Rattle.cloud_memory.specs.Steps.{end_with, with_entry, with_item, with_items, with_kept, with_kepts}
 use Rattle.record_checks.specs.declared.damage.Damage.{Damage}
 use Rattle.record_checks.specs.declared.ground.Ground.{Ground}
 use Rattle.record_checks.specs.declared.taking.Taking.{Taking}
 use Rattle.record_checks.specs.Checks.{damaged_at, put_items, kept_items, place_at, spends_behind}
 use Rattle.record_checks.specs.Judging.{JudgesBody, PutFault, PutPast, PutTaken, Unplaced, Entered, NotWhole, CommitPast, CommitTaken, NoEntry, NotNamed, Deleted, KeptDamaged, KeptPast, KeptTaken, SpentPast, SpentTaken, Judges, Outside, Unread, Damaged, Taken}
 use Rattle.record_checks.specs.Noting.{farther_field, put_field, kept_field, noted, IsNoted}
+use Rattle.cloud_memory.proofs.Fitting.{entry_fits, delete_fits, kepts_fit, spent_fits}
 use Rattle.store_opening.specs.Steps.{IsTraced}
+use Rattle.store_opening.proofs.Fit.{behind_fits, items_fit}
 
 -- where a place's field isn't noted, the place doesn't lie behind the end
 some_none : {X : Type 0} (x : X) → Some x ≡ None → ⊥
@@ -81,44 +86,49 @@ no_ok place m e = cc
 no_answer : (damage : Damage) (m : Memory) → Err damage ≡ Ok m → ⊥
 no_answer damage m e = cc
 
-module _ (g : Ground) (inside : Bool) (read : List ℕ) (marks : List Bool) (old : Memory) (at : ℕ) (body : List ℕ) (t : Taking) (traced : IsTraced g old t) where
-  put_traced : (user : UserId) (items : List PutItem) (more : Spent) → IsTraced g (spends_behind inside user more (with_items user old items))
+module _ (g : Ground) (inside : Bool) (read : List ℕ) (marks : List Bool) (old : Memory) (at : ℕ) (body : List ℕ) (t : Taking) (traced : IsTraced g old t)
+    (fits_body : (b : Body) → body_at body ≡ Ok b → FitsBody b) where
+  put_traced : (user : UserId) (items : List PutItem) (more : Spent) → All FitsItem items → IsTraced g (spends_behind inside user more (with_items user old items))
       (record { spent = t.spent; shares_field = put_field at body old.shares_end put_items t.shares_field items; recipes_field = t.recipes_field })
-  put_traced user items more = record {
+  put_traced user items more all = record {
     shares = λ none. let f = put_none user at body put_items t.shares_field old items none in spends_shares inside user more (with_items user old items) ∙ f.1 ∙ traced.shares f.0;
     recipes = λ none. spends_recipes inside user more (with_items user old items) ∙ put_recipes user old items ∙ traced.recipes none;
+    fit = behind_fits inside user more (with_items user old items) (items_fit user items old all traced.fit);
   }
 
-  body_traced : (b : Body) (answer : Result Memory ℕ) → JudgesBody g inside read marks old b answer → (new : Memory) → answer ≡ Ok new → IsTraced g new (noted at body old t b)
-  body_traced b answer (PutFault user items place fault) new e = absurd (no_ok _ new e)
-  body_traced b answer (PutPast user items right past) new e = absurd (no_ok _ new e)
-  body_traced b answer (PutTaken user items right fits) new e = subst (λ (m : Memory). IsTraced g m (noted at body old t b)) (ap (memory_or old) e) (put_traced user items _)
-  body_traced b answer (Unplaced c none) new e = absurd (no_ok _ new e)
-  body_traced b answer (Entered c lies there) new e = absurd (no_ok _ new e)
-  body_traced b answer (NotWhole c lies none unlike) new e = absurd (no_ok _ new e)
-  body_traced b answer (CommitPast c lies none whole past) new e = absurd (no_ok _ new e)
-  body_traced b answer (CommitTaken c lies none whole fits) new e = subst (λ (m : Memory). IsTraced g m (noted at body old t b)) (ap (memory_or old) e) (record {
+  body_traced : (b : Body) → FitsBody b → (answer : Result Memory ℕ) → JudgesBody g inside read marks old b answer → (new : Memory) → answer ≡ Ok new → IsTraced g new (noted at body old t b)
+  body_traced b said answer (PutFault user items place fault) new e = absurd (no_ok _ new e)
+  body_traced b said answer (PutPast user items right past) new e = absurd (no_ok _ new e)
+  body_traced b said answer (PutTaken user items right fits) new e = subst (λ (m : Memory). IsTraced g m (noted at body old t b)) (ap (memory_or old) e) (put_traced user items _ said.1.1)
+  body_traced b said answer (Unplaced c none) new e = absurd (no_ok _ new e)
+  body_traced b said answer (Entered c lies there) new e = absurd (no_ok _ new e)
+  body_traced b said answer (NotWhole c lies none unlike) new e = absurd (no_ok _ new e)
+  body_traced b said answer (CommitPast c lies none whole past) new e = absurd (no_ok _ new e)
+  body_traced b said answer (CommitTaken c lies none whole fits) new e = subst (λ (m : Memory). IsTraced g m (noted at body old t b)) (ap (memory_or old) e) (record {
     shares = λ none. spends_shares inside c.user _ _ ∙ traced.shares none;
     recipes = λ none. let f = field_none old.recipes_end t.recipes_field (Some (record { at = c.at; len = c.len })) (damaged_at at body place_at) none in spends_recipes inside c.user _ _ ∙ f.1 ∙ traced.recipes f.0;
+    fit = behind_fits inside c.user (record { owners = 0; shares = 0; recipes = c.len }) (with_entry (fps_of g.shape read) c old)
+        (entry_fits (fps_of g.shape read) c old said.some traced.fit);
   })
-  body_traced b answer (NoEntry d none) new e = absurd (no_ok _ new e)
-  body_traced b answer (NotNamed d entry there unlike) new e = absurd (no_ok _ new e)
-  body_traced b answer (Deleted d entry there named) new e = subst (λ (m : Memory). IsTraced g m (noted at body old t b)) (ap (memory_or old) e) (record { shares = traced.shares; recipes = traced.recipes })
-  body_traced b answer (KeptDamaged items place fault) new e = absurd (no_ok _ new e)
-  body_traced b answer (KeptPast items right past) new e = absurd (no_ok _ new e)
-  body_traced b answer (KeptTaken items right fits) new e = subst (λ (m : Memory). IsTraced g m (noted at body old t b)) (ap (memory_or old) e) (record {
+  body_traced b said answer (NoEntry d none) new e = absurd (no_ok _ new e)
+  body_traced b said answer (NotNamed d entry there unlike) new e = absurd (no_ok _ new e)
+  body_traced b said answer (Deleted d entry there named) new e = subst (λ (m : Memory). IsTraced g m (noted at body old t b)) (ap (memory_or old) e) (record { shares = traced.shares; recipes = traced.recipes; fit = delete_fits (fps_of g.shape read) d.user _ old traced.fit })
+  body_traced b said answer (KeptDamaged items place fault) new e = absurd (no_ok _ new e)
+  body_traced b said answer (KeptPast items right past) new e = absurd (no_ok _ new e)
+  body_traced b said answer (KeptTaken items right fits) new e = subst (λ (m : Memory). IsTraced g m (noted at body old t b)) (ap (memory_or old) e) (record {
     shares = λ none. let f = kept_none at body kept_items t.shares_field old items none in f.1 ∙ traced.shares f.0;
     recipes = λ none. kept_recipes old items ∙ traced.recipes none;
+    fit = kepts_fit items old said.1 traced.fit;
   })
-  body_traced b answer (SpentPast spent past) new e = absurd (no_ok _ new e)
-  body_traced b answer (SpentTaken spent may) new e = subst (λ (m : Memory). IsTraced g m (noted at body old t b)) (ap (memory_or old) e) (record { shares = traced.shares; recipes = traced.recipes })
+  body_traced b said answer (SpentPast spent past) new e = absurd (no_ok _ new e)
+  body_traced b said answer (SpentTaken spent may) new e = subst (λ (m : Memory). IsTraced g m (noted at body old t b)) (ap (memory_or old) e) (record { shares = traced.shares; recipes = traced.recipes; fit = spent_fits spent.user _ old traced.fit })
 
   by_judging : (answer : Result Memory Damage) → Judges g inside read marks old at body answer → (new : Memory) → answer ≡ Ok new → (after : Taking) → IsNoted at body old t after → IsTraced g new after
   by_judging answer (Outside behind of) new e after is_noted = absurd (no_answer _ new e)
   by_judging answer (Unread err not is) new e after is_noted = absurd (no_answer _ new e)
   by_judging answer (Damaged b place not is judged) new e after is_noted = absurd (no_answer _ new e)
   by_judging answer (Taken b m not is judged) new e after is_noted =
-      subst (λ (u : Taking). IsTraced g new u) (sym (is_noted b is)) (body_traced b (Ok m) judged new (ap bare e))
+      subst (λ (u : Taking). IsTraced g new u) (sym (is_noted b is)) (body_traced b (fits_body b is) (Ok m) judged new (ap bare e))
 
   pub traced_next : (new : Memory) (after : Taking) → Judges g inside read marks old at body (Ok new) → IsNoted at body old t after → IsTraced g new after
   traced_next new after judged is_noted = by_judging (Ok new) judged new refl after is_noted

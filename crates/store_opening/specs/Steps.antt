@@ -16,6 +16,7 @@ use Rattle.cloud_areas.specs.Standing.{Chain, region_in}
 use Rattle.cloud_disk.specs.Disk.{IsRead}
 use Rattle.record_laws.specs.Leaving.{IsLeftIn}
 use Rattle.cloud_memory.specs.Memory.{Memory}
+use Rattle.cloud_memory.specs.Fitting.{FitsRecords}
 use Rattle.record_checks.specs.declared.ground.Ground.{Ground}
 use Rattle.record_checks.specs.declared.taking.Taking.{Taking}
 use Rattle.record_checks.specs.Judging.{Judges}
@@ -88,10 +89,11 @@ pub record HasEnded (journal : journals.State) (store : Store) (w : Where) : Typ
   pub bodies : List (List ℕ)
   pub ended : journals.IsEnded journal store (record w { bodies = bodies })
 
--- Where no place field was noted, no blob has moved the end.
+-- Where no place field was noted, no blob has moved the end; and what the memory has fits records.
 pub record IsTraced (g : Ground) (m : Memory) (t : Taking) : Type 0 where
   pub shares : t.shares_field ≡ None → m.shares_end ≡ region_start g.region
   pub recipes : t.recipes_field ≡ None → m.recipes_end ≡ region_start g.region
+  pub fit : FitsRecords m
 
 -- ---- by a list
 

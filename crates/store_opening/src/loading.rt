@@ -11,6 +11,7 @@ ghost use Rattle.half_journal.specs.declared.journal.Stage.{Stage};
 ghost use Rattle.half_journal.specs.Openings.{OnFault};
 ghost use Rattle.half_journal.specs.Outcomes.{stage_after};
 ghost use Rattle.half_journal.specs.States.{state_of, IsReading, IsEnded};
+ghost use Rattle.cloud_memory.specs.Fitting.{FitsRecords};
 ghost use Rattle.cloud_memory.specs.Rooms.{memory_of, HasRooms};
 ghost use Rattle.cloud_memory.specs.Steps.{begun};
 ghost use Rattle.record_checks.specs.Noting.{nothing_noted};
@@ -116,6 +117,7 @@ fn read_records<V: Shelf>(
     ensures ended { IsTrue (V.cloud_at shelf.old cloud.0).told → (w : Where)
         → IsReading (state_of journal.old) ((V.cloud_at shelf.old cloud.0).now Area.Journal) w → w.bodies ≡ []
         → OnOk result (HasEnded (state_of journal.new) ((V.cloud_at shelf.old cloud.0).now Area.Journal) w) }
+    ensures fit { OnOk result (FitsRecords (memory_of memory.new)) }
     ensures rooms { HasRooms ground.now.rooms memory.new }
     ensures stage { (state_of journal.new).stage ≡ stage_after Stage.AtEnd result }
     ensures limit { (state_of journal.new).limit ≡ (state_of journal.old).limit }
@@ -156,6 +158,7 @@ pub(crate) fn load<V: Shelf>(
     ensures ended { IsTrue (V.cloud_at shelf.old cloud.0).told → (w : Where)
         → IsReading (state_of journal.old) ((V.cloud_at shelf.old cloud.0).now Area.Journal) w → w.bodies ≡ []
         → OnOk result (HasEnded (state_of journal.new) ((V.cloud_at shelf.old cloud.0).now Area.Journal) w) }
+    ensures fit { OnOk result (FitsRecords (memory_of memory.new)) }
     ensures rooms { HasRooms header.now.rooms memory.new }
     ensures stage { (state_of journal.new).stage ≡ stage_after Stage.AtEnd result }
     ensures limit { (state_of journal.new).limit ≡ (state_of journal.old).limit }

@@ -12,6 +12,7 @@ ghost use Rattle.half_journal.specs.Openings.{OnFault};
 ghost use Rattle.half_journal.specs.Outcomes.{stage_after};
 ghost use Rattle.half_journal.specs.States.{state_of};
 ghost use Rattle.cloud_disk.specs.Disk.{ended_at};
+ghost use Rattle.cloud_memory.specs.Fitting.{FitsRecords};
 ghost use Rattle.cloud_memory.specs.Rooms.{memory_of, HasRooms};
 ghost use Rattle.store_opening.specs.Exact.{Opens};
 ghost use Rattle.store_opening.specs.Spared.{Spares, KeepsLists, IsReadWhole, IsFor, IsLoaded, MayBegin, IsOkOrFault};
@@ -66,6 +67,7 @@ fn open_all<V: Shelf>(
     ensures whole { IsTrue (V.cloud_at shelf.old cloud.0).told → (list : List Command)
         → StandsFor (reads (V.cloud_at shelf.old cloud.0).now) header.now list → MayHold header.now list
         → MayBegin ((V.cloud_at shelf.old cloud.0).now Area.Journal).read begin → IsOkOrFault result }
+    ensures fit { OnOk result (FitsRecords (memory_of memory.new)) }
     ensures rooms { HasRooms header.now.rooms memory.new }
     ensures stage { (state_of journal.new).stage ≡ stage_after Stage.AtEnd result }
     ensures limit { (state_of journal.new).limit ≡ (state_of journal.old).limit }
@@ -99,8 +101,9 @@ fn open_all<V: Shelf>(
 /// else.
 ///
 /// Whenever a crash comes, and after an Err too, each image of the cloud stands for one of the lists that the images
-/// stood for before. After Ok the journal is at its end and the logs end where the memory says, with nothing staged.
-/// After an Err the journal is shut and the logs are as they were: only `reopen` may be called. It takes no memory.
+/// stood for before. After Ok the journal is at its end and the logs end where the memory says, with nothing staged;
+/// each share that the memory has has from 1 to 8,208 bytes, and each recipe a byte. After an Err the journal is shut
+/// and the logs are as they were: only `reopen` may be called. It takes no memory.
 /// Where no device call fails, the bytes of the areas give the answer, and one alone (`laws::law_of_openings`). Places
 /// are those of the area Journal, from 0.
 ///
@@ -148,6 +151,7 @@ pub fn reopen<V: Shelf>(
     ensures recipes { OnOk result (disk.new.recipes ≡ ended_at (memory_of memory.new).recipes_end disk.old.recipes) }
     ensures none { OnOk result (HasStaged disk.new.shares [] × HasStaged disk.new.recipes []) }
     ensures logs { OnErr result ((disk.new.shares ≡ disk.old.shares) × (disk.new.recipes ≡ disk.old.recipes)) }
+    ensures fit { OnOk result (FitsRecords (memory_of memory.new)) }
     ensures rooms { HasRooms header.now.rooms memory.new }
     ensures stage { disk.new.journal.stage ≡ stage_after Stage.AtEnd result }
     ensures limit { disk.new.journal.limit ≡ disk.old.journal.limit }

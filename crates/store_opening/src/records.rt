@@ -1,6 +1,7 @@
 //! The records of a journal, taken into the memory one after another.
 
-ghost use Rattle.std.specs.Prelude.{◌≡◌, ◌+◌, ◌≤◌, ◌<◌, ◌^◌, [], length, take, drop, nat_lt, is_ok, if◌then◌else◌, IsTrue, OnOk};
+ghost use Rattle.std.specs.Prelude.{◌≡◌, ◌+◌, ◌≤◌, ◌<◌, ◌^◌, [], length, take, drop, nat_lt, is_ok, if◌then◌else◌};
+ghost use Rattle.std.specs.Prelude.{IsTrue, MatchResult, OnOk, Ok, Err};
 ghost use Rattle.cd_base.specs.Limits.{recipe_limit};
 ghost use Rattle.cd_edges.specs.declared.area.Area.{Area};
 ghost use Rattle.cd_edges.specs.Shelf.{IsCall, HasFailed, KeepsCounts, Stays};
@@ -12,13 +13,46 @@ ghost use Rattle.half_journal.specs.States.{state_of, IsReading};
 ghost use Rattle.journal_start.specs.Spelling.{records_of};
 ghost use Rattle.journal_halves.specs.Journals.{Where};
 ghost use Rattle.cloud_memory.specs.Rooms.{memory_of, HasRooms};
+ghost use Rattle.record_checks.specs.Judging.{Judges};
+ghost use Rattle.record_checks.specs.Noting.{IsNoted};
 ghost use Rattle.store_opening.specs.Steps.{BodyAs, OneAs, NextAs, AllAs, IsTraced, IsOfRecords, OnTrue, stage_of};
 
 use cd_base::CloudNo;
 use cd_edges::{Area, Failed, Shelf};
 use cloud_memory::CloudMemory;
 use half_journal::{Journal, JournalErr, OpenErr};
-use record_checks::{Ground, Taking, recipe_of, take};
+use record_checks::{Damage, Ground, Taking, recipe_of, take};
+
+// Takes the record with this body, which begins at a place of the journal, with these bytes where its recipe lies.
+fn take_bytes(
+    memory: &mut CloudMemory,
+    taking: &mut Taking,
+    ground: &Ground,
+    inside: bool,
+    body: &[u8],
+    at: u64,
+    read: &[u8],
+) -> Result<(), Damage>
+    requires rooms { HasRooms ground.now.rooms memory.old }
+    requires body { IsBody body.now }
+    requires place { 5 ≤ at }
+    requires end { at + length body.now < 2 ^ 64 }
+    requires read { length read.now < 2 ^ 32 }
+    ensures judged { MatchResult result
+        (λ _. Judges ground.now inside read.now taking.old.spent (memory_of memory.old) at body.now
+        (Ok (memory_of memory.new)))
+        (λ damage. Judges ground.now inside read.now taking.old.spent (memory_of memory.old) at body.now
+        (Err damage)) }
+    ensures noted { OnOk result (IsNoted at body.now (memory_of memory.old) taking.old taking.new) }
+    ensures traced { IsTraced ground.now (memory_of memory.old) taking.old
+        → OnOk result (IsTraced ground.now (memory_of memory.new) taking.new) }
+    ensures rooms { HasRooms ground.now.rooms memory.new }
+{
+    match take(memory, taking, ground, inside, body, at, read) {
+        Ok(()) => Ok(()),
+        Err(damage) => Err(damage),
+    }
+}
 
 // Takes the record that was read last, with these bytes where its recipe lies. After an Err the journal is shut.
 fn take_body(
@@ -43,7 +77,7 @@ fn take_body(
     ensures journal { state_of journal.new ≡ record
         (state_of journal.old) { stage = (if is_ok result then (state_of journal.old).stage else Stage.Shut) } }
 {
-    match take(
+    match take_bytes(
         memory,
         taking,
         ground,

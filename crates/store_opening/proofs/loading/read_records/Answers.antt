@@ -25,6 +25,10 @@ returns-in-Ok-clause-exact g c told w reading none =
     let closes = subst (λ (s : Start). Closes ground m u (number_behind s records) c.finish.result) c.take_all.ensures.start c.finish.ensures.closes in
     of_all c.finish.result _ (all_closed ground recipes store w before m0 t0 users c.requires.begun c.new-taking.ensures mid m u records (number_behind before.start records) c.finish.result all refl closes)
 
+pub returns-in-Ok-clause-fit : goal.returns-in-Ok-clause-fit
+returns-in-Ok-clause-fit g c =
+    always c.finish.result _ (c.in-Ok.ensures.traced (traced_begun c.args.ground.now c.args.ground.now.rooms.users (memory_of c.args.memory.now) c.new-taking.result c.requires.begun c.new-taking.ensures)).fit
+
 pub returns-in-Ok-clause-ended : goal.returns-in-Ok-clause-ended
 returns-in-Ok-clause-ended g c told w reading none =
     let number = c.args.cloud.0 in let c0 = g.V.Shelf.cloud_at c.args.shelf.now number in let store = c0.now Journal in let recipes = (c0.now Recipes).read in

@@ -1,0 +1,39 @@
+-- What a record leaves fits records, by what its bytes say.
+use Rattle.std.proofs.Common.{◌≡◌, ◌≤◌, Bool, true, false, List, [], ◌∷◌, Option, Some, None, ap, subst}
+use Rattle.std.specs.Prelude.{All}
+use Rattle.std.proofs.lemmas.List.Elements.{All-nil, All-cons, All-head, All-tail}
+use Rattle.cd_base.specs.declared.ids.UserId.{UserId}
+use Rattle.message_fields.specs.Shares.{share_limit}
+use Rattle.record_body.specs.declared.body.PutItem.{PutItem}
+use Rattle.record_body.specs.Spelling.{FitsPlaced, FitsItem}
+use Rattle.share_index.specs.declared.key.Place.{Place}
+use Rattle.spent_table.specs.declared.Spent.{Spent}
+use Rattle.cloud_memory.specs.Fitting.{FitsPart, FitsRecords}
+use Rattle.cloud_memory.specs.Memory.{Memory}
+use Rattle.cloud_memory.specs.Steps.{with_items}
+use Rattle.cloud_memory.proofs.Fitting.{filled_fits, spends_fits}
+use Rattle.record_checks.specs.Checks.{spends_behind}
+
+abbrev place_or : Place → Option Place → Place
+place_or other None = other
+place_or other (Some place) = place
+
+no_place : (place : Place) → ◌≡◌ {A = Option Place} None (Some place) → ⊥
+no_place place e = cc
+
+placed_fits : (o : Option Place) → FitsPlaced o → (place : Place) → o ≡ Some place → (1 ≤ place.len) × (place.len ≤ share_limit)
+placed_fits None fits place e = absurd (no_place place e)
+placed_fits (Some new) fits place e = subst (λ (p : Place). (1 ≤ p.len) × (p.len ≤ share_limit)) (ap (place_or new) e) fits.1
+
+parts_fit : (items : List PutItem) → All FitsItem items → All FitsPart items
+parts_fit [] fits = All-nil FitsPart
+parts_fit (item ∷ items) fits =
+    All-cons FitsPart item items (placed_fits item.place (All-head FitsItem item items fits).1) (parts_fit items (All-tail FitsItem item items fits))
+
+-- what is spent behind the checkpoint changes neither shares nor recipes
+pub behind_fits : (inside : Bool) (user : UserId) (more : Spent) (m : Memory) → FitsRecords m → FitsRecords (spends_behind inside user more m)
+behind_fits true user more m fit = fit
+behind_fits false user more m fit = spends_fits user more m fit
+
+pub items_fit : (user : UserId) (items : List PutItem) (m : Memory) → All FitsItem items → FitsRecords m → FitsRecords (with_items user m items)
+items_fit user items m fits fit = filled_fits user items m (parts_fit items fits) fit
