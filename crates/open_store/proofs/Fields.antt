@@ -1,0 +1,113 @@
+-- The fields of a command that a sound list has are in their ranges.
+use Rattle.std.proofs.Common.{◌≡◌, ℕ, ◌^◌, ◌<◌, ◌≤◌, List, [], ◌∷◌, ◌++◌, length, map, replicate, Some, refl, sym, ap, ◌∙◌, subst, arith}
+use Rattle.std.specs.Prelude.{All}
+use Rattle.std.proofs.lemmas.List.Elements.{All-nil, All-cons}
+use Rattle.cd_base.specs.declared.ids.Fp.{Fp}
+use Rattle.cd_base.specs.declared.ids.Tag.{Tag}
+use Rattle.cd_base.specs.declared.ids.UserId.{UserId}
+use Rattle.cd_base.specs.declared.ids.Version.{Version}
+use Rattle.cd_base.specs.declared.shape.Shape.{Shape}
+use Rattle.container_log.specs.Places.{container_len, place_of}
+use Rattle.record_body.proofs.Spelled.{length-commit}
+use Rattle.record_bodies.specs.Spelling as bodies
+use Rattle.record_bodies.specs.Spelling.{FitsBody}
+use Rattle.sha2.proofs.Facts256.{length-sha256}
+use Rattle.user_dedup.specs.Cloud.{fingerprint}
+use Rattle.user_dedup.specs.declared.command.Command.{Command as RequestCommand}
+use Rattle.user_dedup.specs.declared.command.Command.TheVariants as of_requests
+use Rattle.user_dedup.specs.Dedup.{answer_by_view as answer_request}
+use Rattle.user_dedup.specs.Pages.{entry_at}
+use Rattle.user_dedup.specs.Requests.{asker}
+use Rattle.command_list.specs.declared.command.Command.{Command}
+use Rattle.command_list.specs.declared.command.Command.TheVariants as asked
+use Rattle.command_list.specs.Asking as asking
+use Rattle.command_list.specs.Asking.{Ask, answer_over, of_request, added_by, FitsAsk, IsSound}
+use Rattle.command_list.specs.Commands.{user_of, user_view, held_string}
+use Rattle.command_list.proofs.CompactSound.{all_fit, FitsAll}
+use Rattle.command_list.proofs.Sound.{sound_before, added_from, deletes_from}
+use Rattle.user_dedup.proofs.Owned.{contains_here}
+use Rattle.std.proofs.lemmas.List.Elements.{Contains-append_right}
+use Rattle.cloud_memory.specs.declared.rooms.New.{New}
+use Rattle.cloud_memory.specs.News.{AreOf}
+use Rattle.open_store.proofs.Putting.{HasFp, place_near}
+
+-- ---- what the last command of a sound list has
+
+last_fits : (shape : Shape) (cloud : ℕ) (list : List Command) (command : Command) → IsSound shape cloud (list ++ command ∷ []) → FitsAll shape command
+last_fits shape cloud list command sound =
+    all_fit shape cloud (list ++ command ∷ []) sound command (Contains-append_right list (command ∷ []) command (contains_here command []))
+
+pub user_fits : (shape : Shape) (cloud : ℕ) (list : List Command) (command : Command) → IsSound shape cloud (list ++ command ∷ []) → (user_of command).0 < 2 ^ 32
+user_fits shape cloud list command sound = (last_fits shape cloud list command sound).0
+
+pub commit_fits : (shape : Shape) (cloud : ℕ) (list : List Command) (user : UserId) (tag : Tag) (version : Version) (recipe : List ℕ) (fp : Fp) (len end : ℕ)
+    → IsSound shape cloud (list ++ asked.Commit user tag version recipe ∷ []) → fingerprint recipe ≡ fp → 1 ≤ len → len ≤ container_len → end ≤ 68719476736
+    → FitsBody (bodies.Commit (record { user = user; tag = tag; version = version; at = place_of end len; len = len; fp = fp }))
+commit_fits shape cloud list user tag version recipe fp len end sound fp_is some few near =
+    let f = last_fits shape cloud list (asked.Commit user tag version recipe) sound in
+    let key = f.1.0.0.1 in
+    let after = place_near end len in
+    record {
+      user = f.0;
+      tag = key.0;
+      version = key.1;
+      from = omega (arith, after, few, near);
+      some = some;
+      few = omega (arith, few);
+      fp = ap (λ (x : Fp). length x.0) (sym fp_is) ∙ length-sha256 recipe;
+    }
+
+abbrev key_or : UserId × Tag × Version → Command → UserId × Tag × Version
+key_or other (asked.Put user shares) = other
+key_or other (asked.Commit user tag version recipe) = other
+key_or other (asked.Delete user tag version) = (user, tag, version)
+
+pub delete_fits : (shape : Shape) (cloud : ℕ) (list : List Command) (user : UserId) (tag : Tag) (version : Version) → IsSound shape cloud (list ++ asked.Delete user tag version ∷ [])
+    → FitsBody (bodies.Delete (record { user = user; tag = tag; version = version }))
+delete_fits shape cloud list user tag version sound =
+    let a = sound_before shape cloud list (asked.Delete user tag version) sound in by_ask a.ask a.fits a.adds
+  where
+    never : (r : RequestCommand) → asked.Delete user tag version ≡ of_request r → ⊥
+    never (of_requests.Put u shares) e = let no : asked.Delete user tag version ≡ asked.Put u shares = e in cc
+    never (of_requests.Commit u t v recipe) e = let no : asked.Delete user tag version ≡ asked.Commit u t v recipe = e in cc
+
+    by_ask : (ask : Ask) → FitsAsk ask → (answer_over shape cloud list ask).adds ≡ Some (asked.Delete user tag version)
+        → FitsBody (bodies.Delete (record { user = user; tag = tag; version = version }))
+    by_ask (asking.Of request) f e = let a = added_from (answer_request shape cloud (user_view shape list (asker request)) (held_string list) request).adds (asked.Delete user tag version) e in absurd (never a.0 a.2)
+    by_ask (asking.Delete u t v) f e =
+        let d = deletes_from (entry_at (user_view shape list u).files (t, v)) (asked.Delete u t v) (asked.Delete user tag version) e in
+        let same : (user, tag, version) ≡ (u, t, v) = ap (key_or (user, tag, version)) d.1 in
+        subst (λ (k : UserId × Tag × Version). FitsBody (bodies.Delete (record { user = k.0; tag = k.1; version = k.2 }))) (sym same)
+        (record { user = f.0; tag = f.1; version = f.2 })
+
+-- ---- the fingerprints of a Put's shares
+
+abbrev first_or : Fp → List Fp → Fp
+first_or other [] = other
+first_or other (fp ∷ fps) = fp
+
+abbrev rest_of : List Fp → List Fp
+rest_of [] = []
+rest_of (fp ∷ fps) = fps
+
+fps_long : (news : List New) (strings : List (List ℕ)) → map (λ (n : New). n.fp) news ≡ map fingerprint strings → All HasFp news
+fps_long [] strings e = All-nil HasFp
+fps_long (n ∷ news) [] e = absurd (let no : n.fp ∷ map (λ (k : New). k.fp) news ≡ [] = e in cc)
+fps_long (n ∷ news) (s ∷ strings) e =
+    All-cons HasFp n news (ap (λ (l : List Fp). length (first_or n.fp l).0) e ∙ length-sha256 s) (fps_long news strings (ap rest_of e))
+
+pub are_long : (news : List New) (strings : List (List ℕ)) → AreOf news strings → All HasFp news
+are_long news strings of = fps_long news strings of.fps
+
+-- ---- a record as long as a Commit's
+
+pub sample : bodies.Body
+sample = bodies.Commit (record { user = record { 0 = 0 }; tag = record { 0 = replicate 32 0 }; version = record { 0 = 0 }; at = 0; len = 1; fp = record { 0 = replicate 32 0 } })
+
+pub sample_fits : FitsBody sample
+unfolding sample
+sample_fits = record { user = omega arith; tag = refl; version = omega arith; from = omega arith; some = omega arith; few = omega arith; fp = refl }
+
+pub sample_long : length (bodies.body_bytes sample) ≡ 89
+unfolding sample
+sample_long = length-commit _ sample_fits

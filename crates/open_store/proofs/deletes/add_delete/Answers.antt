@@ -1,0 +1,99 @@
+use Rattle.std.proofs.Common.{◌≡◌, ℕ, [], ◌∷◌, ◌++◌, Err, sym, ap, subst, arith}
+use Rattle.journal_start.specs.declared.start.Header.{Header}
+use Rattle.record_bodies.specs.Spelling as bodies
+use Rattle.record_bodies.specs.Spelling.{Body, body_bytes}
+use Rattle.command_list.specs.declared.command.Command.TheVariants as asked
+use Rattle.cloud_areas.specs.Adding.{with_record}
+use Rattle.cloud_areas.specs.Standing.{Chain}
+use Rattle.cloud_disk.specs.Disk.{IsOn, KeepsOrAdds}
+use Rattle.checkpoint_records.specs.declared.whole.Unsettled.{Unsettled}
+use Rattle.checkpoint_records.specs.Known.{IfLong}
+use Rattle.open_store.specs.declared.store.OpenStore.{OpenStore}
+use Rattle.open_store.specs.Store.{Serves, Fits, chain_with_room}
+use Rattle.open_store.proofs.Rooming.{chain_next}
+use Rattle.open_store.proofs.Next.{images_both}
+use Rattle.record_bodies.proofs.Spelled.{length-delete}
+use Rattle.open_store.proofs.Fields.{sample, sample_fits, sample_long, delete_fits}
+use Rattle.open_store.proofs.Moving.{delete_moved}
+use Rattle.open_store.proofs.deletes.add_delete.Goals as goal
+
+pub returns-in-Err-Long-clause-never_long : goal.returns-in-Err-Long-clause-never_long
+returns-in-Err-Long-clause-never_long g c list chain entry p =
+    let store = c.args.store.now in let header = store.header in let number = header.cloud.0 in
+    let user = c.args.user in let tag = c.args.tag in let version = c.args.version in let command = asked.Delete user tag version in
+    let c0 = g.V.Shelf.cloud_at c.args.shelf.now number in
+    let s = p.serves in let k = s.known in
+    subst (λ (why : Unsettled). IfLong {A = Unit {0}} (Err why) ⊥) c.in-Err-Long.field-0-is (c.in-Err-Long.ensures.never_long list chain sample s sample_fits (let long = sample_long in omega (arith, long)))
+
+pub returns-in-Ok-add_roomy-clause-any_moment : goal.returns-in-Ok-add_roomy-clause-any_moment
+returns-in-Ok-add_roomy-clause-any_moment g c list chain entry p =
+    let store = c.args.store.now in let header = store.header in let number = header.cloud.0 in
+    let user = c.args.user in let tag = c.args.tag in let version = c.args.version in let command = asked.Delete user tag version in
+    let c0 = g.V.Shelf.cloud_at c.args.shelf.now number in
+    let s = p.serves in let k = s.known in
+    let mid = c.have_room.new.store in let keeps = c.in-Ok.ensures.same in
+    let at = g.V.Shelf.cloud_at c.have_room.new.shelf in let later = g.V.Shelf.cloud_at c.add_roomy.new.shelf in
+    let header_is : mid.header ≡ header = ap (λ (x : OpenStore). x.header) keeps.same in
+    let d = chain_with_room store list chain 45 in let c1 = at mid.header.cloud.0 in
+    let serves = subst (λ (h : Header). Serves list d mid (at h.cloud.0)) (sym header_is) (c.in-Ok.ensures.serves list chain s) in
+    let moved = delete_moved list chain d store mid c0 c1 keeps serves user tag version entry c.args.recipe.now p in
+    images_both header list command c0 (at number) (later number) (c.have_room.ensures.any_moment list chain s)
+    (subst (λ (h : Header). KeepsOrAdds h list command (at h.cloud.0) (later h.cloud.0)) header_is (c.add_roomy.ensures.any_moment list d entry moved))
+
+pub returns-in-Err-clause-any_moment : goal.returns-in-Err-clause-any_moment
+returns-in-Err-clause-any_moment g c list chain entry p =
+    let store = c.args.store.now in let header = store.header in let number = header.cloud.0 in
+    let user = c.args.user in let tag = c.args.tag in let version = c.args.version in let command = asked.Delete user tag version in
+    let c0 = g.V.Shelf.cloud_at c.args.shelf.now number in
+    let s = p.serves in let k = s.known in
+    let mid = c.have_room.new.store in let keeps = c.in-Ok.ensures.same in
+    let at = g.V.Shelf.cloud_at c.have_room.new.shelf in let later = g.V.Shelf.cloud_at c.add_roomy.new.shelf in
+    let header_is : mid.header ≡ header = ap (λ (x : OpenStore). x.header) keeps.same in
+    let d = chain_with_room store list chain 45 in let c1 = at mid.header.cloud.0 in
+    let serves = subst (λ (h : Header). Serves list d mid (at h.cloud.0)) (sym header_is) (c.in-Ok.ensures.serves list chain s) in
+    let moved = delete_moved list chain d store mid c0 c1 keeps serves user tag version entry c.args.recipe.now p in
+    images_both header list command c0 (at number) (later number) (c.have_room.ensures.any_moment list chain s)
+    (subst (λ (h : Header). KeepsOrAdds h list command (at h.cloud.0) (later h.cloud.0)) header_is (c.add_roomy.ensures.any_moment list d entry moved))
+
+pub returns-in-Ok-add_roomy-clause-added : goal.returns-in-Ok-add_roomy-clause-added
+returns-in-Ok-add_roomy-clause-added g c list chain entry p =
+    let store = c.args.store.now in let header = store.header in let number = header.cloud.0 in
+    let user = c.args.user in let tag = c.args.tag in let version = c.args.version in let command = asked.Delete user tag version in
+    let c0 = g.V.Shelf.cloud_at c.args.shelf.now number in
+    let s = p.serves in let k = s.known in
+    let mid = c.have_room.new.store in let keeps = c.in-Ok.ensures.same in
+    let at = g.V.Shelf.cloud_at c.have_room.new.shelf in let later = g.V.Shelf.cloud_at c.add_roomy.new.shelf in
+    let header_is : mid.header ≡ header = ap (λ (x : OpenStore). x.header) keeps.same in
+    let d = chain_with_room store list chain 45 in let c1 = at mid.header.cloud.0 in
+    let serves = subst (λ (h : Header). Serves list d mid (at h.cloud.0)) (sym header_is) (c.in-Ok.ensures.serves list chain s) in
+    let moved = delete_moved list chain d store mid c0 c1 keeps serves user tag version entry c.args.recipe.now p in
+    let len_is = sym (length-delete (record { user = user; tag = tag; version = version }) (delete_fits header.shape number list user tag version p.sound)) in
+    let got = c.in-Ok-add_roomy.ensures.added list d entry moved in
+    let here = subst (λ (h : Header). Serves (list ++ command ∷ []) (with_record d (bodies.Delete (record { user = user; tag = tag; version = version })) []) c.add_roomy.new.store (later h.cloud.0)) header_is got in
+    let same = here in
+    subst (λ (n : ℕ). Serves (list ++ command ∷ []) (with_record (chain_with_room store list chain n) (bodies.Delete (record { user = user; tag = tag; version = version })) []) c.add_roomy.new.store (later number)) len_is same
+
+pub returns-in-Ok-add_roomy-clause-checkpoint_first : goal.returns-in-Ok-add_roomy-clause-checkpoint_first
+returns-in-Ok-add_roomy-clause-checkpoint_first g c list chain entry p not =
+    let store = c.args.store.now in let header = store.header in let number = header.cloud.0 in
+    let user = c.args.user in let tag = c.args.tag in let version = c.args.version in let command = asked.Delete user tag version in
+    let c0 = g.V.Shelf.cloud_at c.args.shelf.now number in
+    let s = p.serves in let k = s.known in
+    let mid = c.have_room.new.store in let keeps = c.in-Ok.ensures.same in
+    let at = g.V.Shelf.cloud_at c.have_room.new.shelf in let later = g.V.Shelf.cloud_at c.add_roomy.new.shelf in
+    let header_is : mid.header ≡ header = ap (λ (x : OpenStore). x.header) keeps.same in
+    let d = chain_with_room store list chain 45 in let c1 = at mid.header.cloud.0 in
+    let serves = subst (λ (h : Header). Serves list d mid (at h.cloud.0)) (sym header_is) (c.in-Ok.ensures.serves list chain s) in
+    let moved = delete_moved list chain d store mid c0 c1 keeps serves user tag version entry c.args.recipe.now p in
+    let len_is = sym (length-delete (record { user = user; tag = tag; version = version }) (delete_fits header.shape number list user tag version p.sound)) in
+    let fresh = chain_next store list chain 45 (λ fits. not (subst (λ (n : ℕ). Fits store n) len_is fits)) in
+    record {
+      at = at number;
+      disk = mid.disk;
+      on =
+          subst (λ (e : Chain). IsOn header list e mid.disk (at number)) fresh
+          (subst (λ (h : Header). IsOn h list d mid.disk (at number)) header_is (c.in-Ok.ensures.serves list chain s).known.on);
+      until = c.have_room.ensures.only_journal list chain s;
+      since =
+          subst (λ (h : Header). KeepsOrAdds h list command (at h.cloud.0) (later h.cloud.0)) header_is (c.add_roomy.ensures.any_moment list d entry moved);
+    }

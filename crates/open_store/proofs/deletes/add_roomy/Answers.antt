@@ -1,0 +1,60 @@
+use Rattle.std.proofs.Common.{[], ◌∷◌, ◌++◌, sym, subst}
+use Rattle.file_index.specs.Files.{key_of}
+use Rattle.record_bodies.specs.Spelling as bodies
+use Rattle.user_dedup.specs.Requests.{fps_of}
+use Rattle.command_list.specs.declared.command.Command.TheVariants as asked
+use Rattle.cloud_areas.specs.Adding.{with_record}
+use Rattle.cloud_memory.specs.Fitting.{FitsRecords}
+use Rattle.cloud_memory.specs.Rooms.{memory_of}
+use Rattle.cloud_memory.proofs.Fitting as fitting
+use Rattle.open_store.specs.declared.store.OpenStore.{OpenStore}
+use Rattle.open_store.specs.Store.{Serves}
+use Rattle.open_store.proofs.Fields.{delete_fits}
+use Rattle.open_store.proofs.Moving.{all_ok}
+use Rattle.open_store.proofs.Next.{prepared_next, served_next}
+use Rattle.open_store.proofs.Stepping.{delete_next}
+use Rattle.open_store.proofs.deletes.add_roomy.Goals as goal
+
+pub add_record-requires-clause-settled : goal.add_record-requires-clause-settled
+add_record-requires-clause-settled g c =
+    let store = c.args.store.now in let m = memory_of store.memory in let settled = c.requires.settled in
+    let names = fps_of store.header.shape c.args.recipe.now in
+    record {
+      header = settled.header;
+      format = settled.format;
+      rooms = c.forget.ensures.rooms store.header.rooms settled.rooms;
+      fit = λ at_end. subst FitsRecords (sym c.forget.ensures.taken) (fitting.delete_fits names c.args.user (key_of c.args.user.0 c.args.tag.0 c.args.version.0) m (settled.fit c.requires.open));
+      disk = settled.disk;
+      region = settled.region;
+    }
+
+pub returns-clause-any_moment : goal.returns-clause-any_moment
+returns-clause-any_moment g c list chain entry p =
+    let store = c.args.store.now in let header = store.header in let number = header.cloud.0 in let m = memory_of store.memory in
+    let user = c.args.user in let tag = c.args.tag in let version = c.args.version in let new = c.forget.new.memory in
+    let c0 = g.V.Shelf.cloud_at c.args.shelf.now number in
+    let s = p.serves in let k = s.known in
+    let command = asked.Delete user tag version in let body = bodies.Delete (record { user = user; tag = tag; version = version }) in
+    let fits = delete_fits header.shape number list user tag version p.sound in
+    let names = fps_of header.shape c.args.recipe.now in
+    let next = delete_next header list chain store.commands store.region store.memory new store.disk c0 s user tag version names p.sound fits (c.forget.ensures.remembers number list entry k.on.read.sound k.remembers p.there p.recipe_is) c.forget.ensures.taken in
+    let ready = prepared_next header list chain store.commands store.region store.memory new store.disk store.disk c0 c0 s command body [] next c.law_of_laying.ensures.room c.write_delete.new.self (record { fits = fits; spelled = c.write_delete.ensures }) p.shares p.recipes in
+    c.add_record.ensures.any_moment list chain command body [] ready
+
+pub returns-clause-added : goal.returns-clause-added
+returns-clause-added g c list chain entry p =
+    let store = c.args.store.now in let header = store.header in let number = header.cloud.0 in let m = memory_of store.memory in
+    let user = c.args.user in let tag = c.args.tag in let version = c.args.version in let new = c.forget.new.memory in
+    let c0 = g.V.Shelf.cloud_at c.args.shelf.now number in
+    let s = p.serves in let k = s.known in
+    let command = asked.Delete user tag version in let body = bodies.Delete (record { user = user; tag = tag; version = version }) in
+    let fits = delete_fits header.shape number list user tag version p.sound in
+    let names = fps_of header.shape c.args.recipe.now in
+    let next = delete_next header list chain store.commands store.region store.memory new store.disk c0 s user tag version names p.sound fits (c.forget.ensures.remembers number list entry k.on.read.sound k.remembers p.there p.recipe_is) c.forget.ensures.taken in
+    let ready = prepared_next header list chain store.commands store.region store.memory new store.disk store.disk c0 c0 s command body [] next c.law_of_laying.ensures.room c.write_delete.new.self (record { fits = fits; spelled = c.write_delete.ensures }) p.shares p.recipes in
+    let c2 = g.V.Shelf.cloud_at c.add_record.new.shelf number in
+    all_ok c.add_record.result (c.add_record.ensures.added list chain command body [] ready) c.add_record.ensures.ends c.add_record.ensures.commands
+    (λ on ends count.
+    subst (λ (x : OpenStore). Serves (list ++ command ∷ []) (with_record chain body []) x c2) (sym c.add_record.ensures.same)
+    (served_next header list chain store.commands store.region store.memory new store.disk c.add_record.new.store.disk c0 c2 s command body [] next c.requires.settled.header.rooms c.requires.settled.format c.requires.settled.rooms.users
+    c.write_delete.new.self c.add_record.new.store.commands count p.shares p.recipes on.0 on.1 ends))

@@ -1,0 +1,71 @@
+use Rattle.std.proofs.Common.{◌≡◌, ℕ, sym, ap, ◌∙◌, subst, arith}
+use Rattle.container_log.specs.States as logs
+use Rattle.half_journal.specs.declared.journal.Stage.{Stage}
+use Rattle.half_journal.specs.declared.journal.Stage.TheVariants.{AtEnd, Shut}
+use Rattle.half_journal.specs.States as journals
+use Rattle.journal_start.specs.declared.start.Start.{Start}
+use Rattle.journal_start.specs.Spelling.{region_of}
+use Rattle.cloud_areas.specs.Standing.{region_in}
+use Rattle.cloud_disk.proofs.Standing.{start_on}
+use Rattle.cloud_memory.specs.Memory.{HasEnds}
+use Rattle.cloud_memory.specs.Rooms.{memory_of}
+use Rattle.store_opening.proofs.Current.{region_small}
+use Rattle.open_store.proofs.opening.open.Goals as goal
+
+pub returns-in-Ok-clause-serves : goal.returns-in-Ok-clause-serves
+returns-in-Ok-clause-serves g c told list stands may =
+    let store = c.args.store.now in let header = store.header in let number = header.cloud.0 in
+    let c1 = g.V.Shelf.cloud_at c.reopen.new.shelf number in let disk = c.reopen.new.disk in
+    let l = c.in-Ok.ensures.loaded told c.requires.settled.disk list stands may in
+    let loaded = l.1 in let chain = loaded.c in
+    let small = region_small chain.half chain.start.header.format chain.start.checkpoint loaded.on.read.is_chain.there.current.begun.is_start.behind in
+    let same : region_of (journals.state_of c.journal.result.now).start.checkpoint ≡ region_in chain =
+    ap (λ (j : journals.State). region_of j.start.checkpoint) c.journal.ensures ∙ ap (λ (s : Start). region_of s.checkpoint) (start_on header list chain disk c1 loaded.on) in
+    let region = c.region_of-store.ensures.value (omega (arith, small, same)) ∙ same in
+    record {
+      c = chain;
+      serves = record {
+        known = record {
+          on = loaded.on;
+          remembers = loaded.remembers;
+          placed = loaded.placed;
+          stand = loaded.stand;
+          within = may.within;
+          number = sym l.0;
+          region_is = sym region;
+        };
+        ends = subst (λ (r : ℕ). HasEnds r list chain.records (memory_of c.reopen.new.memory)) (sym region) loaded.ends;
+        shares_end = ap (λ (s : logs.State). s.end) c.in-Ok.ensures.shares;
+        recipes_end = ap (λ (s : logs.State). s.end) c.in-Ok.ensures.recipes;
+      };
+    }
+
+pub returns-in-Ok-clause-settled : goal.returns-in-Ok-clause-settled
+returns-in-Ok-clause-settled g c =
+    let settled = c.requires.settled in record {
+      header = settled.header;
+      format = settled.format;
+      rooms = c.reopen.ensures.rooms;
+      fit = λ at_end. c.in-Ok.ensures.fit;
+      disk = record {
+        limit = c.reopen.ensures.limit ∙ settled.disk.limit;
+        shares = ap (λ (s : logs.State). s.area) c.in-Ok.ensures.shares ∙ settled.disk.shares;
+        recipes = ap (λ (s : logs.State). s.area) c.in-Ok.ensures.recipes ∙ settled.disk.recipes;
+      };
+      region = c.region_of-store.ensures.small;
+    }
+
+pub returns-in-Err-clause-settled : goal.returns-in-Err-clause-settled
+returns-in-Err-clause-settled g c =
+    let settled = c.requires.settled in record {
+      header = settled.header;
+      format = settled.format;
+      rooms = c.reopen.ensures.rooms;
+      fit = λ at_end. absurd (let no : ◌≡◌ {A = Stage} Shut AtEnd = sym c.in-Err.ensures.stage ∙ at_end in cc);
+      disk = record {
+        limit = c.reopen.ensures.limit ∙ settled.disk.limit;
+        shares = ap (λ (s : logs.State). s.area) c.in-Err.ensures.logs.0 ∙ settled.disk.shares;
+        recipes = ap (λ (s : logs.State). s.area) c.in-Err.ensures.logs.1 ∙ settled.disk.recipes;
+      };
+      region = settled.region;
+    }

@@ -1,0 +1,167 @@
+use Rattle.std.proofs.Common.{◌≡◌, ℕ, [], ◌∷◌, ◌++◌, inl, Err, sym, ap, ◌∙◌, subst, arith}
+use Rattle.cd_edges.proofs.Moments.{started}
+use Rattle.journal_start.specs.declared.start.Header.{Header}
+use Rattle.command_list.specs.declared.command.Command.TheVariants as asked
+use Rattle.cloud_areas.specs.Adding.{with_record}
+use Rattle.cloud_areas.specs.Standing.{Chain}
+use Rattle.cloud_disk.specs.Disk.{IsOn, KeepsOrAdds, StandsForEither}
+use Rattle.cloud_disk.proofs.Standing.{images_on}
+use Rattle.cloud_memory.specs.Rooms.{memory_of}
+use Rattle.checkpoint_records.specs.declared.whole.Unsettled.{Unsettled}
+use Rattle.checkpoint_records.specs.Known.{IfLong}
+use Rattle.open_store.specs.declared.store.OpenStore.{OpenStore}
+use Rattle.open_store.specs.Store.{Serves, Fits, chain_with_room}
+use Rattle.open_store.proofs.Rooming.{chain_next}
+use Rattle.open_store.proofs.Next.{images_both, images_kept}
+use Rattle.cloud_memory.proofs.FullRooms.{full_put_is}
+use Rattle.open_store.specs.Adding.{put_record}
+use Rattle.open_store.proofs.Fields.{user_fits, are_long}
+use Rattle.open_store.proofs.Moving.{put_moved}
+use Rattle.open_store.proofs.Preparing.{ends_near}
+use Rattle.open_store.proofs.Putting.{put_fits}
+use Rattle.open_store.proofs.puts.add_put.Goals as goal
+
+pub returns-in-Some-clause-any_moment : goal.returns-in-Some-clause-any_moment
+returns-in-Some-clause-any_moment g c list chain strings p =
+    let store = c.args.store.now in let header = store.header in let number = header.cloud.0 in
+    let user = c.args.user in let news = c.args.news.now in let command = asked.Put user strings in
+    let c0 = g.V.Shelf.cloud_at c.args.shelf.now number in
+    let s = p.serves in let k = s.known in
+    started c0 (StandsForEither header list command) (λ image left. inl (images_on header list chain store.disk c0 k.on image left))
+
+pub returns-in-Some-clause-full_list : goal.returns-in-Some-clause-full_list
+returns-in-Some-clause-full_list g c list chain strings p =
+    let store = c.args.store.now in let header = store.header in let number = header.cloud.0 in
+    let user = c.args.user in let news = c.args.news.now in let command = asked.Put user strings in
+    let c0 = g.V.Shelf.cloud_at c.args.shelf.now number in
+    let s = p.serves in let k = s.known in
+    let is = full_put_is header.shape number header.rooms list user (memory_of store.memory) k.on.read.sound k.remembers k.within strings news p.are_of c.requires.new in
+    sym is ∙ sym c.in-Some.ensures
+
+pub returns-in-Err-Long-clause-full_list : goal.returns-in-Err-Long-clause-full_list
+returns-in-Err-Long-clause-full_list g c list chain strings p =
+    let store = c.args.store.now in let header = store.header in let number = header.cloud.0 in
+    let user = c.args.user in let news = c.args.news.now in let command = asked.Put user strings in
+    let c0 = g.V.Shelf.cloud_at c.args.shelf.now number in
+    let s = p.serves in let k = s.known in
+    let is = full_put_is header.shape number header.rooms list user (memory_of store.memory) k.on.read.sound k.remembers k.within strings news p.are_of c.requires.new in
+    sym is ∙ sym c.in-None.ensures
+
+pub returns-in-Err-Failed-clause-full_list : goal.returns-in-Err-Failed-clause-full_list
+returns-in-Err-Failed-clause-full_list g c list chain strings p =
+    let store = c.args.store.now in let header = store.header in let number = header.cloud.0 in
+    let user = c.args.user in let news = c.args.news.now in let command = asked.Put user strings in
+    let c0 = g.V.Shelf.cloud_at c.args.shelf.now number in
+    let s = p.serves in let k = s.known in
+    let is = full_put_is header.shape number header.rooms list user (memory_of store.memory) k.on.read.sound k.remembers k.within strings news p.are_of c.requires.new in
+    sym is ∙ sym c.in-None.ensures
+
+pub returns-in-Ok-add_roomy-clause-full_list : goal.returns-in-Ok-add_roomy-clause-full_list
+returns-in-Ok-add_roomy-clause-full_list g c list chain strings p =
+    let store = c.args.store.now in let header = store.header in let number = header.cloud.0 in
+    let user = c.args.user in let news = c.args.news.now in let command = asked.Put user strings in
+    let c0 = g.V.Shelf.cloud_at c.args.shelf.now number in
+    let s = p.serves in let k = s.known in
+    let is = full_put_is header.shape number header.rooms list user (memory_of store.memory) k.on.read.sound k.remembers k.within strings news p.are_of c.requires.new in
+    sym is ∙ sym c.in-None.ensures
+
+pub returns-in-Err-clause-full_list : goal.returns-in-Err-clause-full_list
+returns-in-Err-clause-full_list g c list chain strings p =
+    let store = c.args.store.now in let header = store.header in let number = header.cloud.0 in
+    let user = c.args.user in let news = c.args.news.now in let command = asked.Put user strings in
+    let c0 = g.V.Shelf.cloud_at c.args.shelf.now number in
+    let s = p.serves in let k = s.known in
+    let is = full_put_is header.shape number header.rooms list user (memory_of store.memory) k.on.read.sound k.remembers k.within strings news p.are_of c.requires.new in
+    sym is ∙ sym c.in-None.ensures
+
+pub returns-in-Err-Long-clause-never_long : goal.returns-in-Err-Long-clause-never_long
+returns-in-Err-Long-clause-never_long g c list chain strings p =
+    let store = c.args.store.now in let header = store.header in let number = header.cloud.0 in
+    let user = c.args.user in let news = c.args.news.now in let command = asked.Put user strings in
+    let c0 = g.V.Shelf.cloud_at c.args.shelf.now number in
+    let s = p.serves in let k = s.known in
+    let near = ends_near header list chain store.commands store.region store.memory store.disk c0 s c.requires.settled.header.rooms c.requires.settled.region in
+    let fits = put_fits user (memory_of store.memory) news (user_fits header.shape number list command p.sound) c.requires.some c.requires.few (are_long news strings p.are_of) c.requires.lens near.0 in
+    let len = c.put_len-len.ensures.len user c.requires.new in
+    subst (λ (why : Unsettled). IfLong {A = Unit {0}} (Err why) ⊥) c.in-Err-Long.field-0-is (c.in-Err-Long.ensures.never_long list chain (put_record store user news) s fits (omega (arith, len)))
+
+pub returns-in-Err-Failed-clause-any_moment : goal.returns-in-Err-Failed-clause-any_moment
+returns-in-Err-Failed-clause-any_moment g c list chain strings p =
+    let store = c.args.store.now in let header = store.header in let number = header.cloud.0 in
+    let user = c.args.user in let news = c.args.news.now in let command = asked.Put user strings in
+    let c0 = g.V.Shelf.cloud_at c.args.shelf.now number in
+    let s = p.serves in let k = s.known in
+    images_kept header list command c0 (g.V.Shelf.cloud_at c.have_room.new.shelf number) (c.have_room.ensures.any_moment list chain s)
+
+pub returns-in-Ok-add_roomy-clause-any_moment : goal.returns-in-Ok-add_roomy-clause-any_moment
+returns-in-Ok-add_roomy-clause-any_moment g c list chain strings p =
+    let store = c.args.store.now in let header = store.header in let number = header.cloud.0 in
+    let user = c.args.user in let news = c.args.news.now in let command = asked.Put user strings in
+    let c0 = g.V.Shelf.cloud_at c.args.shelf.now number in
+    let s = p.serves in let k = s.known in
+    let mid = c.have_room.new.store in let keeps = c.in-Ok.ensures.same in
+    let at = g.V.Shelf.cloud_at c.have_room.new.shelf in let later = g.V.Shelf.cloud_at c.add_roomy.new.shelf in
+    let header_is : mid.header ≡ header = ap (λ (x : OpenStore). x.header) keeps.same in
+    let d = chain_with_room store list chain c.put_len-len.result in let c1 = at mid.header.cloud.0 in
+    let serves = subst (λ (h : Header). Serves list d mid (at h.cloud.0)) (sym header_is) (c.in-Ok.ensures.serves list chain s) in
+    let moved = put_moved list chain d store mid c0 c1 keeps serves user news strings p in
+    images_both header list command c0 (at number) (later number) (c.have_room.ensures.any_moment list chain s)
+    (subst (λ (h : Header). KeepsOrAdds h list command (at h.cloud.0) (later h.cloud.0)) header_is (c.add_roomy.ensures.any_moment list d strings moved))
+
+pub returns-in-Err-clause-any_moment : goal.returns-in-Err-clause-any_moment
+returns-in-Err-clause-any_moment g c list chain strings p =
+    let store = c.args.store.now in let header = store.header in let number = header.cloud.0 in
+    let user = c.args.user in let news = c.args.news.now in let command = asked.Put user strings in
+    let c0 = g.V.Shelf.cloud_at c.args.shelf.now number in
+    let s = p.serves in let k = s.known in
+    let mid = c.have_room.new.store in let keeps = c.in-Ok.ensures.same in
+    let at = g.V.Shelf.cloud_at c.have_room.new.shelf in let later = g.V.Shelf.cloud_at c.add_roomy.new.shelf in
+    let header_is : mid.header ≡ header = ap (λ (x : OpenStore). x.header) keeps.same in
+    let d = chain_with_room store list chain c.put_len-len.result in let c1 = at mid.header.cloud.0 in
+    let serves = subst (λ (h : Header). Serves list d mid (at h.cloud.0)) (sym header_is) (c.in-Ok.ensures.serves list chain s) in
+    let moved = put_moved list chain d store mid c0 c1 keeps serves user news strings p in
+    images_both header list command c0 (at number) (later number) (c.have_room.ensures.any_moment list chain s)
+    (subst (λ (h : Header). KeepsOrAdds h list command (at h.cloud.0) (later h.cloud.0)) header_is (c.add_roomy.ensures.any_moment list d strings moved))
+
+pub returns-in-Ok-add_roomy-clause-added : goal.returns-in-Ok-add_roomy-clause-added
+returns-in-Ok-add_roomy-clause-added g c list chain strings p =
+    let store = c.args.store.now in let header = store.header in let number = header.cloud.0 in
+    let user = c.args.user in let news = c.args.news.now in let command = asked.Put user strings in
+    let c0 = g.V.Shelf.cloud_at c.args.shelf.now number in
+    let s = p.serves in let k = s.known in
+    let mid = c.have_room.new.store in let keeps = c.in-Ok.ensures.same in
+    let at = g.V.Shelf.cloud_at c.have_room.new.shelf in let later = g.V.Shelf.cloud_at c.add_roomy.new.shelf in
+    let header_is : mid.header ≡ header = ap (λ (x : OpenStore). x.header) keeps.same in
+    let d = chain_with_room store list chain c.put_len-len.result in let c1 = at mid.header.cloud.0 in
+    let serves = subst (λ (h : Header). Serves list d mid (at h.cloud.0)) (sym header_is) (c.in-Ok.ensures.serves list chain s) in
+    let moved = put_moved list chain d store mid c0 c1 keeps serves user news strings p in
+    let len_is = c.put_len-len.ensures.len user c.requires.new in
+    let got = c.in-Ok-add_roomy.ensures.added list d strings moved in
+    let here = subst (λ (h : Header). Serves (list ++ command ∷ []) (with_record d (put_record mid user news) []) c.add_roomy.new.store (later h.cloud.0)) header_is got in
+    let same = subst (λ (x : OpenStore). Serves (list ++ command ∷ []) (with_record d (put_record x user news) []) c.add_roomy.new.store (later number)) keeps.same here in
+    subst (λ (n : ℕ). Serves (list ++ command ∷ []) (with_record (chain_with_room store list chain n) (put_record store user news) []) c.add_roomy.new.store (later number)) len_is same
+
+pub returns-in-Ok-add_roomy-clause-checkpoint_first : goal.returns-in-Ok-add_roomy-clause-checkpoint_first
+returns-in-Ok-add_roomy-clause-checkpoint_first g c list chain strings p not =
+    let store = c.args.store.now in let header = store.header in let number = header.cloud.0 in
+    let user = c.args.user in let news = c.args.news.now in let command = asked.Put user strings in
+    let c0 = g.V.Shelf.cloud_at c.args.shelf.now number in
+    let s = p.serves in let k = s.known in
+    let mid = c.have_room.new.store in let keeps = c.in-Ok.ensures.same in
+    let at = g.V.Shelf.cloud_at c.have_room.new.shelf in let later = g.V.Shelf.cloud_at c.add_roomy.new.shelf in
+    let header_is : mid.header ≡ header = ap (λ (x : OpenStore). x.header) keeps.same in
+    let d = chain_with_room store list chain c.put_len-len.result in let c1 = at mid.header.cloud.0 in
+    let serves = subst (λ (h : Header). Serves list d mid (at h.cloud.0)) (sym header_is) (c.in-Ok.ensures.serves list chain s) in
+    let moved = put_moved list chain d store mid c0 c1 keeps serves user news strings p in
+    let len_is = c.put_len-len.ensures.len user c.requires.new in
+    let fresh = chain_next store list chain c.put_len-len.result (λ fits. not (subst (λ (n : ℕ). Fits store n) len_is fits)) in
+    record {
+      at = at number;
+      disk = mid.disk;
+      on =
+          subst (λ (e : Chain). IsOn header list e mid.disk (at number)) fresh
+          (subst (λ (h : Header). IsOn h list d mid.disk (at number)) header_is (c.in-Ok.ensures.serves list chain s).known.on);
+      until = c.have_room.ensures.only_journal list chain s;
+      since =
+          subst (λ (h : Header). KeepsOrAdds h list command (at h.cloud.0) (later h.cloud.0)) header_is (c.add_roomy.ensures.any_moment list d strings moved);
+    }

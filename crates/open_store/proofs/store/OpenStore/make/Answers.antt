@@ -1,0 +1,18 @@
+use Rattle.std.proofs.Common.{sym, ap, subst, arith}
+use Rattle.cloud_memory.specs.Fitting.{FitsRecords}
+use Rattle.cloud_memory.proofs.Fitting.{begun_fits}
+use Rattle.open_store.proofs.store.OpenStore.make.Goals as goal
+
+pub returns-clause-settled : goal.returns-clause-settled
+returns-clause-settled c = record {
+  header = c.requires.header;
+  format = c.requires.format;
+  rooms = c.in_ok-memory.ensures.rooms;
+  fit = λ at_end. subst FitsRecords (sym c.in_ok-memory.ensures.value) (begun_fits c.args.header.rooms.users 0);
+  disk = record {
+    limit = c.in_ok-disk.ensures.journal.0;
+    shares = ap (λ s. s.area) c.in_ok-disk.ensures.logs.0;
+    recipes = ap (λ s. s.area) c.in_ok-disk.ensures.logs.1;
+  };
+  region = omega arith;
+}

@@ -1,0 +1,152 @@
+-- One command more in an open store: when it may be added, and what comes of it.
+use Rattle.std.specs.Prelude.{◌≡◌, ℕ, ◌≤◌, List, [], ◌∷◌, ◌++◌, length, Some, Result, Ok, Err}
+use Rattle.cd_base.specs.declared.ids.Fp.{Fp}
+use Rattle.cd_base.specs.declared.ids.Tag.{Tag}
+use Rattle.cd_base.specs.declared.ids.UserId.{UserId}
+use Rattle.cd_base.specs.declared.ids.Version.{Version}
+use Rattle.cd_edges.specs.Disk.{Cloud}
+use Rattle.container_log.specs.Laying.{Placed}
+use Rattle.container_log.specs.Places.{place_of}
+use Rattle.container_log.specs.States.{HasStaged}
+use Rattle.half_journal.specs.declared.journal.Stage.{Stage}
+use Rattle.half_journal.specs.declared.journal.Stage.TheVariants.{AtEnd, Shut}
+use Rattle.message_fields.specs.Shares.{share_limit}
+use Rattle.record_body.specs.declared.body.CommitBody.{CommitBody}
+use Rattle.record_bodies.specs.Spelling as bodies
+use Rattle.record_bodies.specs.Spelling.{Body, body_bytes}
+use Rattle.user_dedup.specs.declared.file_list.FileEntry.{FileEntry}
+use Rattle.user_dedup.specs.Cloud.{fingerprint}
+use Rattle.user_dedup.specs.Pages.{entry_at}
+use Rattle.user_dedup.specs.Requests.{fps_of}
+use Rattle.command_list.specs.declared.command.Command.{Command}
+use Rattle.command_list.specs.declared.command.Command.TheVariants as commands
+use Rattle.command_list.specs.Asking.{IsSound}
+use Rattle.command_list.specs.Commands.{user_view}
+use Rattle.cloud_areas.specs.Adding.{with_record}
+use Rattle.cloud_areas.specs.Standing.{Chain}
+use Rattle.cloud_disk.specs.Disk.{Disk, IsOn, KeepsOrAdds, Stages, shares_laid}
+use Rattle.cloud_memory.specs.declared.rooms.Full.{Full}
+use Rattle.cloud_memory.specs.declared.rooms.New.{New}
+use Rattle.cloud_memory.specs.News.{AreOf}
+use Rattle.cloud_memory.specs.Rooms.{memory_of}
+use Rattle.cloud_memory.specs.Steps.{parts_of}
+use Rattle.open_store.specs.declared.store.OpenStore.{OpenStore}
+use Rattle.open_store.specs.declared.store.Unadded.{Unadded}
+use Rattle.open_store.specs.declared.store.Unadded.TheVariants as why
+use Rattle.checkpoint_laying.specs.Settling.{KeepsOthers}
+use Rattle.checkpoint_records.specs.Known.{checkpoint_in}
+use Rattle.open_store.specs.Store.{Serves, chain_with_room}
+
+-- ---- answers
+
+-- the command was added
+abbrev pub OnAdded : Result (Unit {0}) Unadded → Type 0 → Type 0
+OnAdded (Ok v) P = P
+OnAdded (Err e) P = Unit {0}
+
+-- a room was full, and else another fact
+abbrev pub MatchFull : Result (Unit {0}) Unadded → Type 0 → (Full → Type 0) → Type 0
+MatchFull (Ok v) P Q = P
+MatchFull (Err (why.Full full)) P Q = Q full
+MatchFull (Err why.Long) P Q = P
+MatchFull (Err why.Failed) P Q = P
+
+-- a device failed, and else another fact
+abbrev pub MatchFailed : Result (Unit {0}) Unadded → Type 0 → Type 0 → Type 0
+MatchFailed (Ok v) P Q = P
+MatchFailed (Err (why.Full full)) P Q = P
+MatchFailed (Err why.Long) P Q = P
+MatchFailed (Err why.Failed) P Q = Q
+
+-- There was room for the record.
+abbrev pub NotLong : Result (Unit {0}) Unadded → Type 0
+NotLong (Ok v) = Unit {0}
+NotLong (Err (why.Full full)) = Unit {0}
+NotLong (Err why.Long) = ⊥
+NotLong (Err why.Failed) = Unit {0}
+
+-- the journal's stage behind it
+abbrev pub stage_after : Result (Unit {0}) Unadded → Stage
+stage_after (Ok v) = AtEnd
+stage_after (Err (why.Full full)) = AtEnd
+stage_after (Err why.Long) = AtEnd
+stage_after (Err why.Failed) = Shut
+
+-- nothing is staged
+pub record NoneStaged (s : OpenStore) : Type 0 where
+  pub shares : HasStaged s.disk.shares []
+  pub recipes : HasStaged s.disk.recipes []
+
+-- Nothing changed, but that nothing is staged.
+pub record IsUnadded (old new : OpenStore) : Type 0 where
+  pub header : new.header ≡ old.header
+  pub memory : new.memory ≡ old.memory
+  pub commands : new.commands ≡ old.commands
+  pub region : new.region ≡ old.region
+  pub journal : new.disk.journal ≡ old.disk.journal
+  pub shares_end : new.disk.shares.end ≡ old.disk.shares.end
+  pub recipes_end : new.disk.recipes.end ≡ old.disk.recipes.end
+
+-- ---- a Put
+
+-- Each share has from 1 to 8,208 bytes.
+abbrev pub IsShareNew : New → Type 0
+IsShareNew n = (1 ≤ n.len) × (n.len ≤ share_limit)
+
+-- the record of a Put of these shares
+abbrev pub put_record : OpenStore → UserId → List New → Body
+put_record s user news = bodies.Put user (parts_of user (memory_of s.memory) news)
+
+-- The Put of these strings is to be added: the store serves the list, which is sound with it too; these are the strings' fingerprints and
+-- lengths; and just those that get a place are staged, in their order.
+pub record IsPut (list : List Command) (c : Chain) (s : OpenStore) (user : UserId) (news : List New) (strings : List (List ℕ)) (cloud : Cloud) : Type 0 where
+  pub serves : Serves list c s cloud
+  pub sound : IsSound s.header.shape s.header.cloud.0 (list ++ commands.Put user strings ∷ [])
+  pub are_of : AreOf news strings
+  pub shares : Stages s.disk.shares (shares_laid list (commands.Put user strings) (put_record s user news))
+  pub recipes : Stages s.disk.recipes []
+
+-- ---- a Commit
+
+-- the record of a Commit of a recipe with this fingerprint and so many bytes
+abbrev pub commit_body : OpenStore → UserId → Tag → Version → Fp → ℕ → CommitBody
+commit_body s user tag version fp len = record { user = user; tag = tag; version = version; at = place_of s.memory.recipes_end len; len = len; fp = fp }
+
+-- The Commit of this recipe is to be added: the store serves the list, which is sound with it too; the recipe has this fingerprint, so many
+-- bytes and these items; and just it is staged.
+pub record IsCommit (list : List Command) (c : Chain) (s : OpenStore) (user : UserId) (tag : Tag) (version : Version) (fp : Fp) (len : ℕ) (names : List Fp) (recipe : List ℕ) (cloud : Cloud) : Type 0 where
+  pub serves : Serves list c s cloud
+  pub sound : IsSound s.header.shape s.header.cloud.0 (list ++ commands.Commit user tag version recipe ∷ [])
+  pub fp_is : fingerprint recipe ≡ fp
+  pub len_is : length recipe ≡ len
+  pub names_are : fps_of s.header.shape recipe ≡ names
+  pub shares : Stages s.disk.shares []
+  pub recipes : Stages s.disk.recipes (record { place = place_of s.memory.recipes_end len; blob = recipe } ∷ [])
+
+-- ---- a Delete
+
+-- The Delete of the entry with this recipe is to be added: the store serves the list, which is sound with it too and has the entry; and
+-- nothing is staged.
+pub record IsDelete (list : List Command) (c : Chain) (s : OpenStore) (user : UserId) (tag : Tag) (version : Version) (entry : FileEntry) (recipe : List ℕ) (cloud : Cloud) : Type 0 where
+  pub serves : Serves list c s cloud
+  pub sound : IsSound s.header.shape s.header.cloud.0 (list ++ commands.Delete user tag version ∷ [])
+  pub there : entry_at (user_view s.header.shape list user).files (tag, version) ≡ Some entry
+  pub recipe_is : entry.recipe ≡ recipe
+  pub shares : Stages s.disk.shares []
+  pub recipes : Stages s.disk.recipes []
+
+-- ---- what is left
+
+-- The store serves the list with the command: by the chain that has room for the record, and with it.
+abbrev pub ServesMore : List Command → Chain → OpenStore → Command → Body → List Placed → OpenStore → Cloud → Type 0
+ServesMore list c old command body laid new cloud =
+    Serves (list ++ command ∷ []) (with_record (chain_with_room old list c (length (body_bytes body))) body laid) new cloud
+
+-- There was a moment at which the disk stood for the list by the checkpoint of the memory: until then no area but the journal had changed, and
+-- since then each image stands for the list or for the list with the command.
+pub record MadeFirst (list : List Command) (c : Chain) (old : OpenStore) (command : Command) (before after : Cloud) : Type 0 where
+  pub at : Cloud
+  pub disk : Disk
+  pub on : IsOn old.header list (checkpoint_in old.header list c old.commands old.region old.memory) disk at
+  pub until : KeepsOthers before at
+  pub since : KeepsOrAdds old.header list command at after

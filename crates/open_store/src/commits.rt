@@ -1,0 +1,183 @@
+//! A Commit.
+
+ghost use Rattle.std.specs.Prelude.{◌≡◌, ◌≤◌, ℕ, List, [], ◌∷◌, ◌++◌, length, Some, None, OnOk, OnErr};
+ghost use Rattle.std.specs.FinMap.{get};
+ghost use Rattle.cd_edges.specs.Shelf.{IsCall, HasFailed, KeepsCounts};
+ghost use Rattle.container_log.specs.Places.{place_of};
+ghost use Rattle.file_index.specs.Files.{key_of};
+ghost use Rattle.record_bodies.specs.Spelling as bodies;
+ghost use Rattle.record_bodies.specs.Spelling.{body_bytes};
+ghost use Rattle.user_dedup.specs.Owning.{fps_in};
+ghost use Rattle.command_list.specs.declared.command.Command.{Command};
+ghost use Rattle.command_list.specs.declared.command.Command.TheVariants as commands;
+ghost use Rattle.command_list.specs.Spending.{full_for};
+ghost use Rattle.cloud_areas.specs.Standing.{Chain};
+ghost use Rattle.cloud_disk.specs.Disk.{KeepsOrAdds, regions_end};
+ghost use Rattle.cloud_memory.specs.News.{seen};
+ghost use Rattle.cloud_memory.specs.Rooms.{memory_of, full_commit};
+ghost use Rattle.cloud_memory.specs.Sharing.{AreOwned};
+ghost use Rattle.half_journal.specs.declared.journal.Stage.TheVariants.{AtEnd};
+ghost use Rattle.half_journal.specs.Outcomes.{stage_after as journal_after};
+ghost use Rattle.cloud_areas.specs.Adding.{with_record};
+ghost use Rattle.open_store.specs.Store.{IsOpen, IsSettled, Serves, Fits};
+ghost use Rattle.open_store.specs.Adding.{IsCommit, commit_body, ServesMore, MadeFirst, IsUnadded, NoneStaged};
+ghost use Rattle.open_store.specs.Adding.{OnAdded, MatchFull, MatchFailed, NotLong, stage_after};
+
+use crate::room::have_room;
+use crate::writing::add_record;
+use crate::{OpenStore, Unadded};
+use cd_base::{Fp, Tag, UserId, Version};
+use cd_edges::{Failed, Shelf};
+use checkpoint_records::Unsettled;
+use cloud_areas::laws::law_of_laying;
+use recipe::RecipeView;
+
+// The bytes of a Commit's body.
+const COMMIT_LEN: u32 = 89;
+
+// Adds the Commit where there is room for it.
+fn add_roomy<V: Shelf>(
+    store: &mut OpenStore,
+    shelf: &mut V,
+    user: UserId,
+    tag: Tag,
+    version: Version,
+    fp: Fp,
+    len: u32,
+    recipe: &RecipeView<'_>,
+) -> Result<(), Failed>
+    requires settled { IsSettled store.old }
+    requires open { IsOpen store.old }
+    requires some { 1 ≤ len }
+    requires new { get (memory_of store.old.memory).files (key_of user.0 tag.0 version.0) ≡ None }
+    requires owned { AreOwned (memory_of store.old.memory).owners user (fps_in recipe.now.items) }
+    requires room { full_commit store.old.header.rooms user (memory_of store.old.memory) len ≡ None }
+    requires end { store.old.memory.recipes_end ≤ regions_end }
+    requires fits { Fits store.old 89 }
+    ensures any_moment { (list : List Command) (c : Chain) (bytes : List ℕ)
+        → IsCommit list c store.old user tag version fp len (fps_in recipe.now.items) bytes
+        (V.cloud_at shelf.old store.old.header.cloud.0)
+        → KeepsOrAdds store.old.header list (commands.Commit user tag version bytes)
+        (V.cloud_at shelf.old store.old.header.cloud.0) (V.cloud_at shelf.new store.old.header.cloud.0) }
+    ensures added { (list : List Command) (c : Chain) (bytes : List ℕ)
+        → IsCommit list c store.old user tag version fp len (fps_in recipe.now.items) bytes
+        (V.cloud_at shelf.old store.old.header.cloud.0)
+        → OnOk result (Serves (list ++ commands.Commit user tag version bytes ∷ [])
+        (with_record c (bodies.Commit (commit_body store.old user tag version fp len))
+        (record { place = place_of store.old.memory.recipes_end len; blob = bytes } ∷ [])) store.new
+        (V.cloud_at shelf.new store.old.header.cloud.0)) }
+    ensures none { NoneStaged store.new }
+    ensures settled { IsSettled store.new }
+    ensures header { store.new.header ≡ store.old.header }
+    ensures stage { store.new.disk.journal.stage ≡ journal_after AtEnd result }
+    ensures call { IsCall (V.cloud_at shelf.old) (V.cloud_at shelf.new) store.old.header.cloud.0
+        (V.faults shelf.old) (V.faults shelf.new) }
+    ensures failed { OnErr result (HasFailed (V.cloud_at shelf.old store.old.header.cloud.0)
+        (V.cloud_at shelf.new store.old.header.cloud.0) (V.faults shelf.old) (V.faults shelf.new)) }
+    ensures uncounted { OnOk result (KeepsCounts (V.cloud_at shelf.old store.old.header.cloud.0)
+        (V.cloud_at shelf.new store.old.header.cloud.0) (V.faults shelf.old) (V.faults shelf.new)) }
+{
+    law_of_laying();
+    let rooms = store.header.rooms;
+    match store
+        .memory
+        .add_commit(&rooms, user, tag, version, fp, len, recipe)
+    {
+        Ok(body) => store.body.write_commit(&body),
+        Err(_) => unreachable!(),
+    }
+    add_record(store, shelf)
+}
+
+/// Adds a Commit of a version that the user doesn't have as the list's next command, where the user's rooms are wide enough.
+/// The user owns the fingerprints of the recipe's items; the recipe has this fingerprint and so many bytes, and is to be staged
+/// before.
+///
+/// Where the Commit's record doesn't fit the journal, and only there, a checkpoint is made first, before any other area is
+/// written. Then the recipe is written and synced, and then the record. Whenever a crash comes, and after `Failed` too, the
+/// cloud stands for the list, or for the list with the Commit; after Ok the store serves the list with the Commit. `Full` names
+/// the first room that the Commit would pass, of files and recipes; nothing changes then but that nothing is staged, and no
+/// device call is made. `Failed` comes only where the cloud's count of faults rose, and then the journal is shut. Nothing is
+/// staged afterwards. It takes no memory.
+pub fn add_commit<V: Shelf>(
+    store: &mut OpenStore,
+    shelf: &mut V,
+    user: UserId,
+    tag: Tag,
+    version: Version,
+    fp: Fp,
+    len: u32,
+    recipe: &RecipeView<'_>,
+) -> Result<(), Unadded>
+    requires settled { IsSettled store.old }
+    requires open { IsOpen store.old }
+    requires some { 1 ≤ len }
+    requires new { get (memory_of store.old.memory).files (key_of user.0 tag.0 version.0) ≡ None }
+    requires owned { AreOwned (memory_of store.old.memory).owners user (fps_in recipe.now.items) }
+
+    // by each list that the store serves
+    ensures any_moment { (list : List Command) (c : Chain) (bytes : List ℕ)
+        → IsCommit list c store.old user tag version fp len (fps_in recipe.now.items) bytes
+        (V.cloud_at shelf.old store.old.header.cloud.0)
+        → KeepsOrAdds store.old.header list (commands.Commit user tag version bytes)
+        (V.cloud_at shelf.old store.old.header.cloud.0) (V.cloud_at shelf.new store.old.header.cloud.0) }
+    ensures added { (list : List Command) (c : Chain) (bytes : List ℕ)
+        → IsCommit list c store.old user tag version fp len (fps_in recipe.now.items) bytes
+        (V.cloud_at shelf.old store.old.header.cloud.0)
+        → OnAdded result (ServesMore list c store.old (commands.Commit user tag version bytes)
+        (bodies.Commit (commit_body store.old user tag version fp len))
+        (record { place = place_of store.old.memory.recipes_end len; blob = bytes } ∷ [])
+        store.new (V.cloud_at shelf.new store.old.header.cloud.0)) }
+    ensures checkpoint_first { (list : List Command) (c : Chain) (bytes : List ℕ)
+        → IsCommit list c store.old user tag version fp len (fps_in recipe.now.items) bytes
+        (V.cloud_at shelf.old store.old.header.cloud.0)
+        → ¬ (Fits store.old (length (body_bytes (bodies.Commit (commit_body store.old user tag version fp len)))))
+        → OnAdded result (MadeFirst list c store.old (commands.Commit user tag version bytes)
+        (V.cloud_at shelf.old store.old.header.cloud.0) (V.cloud_at shelf.new store.old.header.cloud.0)) }
+    ensures full_list { (list : List Command) (c : Chain) (bytes : List ℕ)
+        → IsCommit list c store.old user tag version fp len (fps_in recipe.now.items) bytes
+        (V.cloud_at shelf.old store.old.header.cloud.0)
+        → MatchFull result
+        (full_for store.old.header.shape store.old.header.rooms list (commands.Commit user tag version bytes) ≡ None)
+        (λ full. full_for store.old.header.shape store.old.header.rooms list (commands.Commit user tag version bytes)
+        ≡ Some (seen full)) }
+    ensures never_long { (list : List Command) (c : Chain) (bytes : List ℕ)
+        → IsCommit list c store.old user tag version fp len (fps_in recipe.now.items) bytes
+        (V.cloud_at shelf.old store.old.header.cloud.0) → NotLong result }
+
+    // whatever is known of the cloud
+    ensures full { MatchFull result
+        (full_commit store.old.header.rooms user (memory_of store.old.memory) len ≡ None)
+        (λ full. full_commit store.old.header.rooms user (memory_of store.old.memory) len ≡ Some (seen full)) }
+    ensures unadded { MatchFull result (Unit {0})
+        (λ full. IsUnadded store.old store.new × (shelf.new ≡ shelf.old)) }
+    ensures none { NoneStaged store.new }
+    ensures settled { IsSettled store.new }
+    ensures header { store.new.header ≡ store.old.header }
+    ensures stage { store.new.disk.journal.stage ≡ stage_after result }
+    ensures call { IsCall (V.cloud_at shelf.old) (V.cloud_at shelf.new) store.old.header.cloud.0
+        (V.faults shelf.old) (V.faults shelf.new) }
+    ensures counts { MatchFailed result
+        (KeepsCounts (V.cloud_at shelf.old store.old.header.cloud.0)
+        (V.cloud_at shelf.new store.old.header.cloud.0) (V.faults shelf.old) (V.faults shelf.new))
+        (HasFailed (V.cloud_at shelf.old store.old.header.cloud.0)
+        (V.cloud_at shelf.new store.old.header.cloud.0) (V.faults shelf.old) (V.faults shelf.new)) }
+{
+    let rooms = store.header.rooms;
+    match store.memory.full_for_commit(&rooms, user, len) {
+        Some(full) => {
+            store.disk.unstage();
+            return Err(Unadded::Full(full));
+        }
+        None => {}
+    }
+    match have_room(store, shelf, COMMIT_LEN) {
+        Ok(()) => {}
+        Err(Unsettled::Long) => return Err(Unadded::Long),
+        Err(Unsettled::Failed) => return Err(Unadded::Failed),
+    }
+    match add_roomy(store, shelf, user, tag, version, fp, len, recipe) {
+        Ok(()) => Ok(()),
+        Err(Failed) => Err(Unadded::Failed),
+    }
+}

@@ -1,0 +1,174 @@
+//! A Delete.
+
+ghost use Rattle.std.specs.Prelude.{◌≡◌, ◌<◌, ◌^◌, ℕ, List, [], ◌∷◌, ◌++◌, length, IsSome, Some, OnOk, OnErr};
+ghost use Rattle.std.specs.FinMap.{get};
+ghost use Rattle.cd_edges.specs.Shelf.{IsCall, HasFailed, KeepsCounts};
+ghost use Rattle.file_index.specs.Files.{key_of};
+ghost use Rattle.record_bodies.specs.Spelling as bodies;
+ghost use Rattle.record_bodies.specs.Spelling.{body_bytes};
+ghost use Rattle.user_dedup.specs.declared.file_list.FileEntry.{FileEntry};
+ghost use Rattle.command_list.specs.declared.command.Command.{Command};
+ghost use Rattle.command_list.specs.declared.command.Command.TheVariants as commands;
+ghost use Rattle.cloud_areas.specs.Standing.{Chain};
+ghost use Rattle.cloud_disk.specs.Disk.{KeepsOrAdds};
+ghost use Rattle.cloud_memory.specs.Rooms.{memory_of, HasRooms};
+ghost use Rattle.half_journal.specs.declared.journal.Stage.TheVariants.{AtEnd};
+ghost use Rattle.half_journal.specs.Outcomes.{stage_after as journal_after};
+ghost use Rattle.journal_start.specs.declared.rooms.Rooms.{Rooms};
+ghost use Rattle.user_dedup.specs.Pages.{entry_at};
+ghost use Rattle.user_dedup.specs.Requests.{fps_of};
+ghost use Rattle.command_list.specs.Asking.{IsSound};
+ghost use Rattle.command_list.specs.Commands.{user_view};
+ghost use Rattle.cloud_areas.specs.Adding.{with_record};
+ghost use Rattle.cloud_memory.specs.Memory.{Remembers};
+ghost use Rattle.cloud_memory.specs.Steps.{without_entry};
+ghost use Rattle.open_store.specs.Store.{IsOpen, IsSettled, Serves, Fits};
+ghost use Rattle.open_store.specs.Adding.{IsDelete, ServesMore, MadeFirst, NoneStaged};
+ghost use Rattle.open_store.specs.Adding.{OnAdded, MatchFull, MatchFailed, NotLong, stage_after};
+
+use crate::room::have_room;
+use crate::writing::add_record;
+use crate::{OpenStore, Unadded};
+use cd_base::{Shape, Tag, UserId, Version};
+use cd_edges::{Failed, Shelf};
+use checkpoint_records::Unsettled;
+use cloud_areas::laws::law_of_laying;
+use cloud_memory::CloudMemory;
+use recipe::RecipeView;
+use record_bodies::DeleteBody;
+
+// The bytes of a Delete's body.
+const DELETE_LEN: u32 = 45;
+
+// Takes the version out of the memory, and what its recipe names.
+fn forget(
+    memory: &mut CloudMemory,
+    shape: Shape,
+    user: UserId,
+    tag: &Tag,
+    version: Version,
+    recipe: &[u8],
+)
+    requires recipe { length recipe.now < 2 ^ 32 }
+    requires there { IsSome (get (memory_of memory.old).files (key_of user.0 tag.now.0 version.0)) }
+    ensures remembers { (cloud : ℕ) (list : List Command) (entry : FileEntry)
+        → IsSound shape cloud list → Remembers shape list (memory_of memory.old)
+        → entry_at (user_view shape list user).files (tag.now, version) ≡ Some entry → entry.recipe ≡ recipe.now
+        → Remembers shape (list ++ commands.Delete user tag.now version ∷ []) (memory_of memory.new) }
+    ensures taken { memory_of memory.new
+        ≡ without_entry (fps_of shape recipe.now) user (key_of user.0 tag.now.0 version.0) (memory_of memory.old) }
+    ensures rooms { (rooms : Rooms) → HasRooms rooms memory.old → HasRooms rooms memory.new }
+{
+    match RecipeView::check(shape, recipe) {
+        Ok(view) => memory.delete(user, tag, version, &view),
+        Err(_) => memory.delete_entry(user, tag, version),
+    }
+}
+
+// Adds the Delete where there is room for it.
+fn add_roomy<V: Shelf>(
+    store: &mut OpenStore,
+    shelf: &mut V,
+    user: UserId,
+    tag: Tag,
+    version: Version,
+    recipe: &[u8],
+) -> Result<(), Failed>
+    requires settled { IsSettled store.old }
+    requires open { IsOpen store.old }
+    requires recipe { length recipe.now < 2 ^ 32 }
+    requires there { IsSome (get (memory_of store.old.memory).files (key_of user.0 tag.0 version.0)) }
+    requires fits { Fits store.old 45 }
+    ensures any_moment { (list : List Command) (c : Chain) (entry : FileEntry)
+        → IsDelete list c store.old user tag version entry recipe.now (V.cloud_at shelf.old store.old.header.cloud.0)
+        → KeepsOrAdds store.old.header list (commands.Delete user tag version)
+        (V.cloud_at shelf.old store.old.header.cloud.0) (V.cloud_at shelf.new store.old.header.cloud.0) }
+    ensures added { (list : List Command) (c : Chain) (entry : FileEntry)
+        → IsDelete list c store.old user tag version entry recipe.now (V.cloud_at shelf.old store.old.header.cloud.0)
+        → OnOk result (Serves (list ++ commands.Delete user tag version ∷ [])
+        (with_record c (bodies.Delete (record { user = user; tag = tag; version = version })) []) store.new
+        (V.cloud_at shelf.new store.old.header.cloud.0)) }
+    ensures none { NoneStaged store.new }
+    ensures settled { IsSettled store.new }
+    ensures header { store.new.header ≡ store.old.header }
+    ensures stage { store.new.disk.journal.stage ≡ journal_after AtEnd result }
+    ensures call { IsCall (V.cloud_at shelf.old) (V.cloud_at shelf.new) store.old.header.cloud.0
+        (V.faults shelf.old) (V.faults shelf.new) }
+    ensures failed { OnErr result (HasFailed (V.cloud_at shelf.old store.old.header.cloud.0)
+        (V.cloud_at shelf.new store.old.header.cloud.0) (V.faults shelf.old) (V.faults shelf.new)) }
+    ensures uncounted { OnOk result (KeepsCounts (V.cloud_at shelf.old store.old.header.cloud.0)
+        (V.cloud_at shelf.new store.old.header.cloud.0) (V.faults shelf.old) (V.faults shelf.new)) }
+{
+    law_of_laying();
+    let shape = store.header.shape;
+    forget(&mut store.memory, shape, user, &tag, version, recipe);
+    let body = DeleteBody { user, tag, version };
+    store.body.write_delete(&body);
+    add_record(store, shelf)
+}
+
+/// Adds a Delete of a version that the user has as the list's next command: its entry goes, and each fingerprint that its recipe
+/// names loses a use for each item. `recipe` is the entry's recipe, as it was read; bytes that are no recipe name nothing.
+///
+/// Where the Delete's record doesn't fit the journal, and only there, a checkpoint is made first, before any other area is
+/// written. Then the record is written and synced. Whenever a crash comes, and after `Failed` too, the cloud stands for the
+/// list, or for the list with the Delete; after Ok the store serves the list with the Delete. `Full` never comes. `Failed`
+/// comes only where the cloud's count of faults rose, and then the journal is shut. Nothing is staged afterwards. It takes no
+/// memory.
+pub fn add_delete<V: Shelf>(
+    store: &mut OpenStore,
+    shelf: &mut V,
+    user: UserId,
+    tag: Tag,
+    version: Version,
+    recipe: &[u8],
+) -> Result<(), Unadded>
+    requires settled { IsSettled store.old }
+    requires open { IsOpen store.old }
+    requires recipe { length recipe.now < 2 ^ 32 }
+    requires there { IsSome (get (memory_of store.old.memory).files (key_of user.0 tag.0 version.0)) }
+
+    // by each list that the store serves
+    ensures any_moment { (list : List Command) (c : Chain) (entry : FileEntry)
+        → IsDelete list c store.old user tag version entry recipe.now (V.cloud_at shelf.old store.old.header.cloud.0)
+        → KeepsOrAdds store.old.header list (commands.Delete user tag version)
+        (V.cloud_at shelf.old store.old.header.cloud.0) (V.cloud_at shelf.new store.old.header.cloud.0) }
+    ensures added { (list : List Command) (c : Chain) (entry : FileEntry)
+        → IsDelete list c store.old user tag version entry recipe.now (V.cloud_at shelf.old store.old.header.cloud.0)
+        → OnAdded result (ServesMore list c store.old (commands.Delete user tag version)
+        (bodies.Delete (record { user = user; tag = tag; version = version })) []
+        store.new (V.cloud_at shelf.new store.old.header.cloud.0)) }
+    ensures checkpoint_first { (list : List Command) (c : Chain) (entry : FileEntry)
+        → IsDelete list c store.old user tag version entry recipe.now
+        (V.cloud_at shelf.old store.old.header.cloud.0)
+        → ¬ (Fits store.old (length (body_bytes (bodies.Delete (record { user = user; tag = tag; version = version })))))
+        → OnAdded result (MadeFirst list c store.old (commands.Delete user tag version)
+        (V.cloud_at shelf.old store.old.header.cloud.0) (V.cloud_at shelf.new store.old.header.cloud.0)) }
+    ensures never_long { (list : List Command) (c : Chain) (entry : FileEntry)
+        → IsDelete list c store.old user tag version entry recipe.now (V.cloud_at shelf.old store.old.header.cloud.0)
+        → NotLong result }
+
+    // whatever is known of the cloud
+    ensures never_full { MatchFull result (Unit {0}) (λ full. ⊥) }
+    ensures none { NoneStaged store.new }
+    ensures settled { IsSettled store.new }
+    ensures header { store.new.header ≡ store.old.header }
+    ensures stage { store.new.disk.journal.stage ≡ stage_after result }
+    ensures call { IsCall (V.cloud_at shelf.old) (V.cloud_at shelf.new) store.old.header.cloud.0
+        (V.faults shelf.old) (V.faults shelf.new) }
+    ensures counts { MatchFailed result
+        (KeepsCounts (V.cloud_at shelf.old store.old.header.cloud.0)
+        (V.cloud_at shelf.new store.old.header.cloud.0) (V.faults shelf.old) (V.faults shelf.new))
+        (HasFailed (V.cloud_at shelf.old store.old.header.cloud.0)
+        (V.cloud_at shelf.new store.old.header.cloud.0) (V.faults shelf.old) (V.faults shelf.new)) }
+{
+    match have_room(store, shelf, DELETE_LEN) {
+        Ok(()) => {}
+        Err(Unsettled::Long) => return Err(Unadded::Long),
+        Err(Unsettled::Failed) => return Err(Unadded::Failed),
+    }
+    match add_roomy(store, shelf, user, tag, version, recipe) {
+        Ok(()) => Ok(()),
+        Err(Failed) => Err(Unadded::Failed),
+    }
+}

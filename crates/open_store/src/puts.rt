@@ -1,0 +1,165 @@
+//! A Put.
+
+ghost use Rattle.std.specs.Prelude.{◌≡◌, ◌<◌, ◌≤◌, ℕ, List, [], ◌∷◌, ◌++◌, length, All, Some, None, OnOk, OnErr};
+ghost use Rattle.cd_edges.specs.Shelf.{IsCall, HasFailed, KeepsCounts};
+ghost use Rattle.user_dedup.specs.Dedup.{FullRoom};
+ghost use Rattle.command_list.specs.declared.command.Command.{Command};
+ghost use Rattle.command_list.specs.declared.command.Command.TheVariants as commands;
+ghost use Rattle.command_list.specs.Spending.{full_for};
+ghost use Rattle.cloud_areas.specs.Standing.{Chain};
+ghost use Rattle.cloud_disk.specs.Disk.{KeepsOrAdds, regions_end};
+ghost use Rattle.cloud_memory.specs.News.{AreNewTo, seen};
+ghost use Rattle.cloud_memory.specs.Rooms.{memory_of, full_news};
+ghost use Rattle.half_journal.specs.declared.journal.Stage.TheVariants.{AtEnd};
+ghost use Rattle.half_journal.specs.Outcomes.{stage_after as journal_after};
+ghost use Rattle.record_bodies.specs.Spelling.{body_bytes};
+ghost use Rattle.cloud_areas.specs.Adding.{with_record};
+ghost use Rattle.open_store.specs.Store.{IsOpen, IsSettled, Serves, Fits};
+ghost use Rattle.open_store.specs.Adding.{IsShareNew, IsPut, put_record, ServesMore, MadeFirst, IsUnadded, NoneStaged};
+ghost use Rattle.open_store.specs.Adding.{OnAdded, MatchFull, MatchFailed, NotLong, stage_after};
+
+use crate::room::have_room;
+use crate::writing::{add_record, write_put};
+use crate::{OpenStore, Unadded};
+use cd_base::{Fp, UserId};
+use cd_edges::{Failed, Shelf};
+use checkpoint_records::Unsettled;
+use cloud_areas::laws::law_of_laying;
+use cloud_memory::New;
+use record_body::PutItem;
+
+// Adds the Put where there is room for it.
+fn add_roomy<V: Shelf>(
+    store: &mut OpenStore,
+    shelf: &mut V,
+    user: UserId,
+    news: &[New],
+) -> Result<(), Failed>
+    requires settled { IsSettled store.old }
+    requires open { IsOpen store.old }
+    requires some { 1 ≤ length news.now }
+    requires few { length news.now ≤ 256 }
+    requires lens { All IsShareNew news.now }
+    requires new { AreNewTo (memory_of store.old.memory) user news.now }
+    requires room { full_news store.old.header.rooms user (memory_of store.old.memory) news.now ≡ None }
+    requires end { store.old.memory.shares_end ≤ regions_end }
+    requires fits { Fits store.old (length (body_bytes (put_record store.old user news.now))) }
+    ensures any_moment { (list : List Command) (c : Chain) (strings : List (List ℕ))
+        → IsPut list c store.old user news.now strings (V.cloud_at shelf.old store.old.header.cloud.0)
+        → KeepsOrAdds store.old.header list (commands.Put user strings)
+        (V.cloud_at shelf.old store.old.header.cloud.0) (V.cloud_at shelf.new store.old.header.cloud.0) }
+    ensures added { (list : List Command) (c : Chain) (strings : List (List ℕ))
+        → IsPut list c store.old user news.now strings (V.cloud_at shelf.old store.old.header.cloud.0)
+        → OnOk result (Serves (list ++ commands.Put user strings ∷ [])
+        (with_record c (put_record store.old user news.now) []) store.new
+        (V.cloud_at shelf.new store.old.header.cloud.0)) }
+    ensures none { NoneStaged store.new }
+    ensures settled { IsSettled store.new }
+    ensures header { store.new.header ≡ store.old.header }
+    ensures stage { store.new.disk.journal.stage ≡ journal_after AtEnd result }
+    ensures call { IsCall (V.cloud_at shelf.old) (V.cloud_at shelf.new) store.old.header.cloud.0
+        (V.faults shelf.old) (V.faults shelf.new) }
+    ensures failed { OnErr result (HasFailed (V.cloud_at shelf.old store.old.header.cloud.0)
+        (V.cloud_at shelf.new store.old.header.cloud.0) (V.faults shelf.old) (V.faults shelf.new)) }
+    ensures uncounted { OnOk result (KeepsCounts (V.cloud_at shelf.old store.old.header.cloud.0)
+        (V.cloud_at shelf.new store.old.header.cloud.0) (V.faults shelf.old) (V.faults shelf.new)) }
+{
+    law_of_laying();
+    let rooms = store.header.rooms;
+    let mut items = [PutItem {
+        fp: Fp([0; 32]),
+        place: None,
+    }; 256];
+    let (items, _) = items.split_at_mut(news.len());
+    match store.memory.add_put(&rooms, user, news, items) {
+        Ok(()) => {}
+        Err(_) => unreachable!(),
+    }
+    write_put(&mut store.body, user, items);
+    add_record(store, shelf)
+}
+
+/// Adds a Put of these shares, which are new to the user and no two alike, as the list's next command, where the user's rooms are
+/// wide enough. The shares that get a place, those whose fingerprint has none yet, are to be staged before, in their order.
+///
+/// Where the Put's record doesn't fit the journal, and only there, a checkpoint is made first, before any other area is
+/// written. Then what is staged is written and synced, and then the record. Whenever a crash comes, and after `Failed` too, the
+/// cloud stands for the list, or for the list with the Put; after Ok the store serves the list with the Put. `Full` names the
+/// first room that the Put would pass, of owners and shares; nothing changes then but that nothing is staged, and no device
+/// call is made. `Failed` comes only where the cloud's count of faults rose, and then the journal is shut. Nothing is staged
+/// afterwards. It takes no memory.
+pub fn add_put<V: Shelf>(
+    store: &mut OpenStore,
+    shelf: &mut V,
+    user: UserId,
+    news: &[New],
+) -> Result<(), Unadded>
+    requires settled { IsSettled store.old }
+    requires open { IsOpen store.old }
+    requires some { 1 ≤ length news.now }
+    requires few { length news.now ≤ 256 }
+    requires lens { All IsShareNew news.now }
+    requires new { AreNewTo (memory_of store.old.memory) user news.now }
+
+    // by each list that the store serves
+    ensures any_moment { (list : List Command) (c : Chain) (strings : List (List ℕ))
+        → IsPut list c store.old user news.now strings (V.cloud_at shelf.old store.old.header.cloud.0)
+        → KeepsOrAdds store.old.header list (commands.Put user strings)
+        (V.cloud_at shelf.old store.old.header.cloud.0) (V.cloud_at shelf.new store.old.header.cloud.0) }
+    ensures added { (list : List Command) (c : Chain) (strings : List (List ℕ))
+        → IsPut list c store.old user news.now strings (V.cloud_at shelf.old store.old.header.cloud.0)
+        → OnAdded result (ServesMore list c store.old (commands.Put user strings) (put_record store.old user news.now) []
+        store.new (V.cloud_at shelf.new store.old.header.cloud.0)) }
+    ensures checkpoint_first { (list : List Command) (c : Chain) (strings : List (List ℕ))
+        → IsPut list c store.old user news.now strings
+        (V.cloud_at shelf.old store.old.header.cloud.0)
+        → ¬ (Fits store.old (length (body_bytes (put_record store.old user news.now))))
+        → OnAdded result (MadeFirst list c store.old (commands.Put user strings)
+        (V.cloud_at shelf.old store.old.header.cloud.0) (V.cloud_at shelf.new store.old.header.cloud.0)) }
+    ensures full_list { (list : List Command) (c : Chain) (strings : List (List ℕ))
+        → IsPut list c store.old user news.now strings (V.cloud_at shelf.old store.old.header.cloud.0)
+        → MatchFull result
+        (full_for store.old.header.shape store.old.header.rooms list (commands.Put user strings) ≡ None)
+        (λ full. full_for store.old.header.shape store.old.header.rooms list (commands.Put user strings)
+        ≡ Some (seen full)) }
+    ensures never_long { (list : List Command) (c : Chain) (strings : List (List ℕ))
+        → IsPut list c store.old user news.now strings (V.cloud_at shelf.old store.old.header.cloud.0)
+        → NotLong result }
+
+    // whatever is known of the cloud
+    ensures full { MatchFull result
+        (full_news store.old.header.rooms user (memory_of store.old.memory) news.now ≡ None)
+        (λ full. full_news store.old.header.rooms user (memory_of store.old.memory) news.now ≡ Some (seen full)) }
+    ensures unadded { MatchFull result (Unit {0})
+        (λ full. IsUnadded store.old store.new × (shelf.new ≡ shelf.old)) }
+    ensures none { NoneStaged store.new }
+    ensures settled { IsSettled store.new }
+    ensures header { store.new.header ≡ store.old.header }
+    ensures stage { store.new.disk.journal.stage ≡ stage_after result }
+    ensures call { IsCall (V.cloud_at shelf.old) (V.cloud_at shelf.new) store.old.header.cloud.0
+        (V.faults shelf.old) (V.faults shelf.new) }
+    ensures counts { MatchFailed result
+        (KeepsCounts (V.cloud_at shelf.old store.old.header.cloud.0)
+        (V.cloud_at shelf.new store.old.header.cloud.0) (V.faults shelf.old) (V.faults shelf.new))
+        (HasFailed (V.cloud_at shelf.old store.old.header.cloud.0)
+        (V.cloud_at shelf.new store.old.header.cloud.0) (V.faults shelf.old) (V.faults shelf.new)) }
+{
+    let rooms = store.header.rooms;
+    match store.memory.full_for_put(&rooms, user, news) {
+        Some(full) => {
+            store.disk.unstage();
+            return Err(Unadded::Full(full));
+        }
+        None => {}
+    }
+    let len = store.memory.put_len(news);
+    match have_room(store, shelf, len) {
+        Ok(()) => {}
+        Err(Unsettled::Long) => return Err(Unadded::Long),
+        Err(Unsettled::Failed) => return Err(Unadded::Failed),
+    }
+    match add_roomy(store, shelf, user, news) {
+        Ok(()) => Ok(()),
+        Err(Failed) => Err(Unadded::Failed),
+    }
+}

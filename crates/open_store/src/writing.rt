@@ -1,0 +1,84 @@
+//! A command's record, written.
+
+ghost use Rattle.std.specs.Prelude.{◌≡◌, ◌+◌, ◌-◌, ◌≤◌, ◌++◌, ◌^◌, ◌∷◌, [], ℕ, List, min, length, OnOk, OnErr};
+ghost use Rattle.cd_edges.specs.Shelf.{IsCall, HasFailed, KeepsCounts};
+ghost use Rattle.container_log.specs.Laying.{Placed};
+ghost use Rattle.record_body.specs.Spelling.{item_bytes};
+ghost use Rattle.record_bodies.specs.Spelling.{Body, Put, body_bytes};
+ghost use Rattle.command_list.specs.declared.command.Command.{Command};
+ghost use Rattle.cloud_areas.specs.Adding.{with_record};
+ghost use Rattle.cloud_areas.specs.Standing.{Chain};
+ghost use Rattle.cloud_disk.specs.Disk.{IsOn, IsPrepared, KeepsOrAdds, KeepsFronts, EndsBehind, SameRooms};
+ghost use Rattle.open_store.specs.Store.{IsOpen, IsSettled, Fits};
+ghost use Rattle.half_journal.specs.declared.journal.Stage.TheVariants.{AtEnd};
+ghost use Rattle.half_journal.specs.Outcomes.{stage_after};
+ghost use Rattle.open_store.specs.Adding.{NoneStaged};
+
+use crate::OpenStore;
+use cd_base::UserId;
+use cd_edges::{Failed, Shelf};
+use record_bodies::BodyBuf;
+use record_body::PutItem;
+
+// Appends a share.
+fn put_one(buffer: &mut BodyBuf, item: PutItem)
+    requires { length buffer.old + 45 ≤ 65535 }
+    ensures value { buffer.new ≡ buffer.old ++ item_bytes item }
+    ensures len { length buffer.new ≤ length buffer.old + 45 }
+{
+    buffer.put_item(&item);
+}
+
+/// Writes the body of the record of a Put of these shares.
+pub(crate) fn write_put(buffer: &mut BodyBuf, user: UserId, items: &[PutItem])
+    requires { length items.now ≤ 256 }
+    ensures { buffer.new ≡ body_bytes (Put user items.now) }
+{
+    buffer.start_put(user, items.len() as u16);
+    for item in items {
+        put_one(buffer, *item);
+    }
+}
+
+/// Adds the command whose record's body is in `record` to the disk, with what is staged; the memory has it already.
+pub(crate) fn add_record<V: Shelf>(store: &mut OpenStore, shelf: &mut V) -> Result<(), Failed>
+    requires settled { IsSettled store.old }
+    requires open { IsOpen store.old }
+    requires some { 1 ≤ length store.old.body }
+    requires fits { Fits store.old (length store.old.body) }
+
+    ensures any_moment { (list : List Command) (c : Chain) (command : Command) (b : Body) (laid : List Placed)
+        → IsPrepared store.old.header list c command b laid store.old.disk store.old.body
+        (V.cloud_at shelf.old store.old.header.cloud.0)
+        → KeepsOrAdds store.old.header list command (V.cloud_at shelf.old store.old.header.cloud.0)
+        (V.cloud_at shelf.new store.old.header.cloud.0) }
+    ensures added { (list : List Command) (c : Chain) (command : Command) (b : Body) (laid : List Placed)
+        → IsPrepared store.old.header list c command b laid store.old.disk store.old.body
+        (V.cloud_at shelf.old store.old.header.cloud.0)
+        → OnOk result (IsOn store.old.header (list ++ command ∷ []) (with_record c b laid) store.new.disk
+        (V.cloud_at shelf.new store.old.header.cloud.0)
+        × KeepsFronts store.old.disk (V.cloud_at shelf.old store.old.header.cloud.0)
+        (V.cloud_at shelf.new store.old.header.cloud.0)) }
+    ensures ends { OnOk result (EndsBehind store.old.disk store.new.disk store.old.body) }
+    ensures commands { OnOk result (store.new.commands ≡ min (store.old.commands + 1) (2 ^ 64 - 1)) }
+    ensures same { store.new ≡ record store.old { disk = store.new.disk; commands = store.new.commands } }
+    ensures settled { IsSettled store.new }
+    ensures rooms { SameRooms store.old.disk store.new.disk }
+    ensures none { NoneStaged store.new }
+    ensures stage { store.new.disk.journal.stage ≡ stage_after AtEnd result }
+    ensures call { IsCall (V.cloud_at shelf.old) (V.cloud_at shelf.new) store.old.header.cloud.0
+        (V.faults shelf.old) (V.faults shelf.new) }
+    ensures failed { OnErr result (HasFailed (V.cloud_at shelf.old store.old.header.cloud.0)
+        (V.cloud_at shelf.new store.old.header.cloud.0) (V.faults shelf.old) (V.faults shelf.new)) }
+    ensures uncounted { OnOk result (KeepsCounts (V.cloud_at shelf.old store.old.header.cloud.0)
+        (V.cloud_at shelf.new store.old.header.cloud.0) (V.faults shelf.old) (V.faults shelf.new)) }
+{
+    let cloud = store.header.cloud;
+    match store.disk.add(shelf, cloud, store.body.as_slice()) {
+        Ok(()) => {
+            store.commands = store.commands.saturating_add(1);
+            Ok(())
+        }
+        Err(Failed) => Err(Failed),
+    }
+}
