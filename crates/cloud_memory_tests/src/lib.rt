@@ -4,8 +4,4 @@
 #[cfg(test)]
 mod limits;
 #[cfg(test)]
-mod lists;
-#[cfg(test)]
 mod puts;
-#[cfg(test)]
-mod walks;

@@ -1,18 +1,13 @@
 //! As many users as there may be, each at its limits, and a user without a room.
 
-ghost use Rattle.std.specs.Prelude.{◌≡◌, length};
-ghost use Rattle.cloud_memory.specs.Rooms.{HasRooms};
-
-use crate::lists::{File, RECIPE};
-use crate::walks::{commit, delete, put_two, recipe_bytes, recipe_in};
 use cd_base::{Bytes, Fp, NoMemory, Room, UserId};
+use cloud_lists::{File, Kept, RECIPE, recipe_bytes, recipe_in};
 use cloud_memory::{CloudMemory, Full, New};
 use journal_start::Rooms;
 use recipe::RecipeView;
 use record_body::PutItem;
 use share_index::Place;
 use std::alloc::Global;
-use std::process::Abort;
 use std::test::Fail;
 
 // A user's own share, and the one that all users have.
@@ -50,168 +45,156 @@ fn full(room: Room, used: u64, need: u64, limit: u64) -> Full {
     }
 }
 
-fn file(user: u8) -> File {
+fn file(user: u8, version: u64) -> File {
     File {
         user: u32::from(user),
         tag: user,
-        version: 1,
+        version,
         at: 0,
+        fp: Fp([user; 32]),
         items: [user, user],
     }
 }
 
+// The part of a share that lies at this place.
+fn part(share: New, at: Option<u64>) -> PutItem {
+    PutItem {
+        fp: share.fp,
+        place: match at {
+            Some(at) => Some(Place { at, len: share.len }),
+            None => None,
+        },
+    }
+}
+
 // Puts the user's two shares, and then has no room for two more.
-fn fill_shares(rt: &impl Abort, memory: &mut CloudMemory, rooms: &Rooms, user: u8)
-    requires { HasRooms rooms.now memory.old }
-    ensures { HasRooms rooms.now memory.new }
-{
-    let at = memory.shares_end();
-    let place = Some(Place { at, len: 11 });
-    let first = PutItem {
-        fp: own(user).fp,
-        place,
-    };
-    let behind = Some(Place {
-        at: at.wrapping_add(11),
-        len: 11,
-    });
-    let second = PutItem {
-        fp: common().fp,
-        place: if user == 0 { behind } else { None },
-    };
-    let put = put_two(memory, rooms, u32::from(user), own(user), common());
-    assert_eq!(rt; put, Some(Ok([first, second])));
-    let more = put_two(
-        memory,
-        rooms,
-        u32::from(user),
-        own(user.wrapping_add(1)),
-        own(user.wrapping_add(2)),
-    );
-    assert_eq!(rt; more, Some(Err(full(Room::Owners, 2, 2, 2))));
+fn are_shares_full(kept: &mut Kept, user: u8) -> bool {
+    let at = kept.memory.shares_end();
+    let behind = if user == 0 { Some(11) } else { None };
+    let first = part(own(user), Some(at));
+    let second = part(common(), behind);
+    let put = kept.put_two(u32::from(user), own(user), common());
+    let next = own(user.wrapping_add(1));
+    let more = kept.put_two(u32::from(user), next, own(user.wrapping_add(2)));
+    put == Some(Ok([first, second])) && more == Some(Err(full(Room::Owners, 2, 2, 2)))
 }
 
 // Commits the user's one version, and then has no room for another.
-fn fill_files(
-    rt: &impl Abort,
-    memory: &mut CloudMemory,
-    rooms: &Rooms,
-    user: u8,
-    recipe: &RecipeView<'_>,
-)
-    requires { HasRooms rooms.now memory.old }
-    ensures { HasRooms rooms.now memory.new }
-{
-    let number = u32::from(user);
-    let at = memory.recipes_end();
-    match commit(memory, rooms, number, user, 1, [user, user], recipe) {
-        Some(Ok(body)) => assert_eq!(rt; (body.at, body.len), (at, RECIPE)),
-        _ => assert!(rt; false),
-    }
-    match commit(memory, rooms, number, user, 2, [user, user], recipe) {
-        Some(Err(refused)) => assert_eq!(rt; refused, full(Room::Files, 1, 1, 1)),
-        _ => assert!(rt; false),
+fn are_files_full(kept: &mut Kept, user: u8, recipe: &RecipeView<'_>) -> bool {
+    let at = kept.memory.recipes_end();
+    let placed = match kept.commit(&file(user, 1), recipe) {
+        Some(Ok(body)) => (body.at, body.len) == (at, RECIPE),
+        _ => false,
+    };
+    kept.commit(&file(user, 2), recipe) == Some(Err(full(Room::Files, 1, 1, 1))) && placed
+}
+
+// Whether the user is at its limits then, and all answers were as they have to be.
+fn is_full(kept: &mut Kept, user: u8, bytes: &Bytes) -> bool {
+    match recipe_in(bytes) {
+        Some(recipe) => are_shares_full(kept, user) && are_files_full(kept, user, &recipe),
+        None => false,
     }
 }
 
-// What a user at its limits has.
-fn is_filled(rt: &impl Abort, memory: &CloudMemory, user: u8) {
+// Whether the user has what one at its limits has.
+fn is_filled(memory: &CloudMemory, user: u8) -> bool {
     let number = UserId(u32::from(user));
-    assert_eq!(rt; memory.uses(number, &own(user).fp), Some(2));
-    assert_eq!(rt; memory.uses(number, &common().fp), Some(0));
-    assert_eq!(rt; memory.owns(number, &own(user.wrapping_add(1)).fp), false);
     let row = memory.spent(number);
-    assert_eq!(rt;
-        (row.owners, row.shares, row.recipes),
-        (2, 22, u64::from(RECIPE))
-    );
+    memory.uses(number, &own(user).fp) == Some(2)
+        && memory.uses(number, &common().fp) == Some(0)
+        && !memory.owns(number, &own(user.wrapping_add(1)).fp)
+        && (row.owners, row.shares, row.recipes) == (2, 22, u64::from(RECIPE))
 }
 
-fn fill_user(
-    rt: &impl Abort,
-    alloc: Global,
-    memory: &mut CloudMemory,
-    rooms: &Rooms,
-    user: u8,
-) -> Result<(), Fail>
-    requires { HasRooms rooms.now memory.old }
-    ensures { HasRooms rooms.now memory.new }
-{
-    let bytes = recipe_bytes(alloc, [user, user])?;
-    match recipe_in(&bytes) {
-        Some(recipe) => {
-            fill_shares(rt, memory, rooms, user);
-            fill_files(rt, memory, rooms, user, &recipe);
-        }
-        None => assert!(rt; false),
-    }
-    Ok(())
-}
-
-fn fill_users(
-    rt: &impl Abort,
-    alloc: Global,
-    memory: &mut CloudMemory,
-    rooms: &Rooms,
-) -> Result<(), Fail>
-    requires { HasRooms rooms.now memory.old }
-    ensures { HasRooms rooms.now memory.new }
-{
+fn are_full(alloc: Global, kept: &mut Kept) -> Result<bool, NoMemory> {
+    let mut well = true;
     for user in 0u8..=255 {
-        fill_user(rt, alloc, memory, rooms, user)?;
+        let bytes = recipe_bytes(alloc, [user, user])?;
+        well = is_full(kept, user, &bytes) && well;
     }
-    Ok(())
+    Ok(well)
+}
+
+fn are_filled(memory: &CloudMemory) -> bool {
+    let mut well = true;
+    for user in 0u8..=255 {
+        well = is_filled(memory, user) && well;
+    }
+    well
+}
+
+// With its one entry user 77 loses what that alone names, and no one else does.
+fn loses(kept: &mut Kept, bytes: &Bytes) -> bool {
+    match recipe_in(bytes) {
+        Some(recipe) => kept.delete(&file(77, 1), &recipe),
+        None => return false,
+    }
+    let memory = &kept.memory;
+    memory.uses(UserId(77), &own(77).fp) == None
+        && memory.uses(UserId(77), &common().fp) == Some(0)
+        && is_filled(memory, 76)
+        && is_filled(memory, 78)
+}
+
+// So many users, each with rooms for two shares of 11 bytes and one file.
+fn rooms(users: u32) -> Rooms {
+    Rooms {
+        users,
+        shares: 22,
+        recipes: 200,
+        owners: 2,
+        files: 1,
+    }
+}
+
+fn fills_and_loses(alloc: Global, kept: &mut Kept, bytes: &Bytes) -> Result<bool, NoMemory> {
+    let full = are_full(alloc, kept)?;
+    Ok(full && are_filled(&kept.memory) && loses(kept, bytes))
+}
+
+fn with_memory(alloc: Global, bytes: &Bytes) -> Result<bool, NoMemory> {
+    let mut kept = Kept::make(alloc, rooms(256))?;
+    fills_and_loses(alloc, &mut kept, bytes)
+}
+
+fn all_full(alloc: Global) -> Result<bool, NoMemory> {
+    let bytes = recipe_bytes(alloc, [77, 77])?;
+    with_memory(alloc, &bytes)
 }
 
 #[test]
 fn all_users_at_their_limits(rt: HostRuntime) -> Result<(), Fail> {
-    let rooms = Rooms {
-        users: 256,
-        shares: 22,
-        recipes: 200,
-        owners: 2,
-        files: 1,
-    };
-    assert!(rt; rooms.are_allowed());
-    let mut memory = CloudMemory::make(rt.alloc(), &rooms)?;
-    fill_users(&rt, rt.alloc(), &mut memory, &rooms)?;
-    for user in 0u8..=255 {
-        is_filled(&rt, &memory, user);
-    }
-    // with its one entry a user loses what that alone names, and no one else does
-    let bytes = recipe_bytes(rt.alloc(), [77, 77])?;
-    match recipe_in(&bytes) {
-        Some(recipe) => delete(&mut memory, &rooms, file(77), &recipe),
-        None => assert!(rt; false),
-    }
-    assert_eq!(rt; memory.uses(UserId(77), &own(77).fp), None);
-    assert_eq!(rt; memory.uses(UserId(77), &common().fp), Some(0));
-    is_filled(&rt, &memory, 76);
-    is_filled(&rt, &memory, 78);
+    let well = all_full(rt.alloc())?;
+    assert!(rt; well);
     Ok(())
+}
+
+// A user whose number is the number of users has no room: for owners first of a Put, and for files first of a Commit.
+fn has_no_room(kept: &mut Kept, bytes: &Bytes) -> bool {
+    let put = kept.put_two(3, own(1), common());
+    let commit = match recipe_in(bytes) {
+        Some(recipe) => kept.commit(&file(3, 1), &recipe),
+        None => None,
+    };
+    put == Some(Err(full(Room::Owners, 0, 2, 0)))
+        && commit == Some(Err(full(Room::Files, 0, 1, 0)))
+        && kept.memory.spent(UserId(3)).owners == 0
+}
+
+fn with_three_rooms(alloc: Global, bytes: &Bytes) -> Result<bool, NoMemory> {
+    let mut kept = Kept::make(alloc, rooms(3))?;
+    Ok(has_no_room(&mut kept, bytes))
+}
+
+fn without_a_room(alloc: Global) -> Result<bool, NoMemory> {
+    let bytes = empty_bytes(alloc)?;
+    with_three_rooms(alloc, &bytes)
 }
 
 #[test]
 fn a_user_without_a_room(rt: HostRuntime) -> Result<(), Fail> {
-    let rooms = Rooms {
-        users: 3,
-        shares: 22,
-        recipes: 200,
-        owners: 2,
-        files: 1,
-    };
-    assert!(rt; rooms.are_allowed());
-    let mut memory = CloudMemory::make(rt.alloc(), &rooms)?;
-    let put = put_two(&mut memory, &rooms, 3, own(1), common());
-    assert_eq!(rt; put, Some(Err(full(Room::Owners, 0, 2, 0))));
-    let bytes = empty_bytes(rt.alloc())?;
-    match recipe_in(&bytes) {
-        Some(recipe) => {
-            let refused = commit(&mut memory, &rooms, 3, 1, 1, [0, 0], &recipe);
-            assert!(rt; refused == Some(Err(full(Room::Files, 0, 1, 0))));
-        }
-        None => assert!(rt; false),
-    }
-    assert_eq!(rt; memory.spent(UserId(3)).owners, 0);
+    let well = without_a_room(rt.alloc())?;
+    assert!(rt; well);
     Ok(())
 }

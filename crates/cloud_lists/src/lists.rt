@@ -1,6 +1,6 @@
-//! A cloud as plain lists, which a memory is compared with. Shares go by numbers, and each recipe names two of them.
+//! A cloud as plain lists. Shares go by numbers, and each recipe names two of them.
 
-use cd_base::Room;
+use cd_base::{Fp, Room};
 use cloud_memory::Full;
 use journal_start::Rooms;
 use share_index::Place;
@@ -10,21 +10,22 @@ use std::alloc::{AllocError, Global};
 const CONTAINER: u64 = 4_194_304;
 
 /// The bytes of a recipe of two items.
-pub(crate) const RECIPE: u32 = 97;
+pub const RECIPE: u32 = 97;
 
-/// An entry of a user's: where its recipe lies, and the numbers of the shares that it names.
+/// An entry of a user's: where its recipe lies, the recipe's SHA-256, and the numbers of the shares that it names.
 #[derive(Clone, Copy, PartialEq)]
-pub(crate) struct File {
+pub struct File {
     pub user: u32,
     pub tag: u8,
     pub version: u64,
     pub at: u64,
+    pub fp: Fp,
     pub items: [u8; 2],
 }
 
 /// What a command spent: shares, their bytes, and bytes of recipes.
 #[derive(Clone, Copy)]
-pub(crate) struct Cost {
+pub struct Cost {
     pub user: u32,
     pub owners: u64,
     pub shares: u64,
@@ -33,7 +34,7 @@ pub(crate) struct Cost {
 
 /// The lists, and where shares and recipes end.
 #[derive(Drop)]
-pub(crate) struct Lists {
+pub struct Lists {
     pub places: Vec<(u8, Place)>,
     pub owned: Vec<(u32, u8)>,
     pub files: Vec<File>,
@@ -42,9 +43,9 @@ pub(crate) struct Lists {
     pub recipes_end: u64,
 }
 
-/// The length of a share: every third one is long.
-pub(crate) fn len_of(number: u8) -> u32 {
-    if number % 3 == 0 { 1_500_000 } else { 11 }
+/// The length of a share: every third one is as long as shares may be.
+pub fn len_of(number: u8) -> u32 {
+    if number % 3 == 0 { 8208 } else { 11 }
 }
 
 // The room, where so much more would pass its limit.
@@ -63,7 +64,7 @@ fn full(room: Room, used: u64, need: u64, limit: u64) -> Option<Full> {
 
 impl Lists {
     /// No commands, with the blobs behind this place.
-    pub(crate) fn new(alloc: Global, start: u64) -> Lists {
+    pub fn new(alloc: Global, start: u64) -> Lists {
         Lists {
             places: Vec::new(alloc),
             owned: Vec::new(alloc),
@@ -74,8 +75,17 @@ impl Lists {
         }
     }
 
+    /// Gives a share that nobody owns this place, behind which the shares end.
+    pub fn keep(&mut self, number: u8, at: u64) -> Result<Place, AllocError> {
+        let len = len_of(number);
+        let place = Place { at, len };
+        self.places.push((number, place))?;
+        self.shares_end = at.wrapping_add(u64::from(len));
+        Ok(place)
+    }
+
     /// Where a share lies.
-    pub(crate) fn place_of(&self, number: u8) -> Option<Place> {
+    pub fn place_of(&self, number: u8) -> Option<Place> {
         for held in &self.places {
             if held.0 == number {
                 return Some(held.1);
@@ -85,7 +95,7 @@ impl Lists {
     }
 
     /// Whether the user owns a share.
-    pub(crate) fn owns(&self, user: u32, number: u8) -> bool {
+    pub fn owns(&self, user: u32, number: u8) -> bool {
         for owned in &self.owned {
             if owned.0 == user && owned.1 == number {
                 return true;
@@ -108,7 +118,7 @@ impl Lists {
     }
 
     /// How often the user's entries name a share that it owns.
-    pub(crate) fn uses(&self, user: u32, number: u8) -> Option<u32> {
+    pub fn uses(&self, user: u32, number: u8) -> Option<u32> {
         if self.owns(user, number) {
             Some(self.named(user, number))
         } else {
@@ -117,7 +127,7 @@ impl Lists {
     }
 
     /// The user's entry of a version.
-    pub(crate) fn entry(&self, user: u32, tag: u8, version: u64) -> Option<File> {
+    pub fn entry(&self, user: u32, tag: u8, version: u64) -> Option<File> {
         for file in &self.files {
             if file.user == user && file.tag == tag && file.version == version {
                 return Some(*file);
@@ -127,7 +137,7 @@ impl Lists {
     }
 
     /// The user's least tag and version above the last ones.
-    pub(crate) fn after(&self, user: u32, last: Option<(u8, u64)>) -> Option<(u8, u64)> {
+    pub fn after(&self, user: u32, last: Option<(u8, u64)>) -> Option<(u8, u64)> {
         let mut least: Option<(u8, u64)> = None;
         for file in &self.files {
             let key = (file.tag, file.version);
@@ -147,7 +157,7 @@ impl Lists {
     }
 
     /// How many entries the user has.
-    pub(crate) fn files_of(&self, user: u32) -> u32 {
+    pub fn files_of(&self, user: u32) -> u32 {
         let mut count = 0u32;
         for file in &self.files {
             if file.user == user {
@@ -158,7 +168,7 @@ impl Lists {
     }
 
     /// What the user has spent.
-    pub(crate) fn spent(&self, user: u32) -> Cost {
+    pub fn spent(&self, user: u32) -> Cost {
         let mut sum = Cost {
             user,
             owners: 0,
@@ -176,13 +186,7 @@ impl Lists {
     }
 
     /// The first room that a Put of so many shares, with so many bytes, would pass.
-    pub(crate) fn full_put(
-        &self,
-        rooms: &Rooms,
-        user: u32,
-        count: u64,
-        bytes: u64,
-    ) -> Option<Full> {
+    pub fn full_put(&self, rooms: &Rooms, user: u32, count: u64, bytes: u64) -> Option<Full> {
         let spent = self.spent(user);
         match full(Room::Owners, spent.owners, count, u64::from(rooms.owners)) {
             Some(room) => Some(room),
@@ -191,7 +195,7 @@ impl Lists {
     }
 
     /// The first room that a Commit would pass.
-    pub(crate) fn full_commit(&self, rooms: &Rooms, user: u32) -> Option<Full> {
+    pub fn full_commit(&self, rooms: &Rooms, user: u32) -> Option<Full> {
         let files = u64::from(self.files_of(user));
         match full(Room::Files, files, 1, u64::from(rooms.files)) {
             Some(room) => Some(room),
@@ -205,7 +209,7 @@ impl Lists {
     }
 
     /// Adds a share of the user's, and answers the place that it gets, if it had none.
-    pub(crate) fn put(&mut self, user: u32, number: u8) -> Result<Option<Place>, AllocError> {
+    pub fn put(&mut self, user: u32, number: u8) -> Result<Option<Place>, AllocError> {
         let len = len_of(number);
         self.owned.push((user, number))?;
         self.costs.push(Cost {
@@ -226,24 +230,12 @@ impl Lists {
         Ok(Some(place))
     }
 
-    /// Adds an entry of the user's.
-    pub(crate) fn commit(
-        &mut self,
-        user: u32,
-        tag: u8,
-        version: u64,
-        items: [u8; 2],
-    ) -> Result<(), AllocError> {
+    /// Adds an entry, whose recipe lies behind the end of all recipes.
+    pub fn commit(&mut self, file: &File) -> Result<(), AllocError> {
         let at = self.recipes_end;
-        self.files.push(File {
-            user,
-            tag,
-            version,
-            at,
-            items,
-        })?;
+        self.files.push(File { at, ..*file })?;
         self.costs.push(Cost {
-            user,
+            user: file.user,
             owners: 0,
             shares: 0,
             recipes: u64::from(RECIPE),
@@ -266,7 +258,7 @@ impl Lists {
     }
 
     /// Takes an entry of the user's out.
-    pub(crate) fn delete(&mut self, file: File) {
+    pub fn delete(&mut self, file: File) {
         for place in 0..self.files.len() {
             if self.files[place] == file {
                 self.files.swap_remove(place);
