@@ -3,7 +3,8 @@
 #     . "$(dirname "$0")/build.sh"
 #     build NAME CRATE..
 #
-# NAME.rt.txt is the program, and the crates are those that it names; of this repository's the ones below them come too. `build`
+# NAME.rt.txt is the program, and the crates are those that it names; of this repository's the ones below them come too. Where it
+# is proved with files of specs/ and proofs/, they lie in a folder NAME, each with .txt behind its name. `build`
 # runs the program once, and leaves it in $program, what that run said in $work/log, and the folder in $work.
 set -eu
 top="$(cd "$(dirname "${BASH_SOURCE[0]}")/.." && pwd)"
@@ -23,11 +24,22 @@ take() {
     done
 }
 
+# Copies what the program of this name is proved with, if there is any, into its crate.
+proofs() {
+    local file
+    [ -d "$top/bench/$1" ] || return 0
+    (cd "$top/bench/$1" && find . -name '*.antt.txt') | while read -r file; do
+        mkdir -p "$2/$(dirname "$file")"
+        cp "$top/bench/$1/$file" "$2/${file%.txt}"
+    done
+}
+
 build() {
     local name="bench_$1"
     mkdir -p "$work/crates/$name/src"
     cp "$top/HANDLES" "$work/HANDLES"
     cp "$top/bench/$1.rt.txt" "$work/crates/$name/src/main.rt"
+    proofs "$1" "$work/crates/$name"
     shift
     echo "$name: $*" >> "$work/crates.txt"
     for crate in "$@"; do

@@ -60,6 +60,20 @@ def rounds(program, measured, count=5):
     return [min(column) for column in zip(*beside)], [min(column) for column in zip(*rows)]
 
 
+def paired(program, measured, count=10):
+    """Runs what is measured so many times, each time between two runs of the hashes, and gives the sums of each number on either side, a
+    round's hashes being the mean of its two: the machine's speed changes from minute to minute, and what takes seconds has its hashes
+    beside it. The least of each, as `rounds` gives it, compares a moment of the machine with another one's."""
+    before = hashes(program)
+    beside, rows = [], []
+    for number in range(count):
+        rows.append(measured(number))
+        after = hashes(program)
+        beside.append([(one + two) / 2 for one, two in zip(before, after)])
+        before = after
+    return [sum(column) for column in zip(*beside)], [sum(column) for column in zip(*rows)]
+
+
 def spent(process):
     """The processor seconds of a process that runs."""
     with open(f"/proc/{process.pid}/schedstat") as file:
