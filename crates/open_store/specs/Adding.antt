@@ -1,5 +1,5 @@
 -- One command more in an open store: when it may be added, and what comes of it.
-use Rattle.std.specs.Prelude.{◌≡◌, ℕ, ◌≤◌, List, [], ◌∷◌, ◌++◌, length, Some, Result, Ok, Err}
+use Rattle.std.specs.Prelude.{◌≡◌, ◌⊎◌, ℕ, ◌+◌, ◌<◌, ◌≤◌, List, [], ◌∷◌, ◌++◌, length, Some, Result, Ok, Err}
 use Rattle.cd_base.specs.declared.ids.Fp.{Fp}
 use Rattle.cd_base.specs.declared.ids.Tag.{Tag}
 use Rattle.cd_base.specs.declared.ids.UserId.{UserId}
@@ -24,7 +24,7 @@ use Rattle.command_list.specs.Asking.{IsSound}
 use Rattle.command_list.specs.Commands.{user_view}
 use Rattle.cloud_areas.specs.Adding.{with_record}
 use Rattle.cloud_areas.specs.Standing.{Chain}
-use Rattle.cloud_disk.specs.Disk.{Disk, IsOn, KeepsOrAdds, Stages, shares_laid}
+use Rattle.cloud_disk.specs.Disk.{Disk, IsOn, KeepsOrAdds, Stages, shares_laid, regions_end}
 use Rattle.cloud_memory.specs.declared.rooms.Full.{Full}
 use Rattle.cloud_memory.specs.declared.rooms.New.{New}
 use Rattle.cloud_memory.specs.News.{AreOf}
@@ -33,7 +33,9 @@ use Rattle.cloud_memory.specs.Steps.{parts_of}
 use Rattle.open_store.specs.declared.store.OpenStore.{OpenStore}
 use Rattle.open_store.specs.declared.store.Unadded.{Unadded}
 use Rattle.open_store.specs.declared.store.Unadded.TheVariants as why
+use Rattle.checkpoint_laying.specs.Laying.{records_len}
 use Rattle.checkpoint_laying.specs.Settling.{KeepsOthers}
+use Rattle.checkpoint_records.specs.Records.{records_of}
 use Rattle.checkpoint_records.specs.Known.{checkpoint_in}
 use Rattle.open_store.specs.Store.{Serves, chain_with_room}
 
@@ -64,6 +66,19 @@ NotLong (Ok v) = Unit {0}
 NotLong (Err (why.Full full)) = Unit {0}
 NotLong (Err why.Long) = ⊥
 NotLong (Err why.Failed) = Unit {0}
+
+-- A fact where there was no room for the record.
+abbrev pub WhenLong : Result (Unit {0}) Unadded → Type 0 → Type 0
+WhenLong (Ok v) P = Unit {0}
+WhenLong (Err (why.Full full)) P = Unit {0}
+WhenLong (Err why.Long) P = P
+WhenLong (Err why.Failed) P = Unit {0}
+
+-- A record of so many bytes doesn't fit even behind a checkpoint of the memory, or an area ends behind the last region.
+abbrev pub IsTooLong : OpenStore → ℕ → Type 0
+IsTooLong s len =
+    (s.disk.journal.limit < 63 + records_len (records_of s.memory) + (len + 5))
+    ⊎ ((regions_end < s.memory.shares_end) ⊎ (regions_end < s.memory.recipes_end))
 
 -- the journal's stage behind it
 abbrev pub stage_after : Result (Unit {0}) Unadded → Stage

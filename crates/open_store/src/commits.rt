@@ -1,5 +1,6 @@
 //! A Commit.
 
+ghost use Rattle.std.specs.Prelude.{◌+◌, ◌-◌, ◌^◌, min};
 ghost use Rattle.std.specs.Prelude.{◌≡◌, ◌≤◌, ℕ, List, [], ◌∷◌, ◌++◌, length, Some, None, OnOk, OnErr};
 ghost use Rattle.std.specs.FinMap.{get};
 ghost use Rattle.cd_edges.specs.Shelf.{IsCall, HasFailed, KeepsCounts};
@@ -19,9 +20,10 @@ ghost use Rattle.cloud_memory.specs.Sharing.{AreOwned};
 ghost use Rattle.half_journal.specs.declared.journal.Stage.TheVariants.{AtEnd};
 ghost use Rattle.half_journal.specs.Outcomes.{stage_after as journal_after};
 ghost use Rattle.cloud_areas.specs.Adding.{with_record};
+ghost use Rattle.cloud_memory.specs.Steps.{with_commit};
 ghost use Rattle.open_store.specs.Store.{IsOpen, IsSettled, Serves, Fits};
 ghost use Rattle.open_store.specs.Adding.{IsCommit, commit_body, ServesMore, MadeFirst, IsUnadded, NoneStaged};
-ghost use Rattle.open_store.specs.Adding.{OnAdded, MatchFull, MatchFailed, NotLong, stage_after};
+ghost use Rattle.open_store.specs.Adding.{OnAdded, MatchFull, MatchFailed, NotLong, WhenLong, IsTooLong, stage_after};
 
 use crate::room::have_room;
 use crate::writing::add_record;
@@ -66,6 +68,10 @@ fn add_roomy<V: Shelf>(
         (with_record c (bodies.Commit (commit_body store.old user tag version fp len))
         (record { place = place_of store.old.memory.recipes_end len; blob = bytes } ∷ [])) store.new
         (V.cloud_at shelf.new store.old.header.cloud.0)) }
+    ensures taken { memory_of store.new.memory
+        ≡ with_commit (fps_in recipe.now.items) (commit_body store.old user tag version fp len)
+        (memory_of store.old.memory) }
+    ensures number { OnOk result (store.new.commands ≡ min (store.old.commands + 1) (2 ^ 64 - 1)) }
     ensures none { NoneStaged store.new }
     ensures settled { IsSettled store.new }
     ensures header { store.new.header ≡ store.old.header }
@@ -151,6 +157,11 @@ pub fn add_commit<V: Shelf>(
         (λ full. full_commit store.old.header.rooms user (memory_of store.old.memory) len ≡ Some (seen full)) }
     ensures unadded { MatchFull result (Unit {0})
         (λ full. IsUnadded store.old store.new × (shelf.new ≡ shelf.old)) }
+    ensures taken { OnAdded result (memory_of store.new.memory
+        ≡ with_commit (fps_in recipe.now.items) (commit_body store.old user tag version fp len)
+        (memory_of store.old.memory)) }
+    ensures number { OnAdded result (store.new.commands ≡ min (store.old.commands + 1) (2 ^ 64 - 1)) }
+    ensures long { WhenLong result (IsTooLong store.old 89) }
     ensures none { NoneStaged store.new }
     ensures settled { IsSettled store.new }
     ensures header { store.new.header ≡ store.old.header }

@@ -1,5 +1,6 @@
 //! A Delete.
 
+ghost use Rattle.std.specs.Prelude.{◌+◌, ◌-◌, min};
 ghost use Rattle.std.specs.Prelude.{◌≡◌, ◌<◌, ◌^◌, ℕ, List, [], ◌∷◌, ◌++◌, length, IsSome, Some, OnOk, OnErr};
 ghost use Rattle.std.specs.FinMap.{get};
 ghost use Rattle.cd_edges.specs.Shelf.{IsCall, HasFailed, KeepsCounts};
@@ -24,7 +25,7 @@ ghost use Rattle.cloud_memory.specs.Memory.{Remembers};
 ghost use Rattle.cloud_memory.specs.Steps.{without_entry};
 ghost use Rattle.open_store.specs.Store.{IsOpen, IsSettled, Serves, Fits};
 ghost use Rattle.open_store.specs.Adding.{IsDelete, ServesMore, MadeFirst, NoneStaged};
-ghost use Rattle.open_store.specs.Adding.{OnAdded, MatchFull, MatchFailed, NotLong, stage_after};
+ghost use Rattle.open_store.specs.Adding.{OnAdded, MatchFull, MatchFailed, NotLong, WhenLong, IsTooLong, stage_after};
 
 use crate::room::have_room;
 use crate::writing::add_record;
@@ -88,6 +89,10 @@ fn add_roomy<V: Shelf>(
         → OnOk result (Serves (list ++ commands.Delete user tag version ∷ [])
         (with_record c (bodies.Delete (record { user = user; tag = tag; version = version })) []) store.new
         (V.cloud_at shelf.new store.old.header.cloud.0)) }
+    ensures taken { memory_of store.new.memory
+        ≡ without_entry (fps_of store.old.header.shape recipe.now) user
+        (key_of user.0 tag.0 version.0) (memory_of store.old.memory) }
+    ensures number { OnOk result (store.new.commands ≡ min (store.old.commands + 1) (2 ^ 64 - 1)) }
     ensures none { NoneStaged store.new }
     ensures settled { IsSettled store.new }
     ensures header { store.new.header ≡ store.old.header }
@@ -150,6 +155,11 @@ pub fn add_delete<V: Shelf>(
 
     // whatever is known of the cloud
     ensures never_full { MatchFull result (Unit {0}) (λ full. ⊥) }
+    ensures taken { OnAdded result (memory_of store.new.memory
+        ≡ without_entry (fps_of store.old.header.shape recipe.now) user
+        (key_of user.0 tag.0 version.0) (memory_of store.old.memory)) }
+    ensures number { OnAdded result (store.new.commands ≡ min (store.old.commands + 1) (2 ^ 64 - 1)) }
+    ensures long { WhenLong result (IsTooLong store.old 45) }
     ensures none { NoneStaged store.new }
     ensures settled { IsSettled store.new }
     ensures header { store.new.header ≡ store.old.header }

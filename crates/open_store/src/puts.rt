@@ -1,5 +1,6 @@
 //! A Put.
 
+ghost use Rattle.std.specs.Prelude.{◌+◌, ◌-◌, ◌^◌, min};
 ghost use Rattle.std.specs.Prelude.{◌≡◌, ◌<◌, ◌≤◌, ℕ, List, [], ◌∷◌, ◌++◌, length, All, Some, None, OnOk, OnErr};
 ghost use Rattle.cd_edges.specs.Shelf.{IsCall, HasFailed, KeepsCounts};
 ghost use Rattle.user_dedup.specs.Dedup.{FullRoom};
@@ -14,9 +15,10 @@ ghost use Rattle.half_journal.specs.declared.journal.Stage.TheVariants.{AtEnd};
 ghost use Rattle.half_journal.specs.Outcomes.{stage_after as journal_after};
 ghost use Rattle.record_bodies.specs.Spelling.{body_bytes};
 ghost use Rattle.cloud_areas.specs.Adding.{with_record};
+ghost use Rattle.cloud_memory.specs.Steps.{parts_of, with_put};
 ghost use Rattle.open_store.specs.Store.{IsOpen, IsSettled, Serves, Fits};
 ghost use Rattle.open_store.specs.Adding.{IsShareNew, IsPut, put_record, ServesMore, MadeFirst, IsUnadded, NoneStaged};
-ghost use Rattle.open_store.specs.Adding.{OnAdded, MatchFull, MatchFailed, NotLong, stage_after};
+ghost use Rattle.open_store.specs.Adding.{OnAdded, MatchFull, MatchFailed, NotLong, WhenLong, IsTooLong, stage_after};
 
 use crate::room::have_room;
 use crate::writing::{add_record, write_put};
@@ -53,6 +55,9 @@ fn add_roomy<V: Shelf>(
         → OnOk result (Serves (list ++ commands.Put user strings ∷ [])
         (with_record c (put_record store.old user news.now) []) store.new
         (V.cloud_at shelf.new store.old.header.cloud.0)) }
+    ensures taken { memory_of store.new.memory
+        ≡ with_put user (parts_of user (memory_of store.old.memory) news.now) (memory_of store.old.memory) }
+    ensures number { OnOk result (store.new.commands ≡ min (store.old.commands + 1) (2 ^ 64 - 1)) }
     ensures none { NoneStaged store.new }
     ensures settled { IsSettled store.new }
     ensures header { store.new.header ≡ store.old.header }
@@ -132,6 +137,10 @@ pub fn add_put<V: Shelf>(
         (λ full. full_news store.old.header.rooms user (memory_of store.old.memory) news.now ≡ Some (seen full)) }
     ensures unadded { MatchFull result (Unit {0})
         (λ full. IsUnadded store.old store.new × (shelf.new ≡ shelf.old)) }
+    ensures taken { OnAdded result (memory_of store.new.memory
+        ≡ with_put user (parts_of user (memory_of store.old.memory) news.now) (memory_of store.old.memory)) }
+    ensures number { OnAdded result (store.new.commands ≡ min (store.old.commands + 1) (2 ^ 64 - 1)) }
+    ensures long { WhenLong result (IsTooLong store.old (length (body_bytes (put_record store.old user news.now)))) }
     ensures none { NoneStaged store.new }
     ensures settled { IsSettled store.new }
     ensures header { store.new.header ≡ store.old.header }

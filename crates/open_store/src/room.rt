@@ -11,7 +11,7 @@ ghost use Rattle.checkpoint_laying.specs.Settling.{KeepsList, KeepsOthers};
 ghost use Rattle.checkpoint_records.specs.Records.{records_of};
 ghost use Rattle.checkpoint_records.specs.Known.{stage_behind, IfFailed, UnlessFailed, IfLong};
 ghost use Rattle.cloud_disk.specs.Disk.{regions_end};
-ghost use Rattle.open_store.specs.Adding.{NoneStaged};
+ghost use Rattle.open_store.specs.Adding.{NoneStaged, IsTooLong};
 ghost use Rattle.open_store.specs.Store.{IsOpen, IsSettled, Serves, Fits, chain_with_room, KeepsServing};
 
 use crate::OpenStore;
@@ -23,8 +23,8 @@ use checkpoint_records::{Unsettled, checkpoint_of_memory};
 ///
 /// Whenever a crash comes the cloud stands for the list that the store serves; after Ok the store serves it still, by the chain
 /// that has room, and the record fits. `Failed` comes only where the cloud's count of faults rose, and then the journal is shut.
-/// `Long` never comes where the store serves a list: then behind a checkpoint there is room for each record. Memory and logs
-/// are as they were, and no area but the journal is written. It takes no memory.
+/// `Long` comes where the record doesn't fit behind a checkpoint either, and never where the store serves a list. Memory and
+/// logs are as they were, and no area but the journal is written. It takes no memory.
 pub fn make_room<V: Shelf>(store: &mut OpenStore, shelf: &mut V, len: u32) -> Result<(), Unsettled>
     requires settled { IsSettled store.old }
     requires open { IsOpen store.old }
@@ -47,6 +47,8 @@ pub fn make_room<V: Shelf>(store: &mut OpenStore, shelf: &mut V, len: u32) -> Re
 
     // whatever is known of the cloud
     ensures fits { OnOk result (Fits store.new len) }
+    ensures long { IfLong result (store.old.disk.journal.limit
+        < 63 + records_len (records_of store.old.memory) + (len + 5)) }
     ensures untouched { Fits store.old len → (store.new ≡ store.old) × (shelf.new ≡ shelf.old) × IsOk result }
     ensures gate { OnOk result (¬ Fits store.old len
         → store.new.disk.journal.current.gate + 1 ≡ 63 + records_len (records_of store.old.memory)) }
@@ -109,6 +111,7 @@ pub(crate) fn have_room<V: Shelf>(
         → Serves list c store.old (V.cloud_at shelf.old store.old.header.cloud.0)
         → FitsBody body → len ≤ length (body_bytes body) → IfLong result ⊥ }
     ensures fits { OnOk result (Fits store.new len) }
+    ensures long { IfLong result (IsTooLong store.old len) }
     ensures ends { OnOk result ((store.new.memory.shares_end ≤ regions_end)
         × (store.new.memory.recipes_end ≤ regions_end)) }
     ensures same { OnOk result (KeepsServing store.old store.new) }

@@ -91,9 +91,16 @@ impl OpenStore {
         requires settled { IsSettled self.old }
         requires room { need_of self.old.disk.shares (length share.now) ≤ container_len }
         ensures answer { MatchResult result
-            (λ place. place ≡ place_of (staged_end self.old.disk.shares) (length share.now))
-            (λ full. self.old.disk.shares.limit
-            < self.old.disk.shares.end + need_of self.old.disk.shares (length share.now)) }
+            (λ place. (self.old.disk.shares.end + need_of self.old.disk.shares (length share.now)
+            ≤ self.old.disk.shares.limit)
+            × (place ≡ place_of (staged_end self.old.disk.shares) (length share.now)))
+            (λ full. (self.old.disk.shares.limit
+            < self.old.disk.shares.end + need_of self.old.disk.shares (length share.now))
+            × (full ≡ record {
+              used = self.old.disk.shares.end;
+              need = need_of self.old.disk.shares (length share.now);
+              limit = self.old.disk.shares.limit;
+            })) }
         ensures places { (blobs : List Placed) → Stages self.old.disk.shares blobs
             → IfOk result (λ place. Stages self.new.disk.shares
             (blobs ++ record { place = place; blob = share.now } ∷ [])) }
@@ -114,9 +121,16 @@ impl OpenStore {
         requires settled { IsSettled self.old }
         requires room { need_of self.old.disk.recipes (length recipe.now) ≤ container_len }
         ensures answer { MatchResult result
-            (λ place. place ≡ place_of (staged_end self.old.disk.recipes) (length recipe.now))
-            (λ full. self.old.disk.recipes.limit
-            < self.old.disk.recipes.end + need_of self.old.disk.recipes (length recipe.now)) }
+            (λ place. (self.old.disk.recipes.end + need_of self.old.disk.recipes (length recipe.now)
+            ≤ self.old.disk.recipes.limit)
+            × (place ≡ place_of (staged_end self.old.disk.recipes) (length recipe.now)))
+            (λ full. (self.old.disk.recipes.limit
+            < self.old.disk.recipes.end + need_of self.old.disk.recipes (length recipe.now))
+            × (full ≡ record {
+              used = self.old.disk.recipes.end;
+              need = need_of self.old.disk.recipes (length recipe.now);
+              limit = self.old.disk.recipes.limit;
+            })) }
         ensures places { (blobs : List Placed) → Stages self.old.disk.recipes blobs
             → IfOk result (λ place. Stages self.new.disk.recipes
             (blobs ++ record { place = place; blob = recipe.now } ∷ [])) }

@@ -81,3 +81,8 @@ returns-clause-added g c list chain bytes p =
     subst (λ (x : OpenStore). Serves (list ++ command ∷ []) (with_record chain (bodies.Commit body) (blob ∷ [])) x c2) (sym c.add_record.ensures.same)
     (served_next header list chain store.commands store.region store.memory new store.disk c.add_record.new.store.disk c0 c2 s command (bodies.Commit body) (blob ∷ []) next c.requires.settled.header.rooms c.requires.settled.format
     c.requires.settled.rooms.users c.write_commit.new.self c.add_record.new.store.commands count p.shares p.recipes on.0 on.1 ends))
+
+pub returns-clause-taken : goal.returns-clause-taken
+returns-clause-taken g c =
+    let m = memory_of c.args.store.now.memory in let names = fps_in c.args.recipe.now.items in
+    ap (λ (x : OpenStore). memory_of x.memory) c.add_record.ensures.same ∙ c.in-Ok.ensures.taken ∙ ap (λ (b : CommitBody). with_commit names b m) c.in-Ok.ensures.body

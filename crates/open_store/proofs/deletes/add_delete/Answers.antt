@@ -1,4 +1,10 @@
-use Rattle.std.proofs.Common.{◌≡◌, ℕ, [], ◌∷◌, ◌++◌, Err, sym, ap, subst, arith}
+use Rattle.std.proofs.Common.{◌≡◌, ℕ, [], ◌∷◌, ◌++◌, Err, sym, ap, subst, arith, ◌+◌, ◌∙◌}
+use Rattle.std.specs.Prelude.{◌-◌, ◌^◌, min}
+use Rattle.open_store.specs.Adding.{IsTooLong}
+use Rattle.cloud_memory.specs.Steps.{without_entry}
+use Rattle.cloud_memory.specs.Rooms.{memory_of}
+use Rattle.file_index.specs.Files.{key_of}
+use Rattle.user_dedup.specs.Requests.{fps_of}
 use Rattle.journal_start.specs.declared.start.Header.{Header}
 use Rattle.record_bodies.specs.Spelling as bodies
 use Rattle.record_bodies.specs.Spelling.{Body, body_bytes}
@@ -97,3 +103,16 @@ returns-in-Ok-add_roomy-clause-checkpoint_first g c list chain entry p not =
       since =
           subst (λ (h : Header). KeepsOrAdds h list command (at h.cloud.0) (later h.cloud.0)) header_is (c.add_roomy.ensures.any_moment list d entry moved);
     }
+
+pub returns-in-Ok-add_roomy-clause-taken : goal.returns-in-Ok-add_roomy-clause-taken
+returns-in-Ok-add_roomy-clause-taken g c =
+    c.add_roomy.ensures.taken
+    ∙ ap (λ (x : OpenStore). without_entry (fps_of x.header.shape c.args.recipe.now) c.args.user (key_of c.args.user.0 c.args.tag.0 c.args.version.0) (memory_of x.memory)) c.in-Ok.ensures.same.same
+
+pub returns-in-Ok-add_roomy-clause-number : goal.returns-in-Ok-add_roomy-clause-number
+returns-in-Ok-add_roomy-clause-number g c =
+    c.in-Ok-add_roomy.ensures.number ∙ ap (λ (x : OpenStore). min (x.commands + 1) (2 ^ 64 - 1)) c.in-Ok.ensures.same.same
+
+pub returns-in-Err-Long-clause-long : goal.returns-in-Err-Long-clause-long
+returns-in-Err-Long-clause-long g c =
+    subst (λ (why : Unsettled). IfLong {A = Unit {0}} (Err why) (IsTooLong c.args.store.now 45)) c.in-Err-Long.field-0-is c.in-Err-Long.ensures.long

@@ -1,4 +1,4 @@
-use Rattle.std.proofs.Common.{[], ◌∷◌, ◌++◌, sym, subst}
+use Rattle.std.proofs.Common.{[], ◌∷◌, ◌++◌, sym, ap, ◌∙◌, subst}
 use Rattle.file_index.specs.Files.{key_of}
 use Rattle.record_bodies.specs.Spelling as bodies
 use Rattle.user_dedup.specs.Requests.{fps_of}
@@ -58,3 +58,6 @@ returns-clause-added g c list chain entry p =
     subst (λ (x : OpenStore). Serves (list ++ command ∷ []) (with_record chain body []) x c2) (sym c.add_record.ensures.same)
     (served_next header list chain store.commands store.region store.memory new store.disk c.add_record.new.store.disk c0 c2 s command body [] next c.requires.settled.header.rooms c.requires.settled.format c.requires.settled.rooms.users
     c.write_delete.new.self c.add_record.new.store.commands count p.shares p.recipes on.0 on.1 ends))
+
+pub returns-clause-taken : goal.returns-clause-taken
+returns-clause-taken g c = ap (λ (x : OpenStore). memory_of x.memory) c.add_record.ensures.same ∙ c.forget.ensures.taken

@@ -1,5 +1,8 @@
-use Rattle.std.proofs.Common.{◌≡◌, ℕ, [], ◌∷◌, ◌++◌, inl, Err, sym, ap, ◌∙◌, subst, arith}
+use Rattle.std.proofs.Common.{◌≡◌, ℕ, [], ◌∷◌, ◌++◌, inl, Err, sym, ap, ◌∙◌, subst, arith, ◌+◌}
 use Rattle.cd_edges.proofs.Moments.{started}
+use Rattle.std.specs.Prelude.{◌-◌, ◌^◌, min}
+use Rattle.open_store.specs.Adding.{IsTooLong}
+use Rattle.cloud_memory.specs.Steps.{parts_of, with_put}
 use Rattle.journal_start.specs.declared.start.Header.{Header}
 use Rattle.command_list.specs.declared.command.Command.TheVariants as asked
 use Rattle.cloud_areas.specs.Adding.{with_record}
@@ -165,3 +168,16 @@ returns-in-Ok-add_roomy-clause-checkpoint_first g c list chain strings p not =
       since =
           subst (λ (h : Header). KeepsOrAdds h list command (at h.cloud.0) (later h.cloud.0)) header_is (c.add_roomy.ensures.any_moment list d strings moved);
     }
+
+pub returns-in-Ok-add_roomy-clause-taken : goal.returns-in-Ok-add_roomy-clause-taken
+returns-in-Ok-add_roomy-clause-taken g c =
+    c.add_roomy.ensures.taken
+    ∙ ap (λ (x : OpenStore). with_put c.args.user (parts_of c.args.user (memory_of x.memory) c.args.news.now) (memory_of x.memory)) c.in-Ok.ensures.same.same
+
+pub returns-in-Ok-add_roomy-clause-number : goal.returns-in-Ok-add_roomy-clause-number
+returns-in-Ok-add_roomy-clause-number g c =
+    c.in-Ok-add_roomy.ensures.number ∙ ap (λ (x : OpenStore). min (x.commands + 1) (2 ^ 64 - 1)) c.in-Ok.ensures.same.same
+
+pub returns-in-Err-Long-clause-long : goal.returns-in-Err-Long-clause-long
+returns-in-Err-Long-clause-long g c =
+    subst (λ (n : ℕ). IsTooLong c.args.store.now n) (c.put_len-len.ensures.len c.args.user c.requires.new) (subst (λ (why : Unsettled). IfLong {A = Unit {0}} (Err why) (IsTooLong c.args.store.now c.put_len-len.result)) c.in-Err-Long.field-0-is c.in-Err-Long.ensures.long)

@@ -70,3 +70,8 @@ returns-clause-added g c list chain strings p =
     subst (λ (x : OpenStore). Serves (list ++ command ∷ []) (with_record chain body []) x c2) (sym c.add_record.ensures.same)
     (served_next header list chain store.commands store.region store.memory new store.disk c.add_record.new.store.disk c0 c2 s command body [] next c.requires.settled.header.rooms c.requires.settled.format c.requires.settled.rooms.users
     c.write_put.new.buffer c.add_record.new.store.commands count p.shares p.recipes on.0 on.1 ends))
+
+pub returns-clause-taken : goal.returns-clause-taken
+returns-clause-taken g c =
+    let m = memory_of c.args.store.now.memory in let user = c.args.user in
+    ap (λ (x : OpenStore). memory_of x.memory) c.add_record.ensures.same ∙ c.in-Ok.ensures.taken ∙ ap (λ (items : List PutItem). with_put user items m) c.in-Ok.ensures.parts

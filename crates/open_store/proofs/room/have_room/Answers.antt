@@ -1,4 +1,6 @@
-use Rattle.std.proofs.Common.{Err, subst, arith}
+use Rattle.std.proofs.Common.{inl, inr, ◌+◌, ◌<◌, Err, subst, arith}
+use Rattle.checkpoint_laying.specs.Laying.{records_len}
+use Rattle.checkpoint_records.specs.Records.{records_of}
 use Rattle.checkpoint_records.specs.declared.whole.Unsettled.{Unsettled}
 use Rattle.checkpoint_records.specs.Known.{IfLong}
 use Rattle.cd_edges.specs.declared.area.Area.TheVariants.{Journal}
@@ -34,3 +36,14 @@ returns-then-shares_end-gt-REGIONS_END-clause-never_long g c list chain body s f
 pub returns-in-Err-Long-clause-never_long : goal.returns-in-Err-Long-clause-never_long
 returns-in-Err-Long-clause-never_long g c list chain body s fits small =
     subst (λ (why : Unsettled). IfLong {A = Unit {0}} (Err why) ⊥) c.in-Err-Long.field-0-is (c.in-Err-Long.ensures.never_long list chain body s fits small)
+
+pub returns-then-shares_end-gt-REGIONS_END-clause-long : goal.returns-then-shares_end-gt-REGIONS_END-clause-long
+returns-then-shares_end-gt-REGIONS_END-clause-long g c =
+    elim c.then-shares_end-gt-REGIONS_END.branch [
+      | then-shares_end-gt-REGIONS_END-via-then-shares_end-gt-REGIONS_END w ↦ let far = w.if-shares_end-gt-REGIONS_END.true in inr (inl (omega (arith, far, c.shares_end.ensures)))
+      | then-shares_end-gt-REGIONS_END-via-else-shares_end-gt-REGIONS_END+then-recipes_end-gt-REGIONS_END w ↦ let far = w.if-recipes_end-gt-REGIONS_END.true in inr (inr (omega (arith, far, w.recipes_end.ensures)))
+    ]
+
+pub returns-in-Err-Long-clause-long : goal.returns-in-Err-Long-clause-long
+returns-in-Err-Long-clause-long g c =
+    inl (subst (λ (why : Unsettled). IfLong {A = Unit {0}} (Err why) (c.args.store.now.disk.journal.limit < 63 + records_len (records_of c.args.store.now.memory) + (c.args.len + 5))) c.in-Err-Long.field-0-is c.in-Err-Long.ensures.long)
