@@ -4,8 +4,8 @@ use Rattle.std.specs.Prelude.{if◌then◌else◌}
 use Rattle.recipe.specs.Spelling.{file_limit}
 use Rattle.transcript.specs.declared.ending.Ending.TheVariants as endings
 use Rattle.transcript.specs.Endings.{ending_text}
-use Rattle.hellos.specs.declared.refused.Refused.{Refused}
-use Rattle.hellos.specs.Refusals.{refused_text}
+use Rattle.ports_link.specs.declared.refused.Refused.{Refused}
+use Rattle.ports_link.specs.Refusals.{refused_text}
 use Rattle.backup_command.specs.declared.carrying.CarryErr.TheVariants as errors
 use Rattle.backup_command.specs.BackedUp.{Call, IsBackedUp, SourceTooLong, HelloRefused, WentThrough, LaneFailed}
 use Rattle.backup_command.specs.Reading.{Input, IsRead, IsTooLong}

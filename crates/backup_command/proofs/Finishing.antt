@@ -6,11 +6,11 @@ use Rattle.cd_base.specs.declared.ids.Version.{Version}
 use Rattle.cd_base.specs.declared.shape.Shape.{Shape}
 use Rattle.cd_edges.specs.Causes.{Rose}
 use Rattle.cd_edges.specs.Ports.{Telling}
-use Rattle.hellos.specs.declared.judging.Asked.TheVariants.{Backup}
-use Rattle.hellos.specs.declared.greeting.Greeted.{Greeted}
-use Rattle.hellos.specs.Dialled.{AreFresh}
-use Rattle.hellos.specs.Hellos.{GreetsAll, HaveTalks}
-use Rattle.hellos.proofs.Clouds.{through}
+use Rattle.ports_link.specs.declared.judging.Asked.TheVariants.{Backup}
+use Rattle.ports_link.specs.declared.greeting.Greeted.{Greeted}
+use Rattle.ports_link.specs.Dialled.{AreFresh}
+use Rattle.ports_link.specs.Hellos.{GreetsAll, HaveTalks}
+use Rattle.ports_link.proofs.Clouds.{through}
 use Rattle.backup_command.specs.declared.carrying.CarryErr.{CarryErr}
 use Rattle.backup_command.specs.declared.carrying.CarryErr.TheVariants as errors
 use Rattle.backup_command.specs.Lanes.{numbered}

@@ -11,15 +11,15 @@ use Rattle.cd_base.specs.declared.ids.CloudNo.{CloudNo}
 use Rattle.cd_edges.specs.Ports.{Telling, Port}
 use Rattle.user_dedup.specs.Link.{Talk, SaysNothingElse}
 use Rattle.upload_job.specs.Lanes.{LaneView}
-use Rattle.lane_requests.specs.Runs.{lane_at}
+use Rattle.lane_steps.specs.Runs.{lane_at}
 use Rattle.lane_steps.specs.declared.error.StepErr.{StepErr}
 use Rattle.lane_steps.specs.declared.error.StepErr.TheVariants as errors
 use Rattle.transcript.specs.declared.line.Line.{Line}
 use Rattle.transcript.specs.Transcript.{line_text}
 use Rattle.ports_link.specs.declared.link.PortsLink.{PortsLink}
 use Rattle.ports_link.specs.Tells.{HasAsked, HasComing}
-use Rattle.hellos.specs.Dialled.{AreApart}
-use Rattle.hellos.specs.Hellos.{clouds_of}
+use Rattle.ports_link.specs.Dialled.{AreApart}
+use Rattle.ports_link.specs.Hellos.{clouds_of}
 use Rattle.upload_job.specs.declared.news.LaneNews.{LaneNews}
 use Rattle.upload_job.specs.Lane.{LaneState}
 use Rattle.backup_command.specs.declared.halt.Halt.{Halt}

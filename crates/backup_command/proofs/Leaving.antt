@@ -5,7 +5,7 @@ use Rattle.messages.specs.declared.request.Request.{Request}
 use Rattle.messages.specs.declared.reply.Reply.{Reply}
 use Rattle.messages.specs.Requests.{request_bytes}
 use Rattle.user_dedup.specs.Link.{Exchange, SaysNothingElse}
-use Rattle.lane_requests.specs.Runs.{Turn, Progress, progress_after, LaneRun, LaneAlong}
+use Rattle.lane_steps.specs.Runs.{Turn, Progress, progress_after, LaneRun, LaneAlong}
 use Rattle.lane_steps.specs.Steps.{Heard, Passed}
 use Rattle.ports_link.specs.declared.link.PortsLink.{PortsLink}
 use Rattle.ports_link.specs.Lines.{line_of}

@@ -13,11 +13,11 @@ use Rattle.ports_link.specs.declared.lines.Line.{Line}
 use Rattle.ports_link.specs.declared.link.PortsLink.{PortsLink}
 use Rattle.ports_link.specs.Lines.{no_line, line_of, with_ports, lines_for, has_port}
 use Rattle.ports_link.specs.Tells.{BringsReplies, HasComing, HasTalk}
-use Rattle.hellos.specs.declared.judging.Asked.TheVariants.{Backup}
-use Rattle.hellos.specs.declared.judging.Greeting.{Greeting}
-use Rattle.hellos.specs.Dialled.{AreApart}
-use Rattle.hellos.specs.Greetings.{AreAsAsked}
-use Rattle.hellos.specs.Hellos.{HaveTalks, clouds_of, lines_by}
+use Rattle.ports_link.specs.declared.judging.Asked.TheVariants.{Backup}
+use Rattle.ports_link.specs.declared.judging.Greeting.{Greeting}
+use Rattle.ports_link.specs.Dialled.{AreApart}
+use Rattle.ports_link.specs.Greetings.{AreAsAsked}
+use Rattle.ports_link.specs.Hellos.{HaveTalks, clouds_of, lines_by}
 use Rattle.backup_command.specs.Said.{greeted}
 use Rattle.backup_command.specs.Lanes.{numbered}
 use Rattle.backup_command.specs.Steps.{AreGreetedOn, AreReady, IsReady, ports_of}

@@ -7,7 +7,7 @@ use Rattle.upload_job.specs.declared.news.LaneNews.{LaneNews}
 use Rattle.upload_job.specs.declared.news.LaneErr.{LaneErr}
 use Rattle.upload_job.specs.Upload.{work_of}
 use Rattle.upload_job.specs.Lanes.{LaneView, AnswersAt, begun}
-use Rattle.lane_requests.specs.Reached.{IsReached, Begun, Answered}
+use Rattle.lane_steps.specs.Reached.{IsReached, Begun, Answered}
 
 answered_len : (old : List LaneView) (i : ℕ) (content : List ℕ) (result : Result LaneNews LaneErr)
     (new : List LaneView) → AnswersAt old i content result new → length new ≡ length old

@@ -14,8 +14,8 @@ use Rattle.upload_job.specs.declared.news.LaneNews.{LaneNews}
 use Rattle.upload_job.specs.Lane.{Refused}
 use Rattle.upload_job.specs.Upload.{Work}
 use Rattle.upload_job.specs.Lanes.{LaneView, with_state, Says}
-use Rattle.lane_requests.specs.Runs.{Turn, Progress, starting, moved, request_of, progress_after, LaneRun, LaneAlong}
-use Rattle.lane_requests.specs.Runs.{Tell, lane_at}
+use Rattle.lane_steps.specs.Runs.{Turn, Progress, starting, moved, request_of, progress_after, LaneRun, LaneAlong}
+use Rattle.lane_steps.specs.Runs.{Tell, lane_at}
 use Rattle.lane_steps.specs.declared.error.StepErr.{StepErr}
 use Rattle.lane_steps.specs.declared.error.StepErr.TheVariants as errors
 use Rattle.lane_steps.specs.Steps.{TalksBy, LaneSteps, Finishes}

@@ -15,13 +15,13 @@ use Rattle.transcript.specs.declared.ending.Ending.TheVariants as endings
 use Rattle.transcript.specs.declared.line.Line.{Line}
 use Rattle.transcript.specs.declared.line.Line.TheVariants as lines
 use Rattle.transcript.specs.Endings.{ending_text}
-use Rattle.hellos.specs.declared.judging.Asked.TheVariants as asked
-use Rattle.hellos.specs.declared.judging.Greeting.{Greeting}
-use Rattle.hellos.specs.declared.greeting.GreetErr.TheVariants as unmet
-use Rattle.hellos.specs.declared.refused.Refused.{Refused}
-use Rattle.hellos.specs.Dialled.{Dials}
-use Rattle.hellos.specs.Hellos.{Greets}
-use Rattle.hellos.specs.Refusals.{refused_text}
+use Rattle.ports_link.specs.declared.judging.Asked.TheVariants as asked
+use Rattle.ports_link.specs.declared.judging.Greeting.{Greeting}
+use Rattle.ports_link.specs.declared.greeting.GreetErr.TheVariants as unmet
+use Rattle.ports_link.specs.declared.refused.Refused.{Refused}
+use Rattle.ports_link.specs.Dialled.{Dials}
+use Rattle.ports_link.specs.Hellos.{Greets}
+use Rattle.ports_link.specs.Refusals.{refused_text}
 use Rattle.backup_command.specs.declared.halt.Halt.{Halt}
 use Rattle.backup_command.specs.declared.halt.Halt.TheVariants as halts
 use Rattle.backup_command.specs.Lanes.{LanesGo, numbered}

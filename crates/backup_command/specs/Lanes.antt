@@ -8,7 +8,7 @@ use Rattle.user_dedup.specs.Link.{Talk}
 use Rattle.upload_job.specs.declared.news.LaneNews.{LaneNews}
 use Rattle.upload_job.specs.Lane.{LaneState, Refused}
 use Rattle.upload_job.specs.Lanes.{LaneView, with_state, first_byte, Says}
-use Rattle.lane_requests.specs.Runs.{Turn, Progress, starting, request_of, LaneRun, LaneAlong, Tell, lane_at}
+use Rattle.lane_steps.specs.Runs.{Turn, Progress, starting, request_of, LaneRun, LaneAlong, Tell, lane_at}
 use Rattle.lane_steps.specs.declared.error.StepErr.{StepErr}
 use Rattle.lane_steps.specs.declared.error.StepErr.TheVariants as errors
 use Rattle.lane_steps.specs.Steps.{TalksBy}

@@ -4,10 +4,10 @@ use Rattle.cd_edges.specs.Ports.{Telling}
 use Rattle.messages.specs.declared.request.Request.{Request}
 use Rattle.messages.specs.Requests.{request_bytes}
 use Rattle.user_dedup.specs.Link.{Talk, first_reply, said}
-use Rattle.lane_requests.specs.Runs.{Turn}
+use Rattle.lane_steps.specs.Runs.{Turn}
 use Rattle.lane_steps.specs.Steps.{TalksBy}
 use Rattle.ports_link.specs.Tells.{HasAsked, BringsReplies, HasComing}
-use Rattle.hellos.specs.Hellos.{hello}
+use Rattle.ports_link.specs.Hellos.{hello}
 
 -- Hello was asked, and these replies are to come
 abbrev pub greeted : List (List ℕ) → Talk

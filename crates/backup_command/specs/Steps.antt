@@ -8,7 +8,7 @@ use Rattle.user_dedup.specs.Link.{Talk}
 use Rattle.upload_job.specs.declared.news.LaneNews.{LaneNews}
 use Rattle.upload_job.specs.Lane.{LaneState}
 use Rattle.upload_job.specs.Lanes.{LaneView, with_state, lanes_begun}
-use Rattle.lane_requests.specs.Runs.{lane_at}
+use Rattle.lane_steps.specs.Runs.{lane_at}
 use Rattle.lane_steps.specs.declared.error.StepErr.{StepErr}
 use Rattle.lane_steps.specs.declared.error.StepErr.TheVariants as errors
 use Rattle.transcript.specs.declared.line.Line.{Line}
@@ -16,12 +16,12 @@ use Rattle.transcript.specs.declared.line.Line.TheVariants as lines
 use Rattle.ports_link.specs.declared.link.PortsLink.{PortsLink}
 use Rattle.ports_link.specs.Lines.{line_of}
 use Rattle.ports_link.specs.Tells.{BringsReplies, HasTalk}
-use Rattle.hellos.specs.declared.judging.Asked.TheVariants as asked
-use Rattle.hellos.specs.declared.greeting.Greeted.{Greeted}
-use Rattle.hellos.specs.declared.greeting.GreetErr.TheVariants as unmet
-use Rattle.hellos.specs.declared.refused.Refused.{Refused}
-use Rattle.hellos.specs.Dialled.{Dials, AreApart}
-use Rattle.hellos.specs.Hellos.{Greets, HaveTalks, clouds_of}
+use Rattle.ports_link.specs.declared.judging.Asked.TheVariants as asked
+use Rattle.ports_link.specs.declared.greeting.Greeted.{Greeted}
+use Rattle.ports_link.specs.declared.greeting.GreetErr.TheVariants as unmet
+use Rattle.ports_link.specs.declared.refused.Refused.{Refused}
+use Rattle.ports_link.specs.Dialled.{Dials, AreApart}
+use Rattle.ports_link.specs.Hellos.{Greets, HaveTalks, clouds_of}
 use Rattle.backup_command.specs.declared.halt.Halt.{Halt}
 use Rattle.backup_command.specs.declared.halt.Halt.TheVariants as halts
 use Rattle.backup_command.specs.declared.carrying.CarryErr.{CarryErr}

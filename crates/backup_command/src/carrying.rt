@@ -6,7 +6,7 @@ ghost use Rattle.cd_base.specs.Limits.{IsPath};
 ghost use Rattle.cd_edges.specs.Causes.{Rose};
 ghost use Rattle.recipe.specs.Spelling.{file_limit};
 ghost use Rattle.upload_job.specs.Lanes.{lanes_begun};
-ghost use Rattle.lane_requests.specs.Reached.{IsReached};
+ghost use Rattle.lane_steps.specs.Reached.{IsReached};
 ghost use Rattle.backup_command.specs.BackedUp.{Call, OnlyDialled};
 ghost use Rattle.backup_command.specs.Steps.{AreGreetedOn, BringsFile, Carries, IfLost, IsCarryLost, IsNumbered};
 ghost use Rattle.backup_command.specs.Steps.{LanesWent};
@@ -17,8 +17,9 @@ use crate::news::{put_end, put_line};
 use cd_base::{Bytes, NoMemory, Shape, UserId, Version};
 use cd_edges::Ports;
 use frames::ReplyBuf;
-use hellos::{Asked, DialErr, GreetErr, Greeted, Refused, dial_all, greet_all};
-use ports_link::{PortsLink, lines_of};
+use ports_link::{
+    Asked, DialErr, GreetErr, Greeted, PortsLink, Refused, dial_all, greet_all, lines_of,
+};
 use std::alloc::Global;
 use transcript::Line;
 use upload_job::Job;

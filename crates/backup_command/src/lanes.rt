@@ -6,7 +6,7 @@ ghost use Rattle.cd_edges.specs.Causes.{Rose};
 ghost use Rattle.cd_edges.specs.Ports.{Telling};
 ghost use Rattle.ports_link.specs.Tells.{telling};
 ghost use Rattle.user_dedup.specs.Link.{SaysNothingElse};
-ghost use Rattle.lane_requests.specs.Reached.{IsReached};
+ghost use Rattle.lane_steps.specs.Reached.{IsReached};
 ghost use Rattle.backup_command.specs.Steps.{AreReady, IfLost, IsReady, LaneGoes, LanesWent, Leaves, Talked, ports_of};
 
 use crate::halt::Halt;

@@ -4,12 +4,12 @@ ghost use Rattle.std.specs.Prelude.{Some};
 ghost use Rattle.recipe.specs.Spelling.{file_limit};
 ghost use Rattle.transcript.specs.declared.ending.Ending.TheVariants as endings;
 ghost use Rattle.transcript.specs.Endings.{ending_text};
-ghost use Rattle.hellos.specs.Refusals.{refused_text};
+ghost use Rattle.ports_link.specs.Refusals.{refused_text};
 ghost use Rattle.backup_command.specs.Writing.{Writes, output_of};
 
 use cd_base::{Bytes, FILE_LIMIT, NoMemory};
 use cd_edges::{Sink, write_all};
-use hellos::{Refused, write_refused};
+use ports_link::{Refused, write_refused};
 use std::alloc::Global;
 use transcript::{Ending, write_ending};
 

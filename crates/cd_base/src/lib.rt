@@ -11,6 +11,7 @@ mod ids;
 mod lengths;
 mod limits;
 mod path;
+mod place;
 mod rooms;
 mod shape;
 
@@ -24,5 +25,6 @@ pub use ids::{CloudNo, Fp, NoMemory, Tag, UserId, Version};
 pub use lengths::share_len;
 pub use limits::{FILE_LIMIT, RECIPE_LIMIT, SECRET_LIMIT};
 pub use path::is_path;
+pub use place::Place;
 pub use rooms::{Room, Rooms};
 pub use shape::Shape;

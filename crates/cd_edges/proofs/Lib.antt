@@ -1,5 +1,5 @@
-mod Known
 pub mod Calls
+mod Known
 pub mod Moments
 pub mod Overwritten
 pub mod Passing
@@ -7,3 +7,4 @@ pub mod Runs
 pub mod Shrinks
 pub mod Since
 pub mod Torn
+pub mod Windows

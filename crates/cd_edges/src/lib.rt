@@ -8,6 +8,7 @@ mod shelf;
 mod stream;
 mod synced;
 mod whole;
+mod window;
 
 pub use area::Area;
 pub use laws::{law_of_images, law_of_overwriting, law_of_stable};
@@ -16,3 +17,4 @@ pub use shelf::Shelf;
 pub use stream::{Failed, Sink, SinkFault, Source, write_all};
 pub use synced::write_synced;
 pub use whole::{receive, send_all};
+pub use window::Window;

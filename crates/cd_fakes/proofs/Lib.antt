@@ -1,2 +1,3 @@
 pub mod CloudSteps
 pub mod CloudsAt
+pub mod Copied

@@ -2,4 +2,6 @@ pub mod Clouds
 pub mod CloudsRead
 pub mod Counts
 pub mod Shelves
+pub mod Streams
+pub mod Told
 pub mod Untold

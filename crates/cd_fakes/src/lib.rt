@@ -3,14 +3,18 @@
 
 mod cloud;
 mod count;
+mod ports;
 mod shelf;
 mod sink;
 mod source;
+mod stream;
 mod untold;
 
 pub use cloud::MemCloud;
 pub use count::CallCount;
+pub use ports::MemPorts;
 pub use shelf::MemShelf;
 pub use sink::MemSink;
 pub use source::MemSource;
+pub use stream::MemStream;
 pub use untold::UntoldShelf;

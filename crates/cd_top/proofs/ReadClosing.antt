@@ -6,10 +6,10 @@ use Rattle.std.specs.Io.KnownBytes.{Appends}
 use Rattle.cd_edges.specs.Causes.{Rose}
 use Rattle.cd_edges.specs.Disk.{Cloud}
 use Rattle.user_dedup.specs.declared.command.Command.{Command}
-use Rattle.disk_reading.specs.declared.end.ReadEnd.{ReadEnd}
-use Rattle.disk_reading.specs.declared.end.ReadEnd.TheVariants as ends
-use Rattle.disk_reading.specs.Disks.{AreReadable, IsSpared, KeepsDisks}
-use Rattle.disk_reading.specs.Ends.{Outside, CountsSink, Gives, IsOfOpening, Says}
+use Rattle.read_command.specs.declared.end.ReadEnd.{ReadEnd}
+use Rattle.read_command.specs.declared.end.ReadEnd.TheVariants as ends
+use Rattle.read_command.specs.Disks.{AreReadable, IsSpared, KeepsDisks}
+use Rattle.read_command.specs.Ends.{Outside, CountsSink, Gives, IsOfOpening, Says}
 use Rattle.command_words.specs.Asked.{AskedRead}
 use Rattle.cd_top.specs.Read.{Around, IsClosed, IsRead, ReadTo, NoPlace, given_of}
 use Rattle.cd_top.specs.Read.{last_line, status_of}

@@ -15,9 +15,9 @@ use Rattle.session.specs.Fault.{Fault}
 use Rattle.session.specs.Lines.{next_line}
 use Rattle.session.specs.Reading.{header_at}
 use Rattle.session.specs.Scripts.{Place, Begins}
-use Rattle.vault.specs.Vault.{Setting, opening}
-use Rattle.vault.specs.Run.{Answered}
-use Rattle.vault.specs.Headline.{Session, IsRun, DisksStand}
+use Rattle.session_model.specs.Vault.{Setting, opening}
+use Rattle.session_model.specs.Run.{Answered}
+use Rattle.session_model.specs.Headline.{Session, IsRun, DisksStand}
 use Rattle.replay_core.specs.Endings.{Call, NoEnding, HasCause}
 use Rattle.replay_core.specs.Replayed.{Replayed, BeginsEmpty}
 use Rattle.cd_top.specs.Replay.{IsReplayed}

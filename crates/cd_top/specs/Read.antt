@@ -7,10 +7,10 @@ use Rattle.kept_files.specs.Kept.{key_of}
 use Rattle.transcript.specs.declared.ending.Ending.TheVariants as endings
 use Rattle.transcript.specs.Endings.{ending_text}
 use Rattle.user_dedup.specs.declared.command.Command.{Command}
-use Rattle.disk_reading.specs.declared.end.ReadEnd.{ReadEnd}
-use Rattle.disk_reading.specs.declared.end.ReadEnd.TheVariants as ends
-use Rattle.disk_reading.specs.Disks.{AreReadable, IsSpared, KeepsDisks}
-use Rattle.disk_reading.specs.Ends.{Outside, CountsSink, Due, Gives, IsOfOpening, Says, due_of}
+use Rattle.read_command.specs.declared.end.ReadEnd.{ReadEnd}
+use Rattle.read_command.specs.declared.end.ReadEnd.TheVariants as ends
+use Rattle.read_command.specs.Disks.{AreReadable, IsSpared, KeepsDisks}
+use Rattle.read_command.specs.Ends.{Outside, CountsSink, Due, Gives, IsOfOpening, Says, due_of}
 use Rattle.command_words.specs.Asked.{AskedRead}
 use Rattle.cd_top.specs.Replay.{WritesFront}
 

@@ -6,9 +6,9 @@ use Rattle.transcript.specs.declared.ending.Ending.TheVariants as endings
 use Rattle.transcript.specs.declared.line.Line.TheVariants as lines
 use Rattle.transcript.specs.Endings as texts
 use Rattle.transcript.specs.Transcript.{line_text}
-use Rattle.vault.specs.Steps.{cloud_no}
+use Rattle.session_model.specs.Steps.{cloud_no}
 use Rattle.session.specs.Texts.{text_of}
-use Rattle.vault.specs.Headline.{Session, due}
+use Rattle.session_model.specs.Headline.{Session, due}
 use Rattle.replay_core.specs.Endings.{Call, EndingLine, HasCause}
 use Rattle.replay_core.specs.Endings as due_lines
 use Rattle.replay_core.specs.Replayed.{Replayed}

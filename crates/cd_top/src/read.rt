@@ -3,7 +3,7 @@
 ghost use Rattle.std.specs.Prelude.{◌≡◌, ℕ, List, [], Option, IfSome, IfNone};
 ghost use Rattle.std.specs.Io.KnownBytes.{Appends};
 ghost use Rattle.transcript.specs.Endings.{ending_text as text_of_ending};
-ghost use Rattle.disk_reading.specs.Ends.{CountsSink, IsOfOpening};
+ghost use Rattle.read_command.specs.Ends.{CountsSink, IsOfOpening};
 ghost use Rattle.command_words.specs.Commands.{FitsRead};
 ghost use Rattle.command_words.specs.Views.{asked_read};
 ghost use Rattle.cd_top.specs.Read.{IsClosed, IsRead, last_line as line_due, status_of as status_due};
@@ -11,7 +11,7 @@ ghost use Rattle.cd_top.specs.Read.{IsClosed, IsRead, last_line as line_due, sta
 use crate::ending::{LastErr, write_last};
 use cd_edges::{Failed, Shelf, Sink};
 use command_words::ReadWords;
-use disk_reading::{ReadEnd, Wanted, read_file};
+use read_command::{ReadEnd, Wanted, read_file};
 use std::alloc::Global;
 use transcript::Ending;
 

@@ -28,7 +28,7 @@ N clouds, of which any K give a file back; addresses in the order of the clouds.
   lose JOB CLOUD                   the same, but the request is lost
   drop JOB CLOUD                   the same, but the reply is lost
   finish JOB                       make all requests that are left, cloud by cloud
-  get USER PATH VERSION CLOUDS     read the file back from K clouds, such as 1,2,3
+  get USER PATH VERSION CLOUDS     read the file back from K or more clouds, such as 1,2,3
   list USER CLOUD                  say which versions the user has there
   arm CLOUD CALL KEEP              cut a write or sync of the cloud, the next one being 1; a cut write keeps KEEP bytes
   restart CLOUD                    open the cloud again

@@ -9,17 +9,17 @@ use Rattle.cd_edges.specs.declared.area.Area.TheVariants.{Journal, Shares, Recip
 use Rattle.cd_edges.specs.Disk.{Image}
 use Rattle.commit_journal.specs.Records.{sized}
 use Rattle.container_log.specs.Laying.{IsAt}
-use Rattle.half_journal.specs.Openings.{IsUnbegun}
-use Rattle.half_journal.specs.States.{new_of}
+use Rattle.journal_halves.specs.Beginnings.{IsUnbegun}
+use Rattle.journal_halves.specs.Beginnings.{new_of}
 use Rattle.journal_halves.specs.Halves.{half_limit}
 use Rattle.journal_halves.specs.Journals.{HasChain, used_by}
 use Rattle.journal_start.specs.declared.start.Header.{Header}
 use Rattle.journal_start.specs.Spelling.{front_bytes, rooms_bytes, header_bytes, start_bytes}
 use Rattle.record_bodies.specs.Spelling.{FitsBody}
-use Rattle.command_list.specs.declared.command.Command.{Command}
-use Rattle.command_list.specs.Commands.{user_view}
-use Rattle.command_list.specs.Asking.{IsSound, Begun}
-use Rattle.command_list.specs.Spending.{spent_of, nothing}
+use Rattle.user_dedup.specs.declared.command.Command.{Command}
+use Rattle.user_dedup.specs.Cloud.{user_view}
+use Rattle.user_dedup.specs.Dedup.{IsSound, Begun}
+use Rattle.user_dedup.specs.Spending.{spent_of, nothing}
 use Rattle.user_dedup.proofs.Owned.{contains_nothing}
 use Rattle.cloud_areas.specs.Checkpoints.{AreApart, Lists, IsOwnerless, IsCheckpoint, SpentIs, HasEntry}
 use Rattle.cloud_areas.specs.Chains.{Summed, LiesIn, DontOverlap, HaveRoom, least_shares, least_recipes}

@@ -11,11 +11,11 @@ use Rattle.journal_start.specs.declared.start.Header.{Header}
 use Rattle.journal_start.specs.Spelling.{commands_of, records_of}
 use Rattle.record_body.specs.declared.body.CommitBody.{CommitBody}
 use Rattle.record_bodies.specs.Spelling.{Body}
-use Rattle.share_index.specs.declared.key.Place.{Place}
-use Rattle.command_list.specs.declared.command.Command.{Command}
-use Rattle.command_list.specs.declared.command.Command.TheVariants as commands
-use Rattle.command_list.specs.Commands.{held_bytes}
-use Rattle.command_list.specs.Spending.{spent_by_all}
+use Rattle.cd_base.specs.declared.place.Place.{Place}
+use Rattle.user_dedup.specs.declared.command.Command.{Command}
+use Rattle.user_dedup.specs.declared.command.Command.TheVariants as commands
+use Rattle.user_dedup.specs.Cloud.{held_bytes}
+use Rattle.user_dedup.specs.Spending.{spent_by_all}
 use Rattle.cloud_areas.specs.Placing.{shares_in, shares_placed, recipes_placed, recipes_in, region_start, greatest_end, AreBehind, places_of, shares_end, recipes_end}
 use Rattle.cloud_areas.specs.Checkpoints.{AreEntries}
 use Rattle.cloud_areas.specs.Chains.{IsRecord, Says, Summed, Then, laid_shares, BothHaveRoom, HaveRoom, least_shares, least_recipes}

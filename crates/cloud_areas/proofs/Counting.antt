@@ -7,7 +7,7 @@ use Rattle.std.proofs.lemmas.List.Sums.{sum_by-cons}
 use Rattle.std.proofs.lemmas.List.Filters.{sum_by-filter_both}
 use Rattle.std.proofs.lemmas.List.Elements.{Contains-append_left, Contains-append_right, Contains-append_cases}
 use Rattle.user_dedup.proofs.Owned.{contains_here, contains_later, contains_nothing, contains_cases}
-use Rattle.command_list.proofs.Filtered.{in_filter}
+use Rattle.user_dedup.proofs.Filtered.{in_filter}
 use Rattle.cloud_areas.proofs.Apart.{Apart}
 
 -- ---- all of them of some others

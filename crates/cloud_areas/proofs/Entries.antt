@@ -19,18 +19,18 @@ use Rattle.journal_start.specs.Spelling.{commands_of, records_of}
 use Rattle.record_body.specs.declared.body.CommitBody.{CommitBody}
 use Rattle.record_bodies.specs.Spelling as bodies
 use Rattle.record_bodies.specs.Spelling.{Body}
-use Rattle.share_index.specs.declared.key.Place.{Place}
+use Rattle.cd_base.specs.declared.place.Place.{Place}
 use Rattle.user_dedup.specs.declared.file_list.FileEntry.{FileEntry}
 use Rattle.user_dedup.specs.declared.view.View.{View}
 use Rattle.user_dedup.specs.Pages as pages
 use Rattle.user_dedup.specs.Pages.{is_at, entry_at}
 use Rattle.user_dedup.proofs.Owned.{contains_here, contains_later, contains_nothing, contains_cases}
 use Rattle.user_dedup.proofs.Sound.{found_entry}
-use Rattle.command_list.specs.declared.command.Command.{Command}
-use Rattle.command_list.specs.declared.command.Command.TheVariants as commands
-use Rattle.command_list.specs.Commands.{user_of, user_view, view_after, without_key, held_bytes}
-use Rattle.command_list.proofs.Deleting.{its_key, entries_left, entry_stays}
-use Rattle.command_list.proofs.Views.{own_adds, others_stay}
+use Rattle.user_dedup.specs.declared.command.Command.{Command}
+use Rattle.user_dedup.specs.declared.command.Command.TheVariants as commands
+use Rattle.user_dedup.specs.Cloud.{user_of, user_view, view_after, without_key, held_bytes}
+use Rattle.user_dedup.proofs.Deleting.{its_key, entries_left, entry_stays}
+use Rattle.user_dedup.proofs.Views.{own_adds, others_stay}
 use Rattle.cloud_areas.specs.Placing.{shares_in}
 use Rattle.cloud_areas.specs.Checkpoints.{put_body, key_of, HasEntry, IsEntry, AreEntries, IsCheckpoint}
 use Rattle.cloud_areas.specs.Chains.{commit_of, IsRecord, Says, Summed, Then, laid_shares}

@@ -5,16 +5,16 @@ use Rattle.cd_base.specs.declared.shape.Shape.{Shape}
 use Rattle.cd_edges.specs.declared.area.Area.TheVariants.{Journal}
 use Rattle.cd_edges.specs.Disk.{Image}
 use Rattle.container_log.specs.Laying.{Placed}
-use Rattle.half_journal.specs.Openings.{IsUnbegun}
-use Rattle.half_journal.specs.States.{new_of}
+use Rattle.journal_halves.specs.Beginnings.{IsUnbegun}
+use Rattle.journal_halves.specs.Beginnings.{new_of}
 use Rattle.journal_halves.specs.Halves.{is_half_begun}
 use Rattle.journal_halves.specs.Journals.{Where, HasChain}
 use Rattle.journal_halves.proofs.Current.{one_chain, begun_half}
 use Rattle.journal_start.specs.declared.start.Header.{Header}
 use Rattle.journal_start.specs.Spelling.{commands_of, records_of}
 use Rattle.record_bodies.specs.Spelling.{Body, body_bytes}
-use Rattle.command_list.specs.declared.command.Command.{Command}
-use Rattle.command_list.specs.Commands.{counted}
+use Rattle.user_dedup.specs.declared.command.Command.{Command}
+use Rattle.user_dedup.specs.Cloud.{counted}
 use Rattle.cloud_areas.specs.Chains.{Says, Summed, Then}
 use Rattle.cloud_areas.specs.Standing.{Chain, where_of, Holds, HasList, HasChainOf, StandsFor, number_at}
 

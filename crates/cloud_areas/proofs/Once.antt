@@ -19,14 +19,14 @@ use Rattle.record_bodies.specs.declared.body.KeptItem.{KeptItem}
 use Rattle.record_bodies.specs.declared.body.SpentBody.{SpentBody}
 use Rattle.record_bodies.specs.Spelling as bodies
 use Rattle.record_bodies.specs.Spelling.{Body}
-use Rattle.share_index.specs.declared.key.Place.{Place}
+use Rattle.cd_base.specs.declared.place.Place.{Place}
 use Rattle.user_dedup.specs.Cloud.{fingerprint}
 use Rattle.user_dedup.specs.Owning.{is_among}
 use Rattle.user_dedup.proofs.Owned.{contains_here, contains_later, contains_nothing, contains_cases, among_contains, contains_among}
-use Rattle.command_list.specs.declared.command.Command.{Command}
-use Rattle.command_list.specs.declared.command.Command.TheVariants as commands
-use Rattle.command_list.specs.Commands.{user_view, strings_of}
-use Rattle.command_list.proofs.Filtered.{from_filter, in_flat, from_flat}
+use Rattle.user_dedup.specs.declared.command.Command.{Command}
+use Rattle.user_dedup.specs.declared.command.Command.TheVariants as commands
+use Rattle.user_dedup.specs.Cloud.{user_view, strings_of}
+use Rattle.user_dedup.proofs.Filtered.{from_filter, in_flat, from_flat}
 use Rattle.cloud_areas.specs.Placing.{places_given, places_kept, shares_placed, shares_in, fps_placed, HasPlace}
 use Rattle.cloud_areas.specs.Checkpoints.{AreApart, PutRecord, put_body, of_user, fps_of, items_in, AreFlagged, IsCheckpoint}
 use Rattle.cloud_areas.specs.Standing.{Chain, region_in, Holds}

@@ -11,8 +11,8 @@ use Rattle.journal_start.specs.declared.start.Header.{Header}
 use Rattle.journal_start.specs.Spelling.{commands_of, records_of}
 use Rattle.record_bodies.specs.Spelling.{Body, body_bytes, FitsBody}
 use Rattle.record_bodies.proofs.BodyLaws as laws
-use Rattle.share_index.specs.declared.key.Place.{Place}
-use Rattle.command_list.specs.declared.command.Command.{Command}
+use Rattle.cd_base.specs.declared.place.Place.{Place}
+use Rattle.user_dedup.specs.declared.command.Command.{Command}
 use Rattle.cloud_areas.specs.Placing.{recipes_in}
 use Rattle.cloud_areas.specs.Standing.{Chain, where_of, region_in, IsChain, Holds, StandsFor}
 use Rattle.cloud_areas.specs.Laid.{place_by}

@@ -12,9 +12,9 @@ use Rattle.journal_halves.specs.Journals.{HasChain, with_body, used_by}
 use Rattle.journal_start.specs.declared.start.Header.{Header}
 use Rattle.journal_start.specs.Spelling.{commands_of, records_of}
 use Rattle.record_bodies.specs.Spelling.{Body, body_bytes, FitsBody}
-use Rattle.share_index.specs.declared.key.Place.{Place}
-use Rattle.command_list.specs.declared.command.Command.{Command}
-use Rattle.command_list.specs.Commands.{held_bytes}
+use Rattle.cd_base.specs.declared.place.Place.{Place}
+use Rattle.user_dedup.specs.declared.command.Command.{Command}
+use Rattle.user_dedup.specs.Cloud.{held_bytes}
 use Rattle.cloud_areas.specs.Placing.{shares_in, shares_placed}
 use Rattle.cloud_areas.specs.Chains.{Then, laid_shares, AreLong}
 use Rattle.cloud_areas.specs.Standing.{Chain, where_of, region_in, IsChain, Holds}

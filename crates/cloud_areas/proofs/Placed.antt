@@ -16,15 +16,15 @@ use Rattle.record_bodies.specs.declared.body.KeptItem.{KeptItem}
 use Rattle.record_bodies.specs.declared.body.SpentBody.{SpentBody}
 use Rattle.record_bodies.specs.Spelling as bodies
 use Rattle.record_bodies.specs.Spelling.{Body}
-use Rattle.share_index.specs.declared.key.Place.{Place}
+use Rattle.cd_base.specs.declared.place.Place.{Place}
 use Rattle.user_dedup.specs.Cloud.{fingerprint, has_fingerprint}
 use Rattle.user_dedup.specs.Owning.{is_among}
 use Rattle.user_dedup.proofs.Owned.{contains_here, contains_later, contains_nothing, contains_cases}
-use Rattle.command_list.specs.declared.command.Command.{Command}
-use Rattle.command_list.specs.declared.command.Command.TheVariants as commands
-use Rattle.command_list.specs.Commands.{user_view, strings_of, strings_in, held_bytes}
-use Rattle.command_list.proofs.Filtered.{in_filter, in_flat, from_flat}
-use Rattle.command_list.proofs.Views.{held_is, sent_is_held, owned_is_held, held_more}
+use Rattle.user_dedup.specs.declared.command.Command.{Command}
+use Rattle.user_dedup.specs.declared.command.Command.TheVariants as commands
+use Rattle.user_dedup.specs.Cloud.{user_view, strings_of, strings_in, held_bytes}
+use Rattle.user_dedup.proofs.Filtered.{in_filter, in_flat, from_flat}
+use Rattle.user_dedup.proofs.Views.{held_is, sent_is_held, owned_is_held, held_more}
 use Rattle.cloud_areas.specs.Placing.{places_given, places_kept, shares_placed, shares_in}
 use Rattle.cloud_areas.specs.Checkpoints.{PutRecord, put_body, of_user, fps_of, items_in, IsCheckpoint}
 use Rattle.cloud_areas.specs.Chains.{PlacedNew, AreItems, IsRecord, Says, Summed, Then, AreLong}

@@ -32,7 +32,7 @@ use Rattle.record_bodies.specs.declared.body.SpentBody.{SpentBody}
 use Rattle.record_bodies.specs.Spelling as bodies
 use Rattle.record_bodies.specs.Spelling.{Body, body_bytes, FitsBody}
 use Rattle.record_bodies.proofs.Spelled.{length-kept, longest}
-use Rattle.share_index.specs.declared.key.Place.{Place}
+use Rattle.cd_base.specs.declared.place.Place.{Place}
 use Rattle.user_dedup.specs.declared.file_list.FileEntry.{FileEntry}
 use Rattle.user_dedup.specs.declared.view.View.{View}
 use Rattle.user_dedup.specs.Cloud.{fingerprint, no_view}
@@ -41,12 +41,12 @@ use Rattle.user_dedup.specs.Pages as pages
 use Rattle.user_dedup.specs.Pages.{entry_at}
 use Rattle.user_dedup.proofs.Owned.{contains_here, contains_later}
 use Rattle.user_dedup.proofs.Sound.{found_entry}
-use Rattle.command_list.specs.declared.command.Command.{Command}
-use Rattle.command_list.specs.declared.command.Command.TheVariants as commands
-use Rattle.command_list.specs.Commands.{user_of, commands_of, user_view, view_after, strings_of, strings_in, recipes_of, named_by, named_in, without_key}
-use Rattle.command_list.specs.Spending.{Spent, nothing, held_len, spent_of, spent_by_all, limits_of, files_of, UsesWithin, IsWithin}
-use Rattle.command_list.proofs.Filtered.{from_filter}
-use Rattle.command_list.proofs.Spending.{each_within}
+use Rattle.user_dedup.specs.declared.command.Command.{Command}
+use Rattle.user_dedup.specs.declared.command.Command.TheVariants as commands
+use Rattle.user_dedup.specs.Cloud.{user_of, commands_of, user_view, view_after, strings_of, strings_in, recipes_of, named_by, named_in, without_key}
+use Rattle.user_dedup.specs.Spending.{Spent, nothing, held_len, spent_of, spent_by_all, limits_of, files_of, UsesWithin, IsWithin}
+use Rattle.user_dedup.proofs.Filtered.{from_filter}
+use Rattle.user_dedup.proofs.Spending.{each_within}
 use Rattle.cloud_areas.specs.Chains.{BothHaveRoom}
 use Rattle.cloud_areas.specs.Placing.{region_start, shares_end, recipes_end, places_given, shares_in, fps_placed}
 use Rattle.cloud_areas.specs.Checkpoints.{PutRecord, put_body, of_user, fps_of, items_in, key_of, HasEntry, ListSpent, SpentIs, IsCheckpoint}

@@ -16,7 +16,7 @@ use Rattle.cd_edges.specs.declared.area.Area.TheVariants.{Journal, Shares, Recip
 use Rattle.cd_edges.specs.Disk.{Image}
 use Rattle.commit_journal.specs.Records.{IsBody, chain, is_begun}
 use Rattle.container_log.specs.Laying.{IsAt}
-use Rattle.half_journal.specs.States.{new_of}
+use Rattle.journal_halves.specs.Beginnings.{new_of}
 use Rattle.journal_halves.specs.Halves.{half_len, half_of, half_limit, is_half_begun}
 use Rattle.journal_halves.specs.Journals.{all_bodies, used_by}
 use Rattle.journal_halves.proofs.Laying.{starts}
@@ -31,15 +31,15 @@ use Rattle.record_body.specs.Spelling.{FitsPlace, FitsItem}
 use Rattle.record_body.proofs.Spelled.{length-put}
 use Rattle.record_bodies.specs.Spelling as bodies
 use Rattle.record_bodies.specs.Spelling.{Body, body_bytes, FitsBody}
-use Rattle.share_index.specs.declared.key.Place.{Place}
+use Rattle.cd_base.specs.declared.place.Place.{Place}
 use Rattle.user_dedup.specs.Cloud.{fingerprint}
 use Rattle.user_dedup.specs.Owning.{is_among}
-use Rattle.command_list.specs.declared.command.Command.{Command}
-use Rattle.command_list.specs.declared.command.Command.TheVariants as commands
-use Rattle.command_list.specs.Asking.{IsSound, Begun, Added, Of}
-use Rattle.command_list.specs.Commands.{held_bytes}
-use Rattle.command_list.specs.Compact.{compact}
-use Rattle.command_list.specs.Spending.{files_of, spent_of}
+use Rattle.user_dedup.specs.declared.command.Command.{Command}
+use Rattle.user_dedup.specs.declared.command.Command.TheVariants as commands
+use Rattle.user_dedup.specs.Dedup.{IsSound, Begun, Added}
+use Rattle.user_dedup.specs.Cloud.{held_bytes}
+use Rattle.user_dedup.specs.Compact.{compact}
+use Rattle.user_dedup.specs.Spending.{files_of, spent_of}
 use Rattle.cloud_areas.specs.Placing.{AreBehind}
 use Rattle.cloud_areas.specs.Checkpoints.{AreApart, AreFull, AreFlagged}
 use Rattle.cloud_areas.specs.Chains.{PlacedNew, AreItems, LiesIn, DontOverlap}
@@ -255,7 +255,7 @@ module _ (shape : Shape) (some : 0 < shape.n) where
   held = rw (same (sha256_of s11)) refl
 
   sound : IsSound shape 0 (put ∷ [])
-  sound = Added [] (Of (requests.Put (user 7) (s11 ∷ []))) put Begun
+  sound = Added [] (requests.Put (user 7) (s11 ∷ [])) put Begun
       (omega arith, ((omega arith, omega arith), All-cons IsShare s11 [] (omega arith, omega arith) (All-nil IsShare))) tt refl
 
   one_apart : DontOverlap (place_at 0 11 ∷ [])

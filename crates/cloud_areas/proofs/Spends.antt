@@ -8,14 +8,14 @@ use Rattle.cd_base.specs.declared.ids.Fp.{Fp}
 use Rattle.container_log.specs.Laying.{Placed}
 use Rattle.record_body.specs.declared.body.PutItem.{PutItem}
 use Rattle.record_bodies.specs.Spelling.{Body}
-use Rattle.share_index.specs.declared.key.Place.{Place}
+use Rattle.cd_base.specs.declared.place.Place.{Place}
 use Rattle.user_dedup.specs.Cloud.{fingerprint, has_fingerprint}
 use Rattle.user_dedup.specs.Owning.{is_among}
 use Rattle.user_dedup.proofs.Owned.{contains_here, contains_later}
-use Rattle.command_list.specs.declared.command.Command.{Command}
-use Rattle.command_list.specs.declared.command.Command.TheVariants as commands
-use Rattle.command_list.specs.Commands.{strings_of, strings_in, recipes_of}
-use Rattle.command_list.specs.Spending.{held_len, spent_by_all}
+use Rattle.user_dedup.specs.declared.command.Command.{Command}
+use Rattle.user_dedup.specs.declared.command.Command.TheVariants as commands
+use Rattle.user_dedup.specs.Cloud.{strings_of, strings_in, recipes_of}
+use Rattle.user_dedup.specs.Spending.{held_len, spent_by_all}
 use Rattle.cloud_areas.specs.Placing.{places_given, shares_placed, recipes_placed, places_of, total_len}
 use Rattle.cloud_areas.specs.Chains.{PlacedNew, AreItems, IsRecord}
 use Rattle.cloud_areas.proofs.Lists.{in_map, flat_more}

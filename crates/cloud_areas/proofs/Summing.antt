@@ -15,13 +15,13 @@ use Rattle.record_bodies.specs.declared.body.KeptItem.{KeptItem}
 use Rattle.record_bodies.specs.declared.body.SpentBody.{SpentBody}
 use Rattle.record_bodies.specs.Spelling as bodies
 use Rattle.record_bodies.specs.Spelling.{Body}
-use Rattle.share_index.specs.declared.key.Place.{Place}
+use Rattle.cd_base.specs.declared.place.Place.{Place}
 use Rattle.user_dedup.proofs.Owned.{contains_here, contains_nothing, contains_cases}
-use Rattle.command_list.specs.declared.command.Command.{Command}
-use Rattle.command_list.specs.Asking.{IsSound}
-use Rattle.command_list.specs.Commands.{held_bytes}
-use Rattle.command_list.specs.Spending.{spent_by_all}
-use Rattle.command_list.proofs.Filtered.{in_flat, from_flat}
+use Rattle.user_dedup.specs.declared.command.Command.{Command}
+use Rattle.user_dedup.specs.Dedup.{IsSound}
+use Rattle.user_dedup.specs.Cloud.{held_bytes}
+use Rattle.user_dedup.specs.Spending.{spent_by_all}
+use Rattle.user_dedup.proofs.Filtered.{in_flat, from_flat}
 use Rattle.cloud_areas.specs.Placing.{shares_in, recipes_in, region_start, greatest_end, places_of}
 use Rattle.cloud_areas.specs.Checkpoints.{PutRecord, put_body, key_of, IsCheckpoint}
 use Rattle.cloud_areas.specs.Chains.{Summed, laid_shares, LiesIn, HaveRoom, BothHaveRoom, least_shares, least_recipes}

@@ -6,9 +6,9 @@ use Rattle.cd_edges.specs.Disk.{Image}
 use Rattle.journal_start.specs.declared.start.Header.{Header}
 use Rattle.container_log.specs.Laying.{Placed, IsAt}
 use Rattle.record_bodies.specs.Spelling.{Body, FitsBody}
-use Rattle.command_list.specs.declared.command.Command.{Command}
-use Rattle.command_list.specs.Asking.{IsSound}
-use Rattle.command_list.specs.Spending.{spent_by_all}
+use Rattle.user_dedup.specs.declared.command.Command.{Command}
+use Rattle.user_dedup.specs.Dedup.{IsSound}
+use Rattle.user_dedup.specs.Spending.{spent_by_all}
 use Rattle.cloud_areas.specs.Placing.{shares_in, shares_placed, recipes_placed, places_of, region_start, shares_end, recipes_end}
 use Rattle.cloud_areas.specs.Chains.{IsRecord, laid_shares, LiesIn, least_shares, least_recipes, BothHaveRoom}
 use Rattle.cloud_areas.specs.Standing.{Chain, region_in}

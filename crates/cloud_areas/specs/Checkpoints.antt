@@ -15,9 +15,9 @@ use Rattle.user_dedup.specs.Owning.{is_among}
 use Rattle.user_dedup.specs.Pages.{entry_at}
 use Rattle.record_bodies.specs.declared.body.KeptItem.{KeptItem}
 use Rattle.record_bodies.specs.declared.body.SpentBody.{SpentBody}
-use Rattle.command_list.specs.declared.command.Command.{Command}
-use Rattle.command_list.specs.Commands.{user_view, strings_in}
-use Rattle.command_list.specs.Spending.{Spent, spent_of, nothing}
+use Rattle.user_dedup.specs.declared.command.Command.{Command}
+use Rattle.user_dedup.specs.Cloud.{user_view, strings_in}
+use Rattle.user_dedup.specs.Spending.{Spent, spent_of, nothing}
 use Rattle.message_fields.specs.Fingerprints.{batch_limit}
 use Rattle.record_bodies.specs.Spelling as bodies
 use Rattle.record_bodies.specs.Spelling.{Body}

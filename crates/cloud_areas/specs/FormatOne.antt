@@ -12,21 +12,21 @@ use Rattle.cd_edges.specs.declared.area.Area.TheVariants.{Journal, Shares, Recip
 use Rattle.cd_edges.specs.Disk.{Image}
 use Rattle.container_log.specs.Laying.{Placed, lengths, placed, IsAt}
 use Rattle.container_log.specs.Places.{place_of, end_of_laid}
-use Rattle.half_journal.specs.Openings.{IsUnbegun}
+use Rattle.journal_halves.specs.Beginnings.{IsUnbegun}
 use Rattle.journal_halves.specs.Halves.{half_len}
 use Rattle.journal_start.specs.declared.rooms.Rooms.{Rooms}
 use Rattle.journal_start.specs.declared.start.Header.{Header}
 use Rattle.journal_start.specs.Spelling.{commands_of, records_of, recipes_end_of}
-use Rattle.share_index.specs.declared.key.Place.{Place}
+use Rattle.cd_base.specs.declared.place.Place.{Place}
 use Rattle.user_dedup.specs.Cloud.{has_fingerprint}
 use Rattle.user_dedup.specs.Dedup.{FullRoom}
 use Rattle.user_dedup.specs.Owning.{new_strings}
-use Rattle.command_list.specs.declared.command.Command.{Command}
-use Rattle.command_list.specs.declared.command.Command.TheVariants as commands
-use Rattle.command_list.specs.Asking.{IsSound}
-use Rattle.command_list.specs.Commands.{user_view, strings_in, recipes_of}
-use Rattle.command_list.specs.Compact.{users_in, user_at, compact}
-use Rattle.command_list.specs.Spending.{Spent, spent_of, files_of, limits_of, files_limit, refusal}
+use Rattle.user_dedup.specs.declared.command.Command.{Command}
+use Rattle.user_dedup.specs.declared.command.Command.TheVariants as commands
+use Rattle.user_dedup.specs.Dedup.{IsSound}
+use Rattle.user_dedup.specs.Cloud.{user_view, strings_in, recipes_of}
+use Rattle.user_dedup.specs.Compact.{users_in, user_at, compact}
+use Rattle.user_dedup.specs.Spending.{Spent, spent_of, files_of, limits_of, files_limit, refusal}
 use Rattle.cloud_areas.specs.Chains.{Says, laid_shares}
 use Rattle.cloud_areas.specs.Placing.{shares_in}
 use Rattle.cloud_areas.specs.Standing.{Chain, IsChain}

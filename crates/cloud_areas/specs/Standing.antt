@@ -13,14 +13,14 @@ use Rattle.journal_start.specs.declared.start.Start.{Start}
 use Rattle.journal_start.specs.Spelling.{commands_of, records_of, region_of}
 use Rattle.journal_halves.specs.Halves.{half_limit}
 use Rattle.journal_halves.specs.Journals.{Where, HasChain, used_by}
-use Rattle.half_journal.specs.Openings.{IsUnbegun}
+use Rattle.journal_halves.specs.Beginnings.{IsUnbegun}
 use Rattle.container_log.specs.Laying.{Placed, IsAt}
 use Rattle.record_bodies.specs.Spelling.{Body, Commit, body_bytes, FitsBody}
-use Rattle.share_index.specs.declared.key.Place.{Place}
+use Rattle.cd_base.specs.declared.place.Place.{Place}
 use Rattle.user_dedup.specs.declared.file_list.FileEntry.{FileEntry}
-use Rattle.command_list.specs.declared.command.Command.{Command}
-use Rattle.command_list.specs.Asking.{IsSound}
-use Rattle.command_list.specs.Commands.{held_bytes}
+use Rattle.user_dedup.specs.declared.command.Command.{Command}
+use Rattle.user_dedup.specs.Dedup.{IsSound}
+use Rattle.user_dedup.specs.Cloud.{held_bytes}
 use Rattle.cloud_areas.specs.Placing.{shares_in}
 use Rattle.cloud_areas.specs.Chains.{commit_of, Says, laid_shares, AreLong, BothHaveRoom}
 

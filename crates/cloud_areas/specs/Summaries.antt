@@ -9,9 +9,9 @@ use Rattle.journal_start.specs.Spelling.{commands_of, records_of}
 use Rattle.container_log.specs.Laying.{IsAt}
 use Rattle.record_body.specs.declared.body.CommitBody.{CommitBody}
 use Rattle.record_bodies.specs.Spelling.{Commit}
-use Rattle.share_index.specs.declared.key.Place.{Place}
-use Rattle.command_list.specs.declared.command.Command.{Command}
-use Rattle.command_list.specs.Commands.{counted}
+use Rattle.cd_base.specs.declared.place.Place.{Place}
+use Rattle.user_dedup.specs.declared.command.Command.{Command}
+use Rattle.user_dedup.specs.Cloud.{counted}
 use Rattle.cloud_areas.specs.Placing.{shares_in}
 use Rattle.cloud_areas.specs.Checkpoints.{IsCheckpoint}
 use Rattle.cloud_areas.specs.Standing.{Chain, region_in}

@@ -13,13 +13,13 @@ use Rattle.commit_journal.specs.Records.{IsJournal}
 use Rattle.commit_journal.proofs.Chain.{length-chain-push}
 use Rattle.container_log.specs.Laying.{Placed, placed, IsAt}
 use Rattle.container_log.specs.States as logs
-use Rattle.share_index.specs.declared.key.Place.{Place}
+use Rattle.cd_base.specs.declared.place.Place.{Place}
 use Rattle.journal_start.specs.declared.start.Header.{Header}
 use Rattle.journal_halves.specs.Halves.{half_limit, half_of}
 use Rattle.journal_halves.specs.Journals.{Where, all_bodies, with_body, used_by, HasChain, IsEither}
 use Rattle.half_journal.specs.States as journals
 use Rattle.record_bodies.specs.Spelling.{Body, body_bytes, FitsBody}
-use Rattle.command_list.specs.declared.command.Command.{Command}
+use Rattle.user_dedup.specs.declared.command.Command.{Command}
 use Rattle.cloud_areas.specs.Placing.{region_start, greatest_end, shares_placed, shares_in, recipes_in, places_of}
 use Rattle.cloud_areas.specs.Chains.{laid_shares, AreLong}
 use Rattle.cloud_areas.specs.Standing.{Chain, where_of, region_in, IsChain, Holds}

@@ -7,15 +7,15 @@ use Rattle.std.proofs.lemmas.List.Elements.{All-nil, All-cons, All-head, All-tai
 use Rattle.cd_base.specs.declared.ids.Fp.{Fp}
 use Rattle.cd_base.specs.declared.shape.Shape.{Shape}
 use Rattle.container_log.specs.Laying.{Placed}
-use Rattle.share_index.specs.declared.key.Place.{Place}
+use Rattle.cd_base.specs.declared.place.Place.{Place}
 use Rattle.record_body.specs.declared.body.CommitBody.{CommitBody}
 use Rattle.record_bodies.specs.declared.body.KeptItem.{KeptItem}
 use Rattle.record_bodies.specs.declared.body.SpentBody.{SpentBody}
 use Rattle.record_bodies.specs.Spelling as bodies
 use Rattle.record_bodies.specs.Spelling.{Body}
-use Rattle.command_list.specs.declared.command.Command.{Command}
-use Rattle.command_list.specs.declared.command.Command.TheVariants as commands
-use Rattle.command_list.specs.Commands.{held_bytes}
+use Rattle.user_dedup.specs.declared.command.Command.{Command}
+use Rattle.user_dedup.specs.declared.command.Command.TheVariants as commands
+use Rattle.user_dedup.specs.Cloud.{held_bytes}
 use Rattle.cloud_areas.specs.Placing.{recipes_placed, recipes_in, end_of, greatest_end, places_of}
 use Rattle.cloud_areas.specs.Checkpoints.{PutRecord, put_body, AreEntries, IsCheckpoint}
 use Rattle.cloud_areas.specs.Chains.{IsRecord, Says, Summed, Then, laid_shares, AreLong}

@@ -10,13 +10,13 @@ use Rattle.container_log.specs.Places.{place_of, end_of_laid}
 use Rattle.container_log.specs.Laying.{Placed, lengths, placed, IsAt}
 use Rattle.container_log.specs.States as logs
 use Rattle.container_log.proofs.Laid.{placed_more}
-use Rattle.share_index.specs.declared.key.Place.{Place}
+use Rattle.cd_base.specs.declared.place.Place.{Place}
 use Rattle.journal_start.specs.declared.start.Header.{Header}
 use Rattle.journal_halves.specs.Halves.{half_limit}
 use Rattle.journal_halves.specs.Journals.{used_by}
 use Rattle.half_journal.specs.States as journals
-use Rattle.command_list.specs.declared.command.Command.{Command}
-use Rattle.command_list.specs.Asking.{IsSound}
+use Rattle.user_dedup.specs.declared.command.Command.{Command}
+use Rattle.user_dedup.specs.Dedup.{IsSound}
 use Rattle.cloud_areas.specs.Placing.{region_start, greatest_end, shares_in, recipes_in, places_of}
 use Rattle.cloud_areas.specs.Chains.{laid_shares}
 use Rattle.cloud_areas.specs.Standing.{Chain, where_of, region_in, IsChain, Holds, StandsFor}

@@ -6,13 +6,13 @@ use Rattle.cd_edges.specs.Disk.{Areas, Image, Cloud, LeavesOnly, reads}
 use Rattle.cd_edges.specs.Shelf.{stable, Stays}
 use Rattle.container_log.specs.Laying.{Placed, placed, IsAt}
 use Rattle.container_log.specs.States as logs
-use Rattle.share_index.specs.declared.key.Place.{Place}
+use Rattle.cd_base.specs.declared.place.Place.{Place}
 use Rattle.journal_start.specs.declared.start.Header.{Header}
 use Rattle.journal_halves.specs.Halves.{half_limit}
 use Rattle.half_journal.specs.States as journals
 use Rattle.record_bodies.specs.Spelling.{Body, IsBody}
-use Rattle.command_list.specs.declared.command.Command.{Command}
-use Rattle.command_list.specs.Asking.{IsSound}
+use Rattle.user_dedup.specs.declared.command.Command.{Command}
+use Rattle.user_dedup.specs.Dedup.{IsSound}
 use Rattle.cloud_areas.specs.Placing.{region_start, greatest_end, shares_placed, shares_in, recipes_in, places_of}
 use Rattle.cloud_areas.specs.Chains.{IsRecord, laid_shares, BothHaveRoom}
 use Rattle.cloud_areas.specs.Standing.{Chain, where_of, region_in, IsChain, Holds, StandsFor}

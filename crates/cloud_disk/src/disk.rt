@@ -17,7 +17,7 @@ ghost use Rattle.half_journal.specs.declared.journal.Stage.TheVariants.{Shut, At
 ghost use Rattle.half_journal.specs.States.{state_of};
 ghost use Rattle.half_journal.specs.Outcomes.{stage_after};
 ghost use Rattle.record_bodies.specs.Spelling.{Body};
-ghost use Rattle.command_list.specs.declared.command.Command.{Command};
+ghost use Rattle.user_dedup.specs.declared.command.Command.{Command};
 ghost use Rattle.cloud_areas.specs.Placing.{shares_in};
 ghost use Rattle.cloud_areas.specs.Chains.{laid_shares};
 ghost use Rattle.cloud_areas.specs.Standing.{Chain};

@@ -5,7 +5,7 @@ ghost use Rattle.cd_edges.specs.Disk.{Cloud, Image, IsImage, reads};
 ghost use Rattle.container_log.specs.States.{State, HasStaged};
 ghost use Rattle.journal_start.specs.declared.start.Header.{Header};
 ghost use Rattle.journal_halves.specs.Journals.{used_by};
-ghost use Rattle.command_list.specs.declared.command.Command.{Command};
+ghost use Rattle.user_dedup.specs.declared.command.Command.{Command};
 ghost use Rattle.cloud_areas.specs.Standing.{Chain, where_of, StandsFor};
 ghost use Rattle.cloud_disk.specs.Disk.{Disk, IsOn, Stages, IsReadThrough};
 

@@ -12,12 +12,13 @@ use Rattle.cd_base.specs.declared.shape.Shape.{Shape}
 use Rattle.container_log.specs.Places.{place_of, end_after, end_of_laid}
 use Rattle.container_log.specs.Laying.{lengths}
 use Rattle.container_log.proofs.Least.{place_behind}
-use Rattle.index_base.specs.declared.Accounts.{Accounts}
-use Rattle.index_base.specs.Accounts.{limit_for, use_for}
+use Rattle.pool_map.specs.declared.accounts.Accounts.{Accounts}
+use Rattle.pool_map.specs.Accounts.{limit_for, use_for}
 use Rattle.record_body.specs.declared.body.PutItem.{PutItem}
 use Rattle.share_index.specs.declared.key.Owner.{Owner}
-use Rattle.share_index.specs.declared.key.Place.{Place}
-use Rattle.share_index.specs.Order.{fp_cmp, owner_cmp, owner_of}
+use Rattle.cd_base.specs.declared.place.Place.{Place}
+use Rattle.share_index.specs.Order.{owner_cmp, owner_of}
+use Rattle.cd_base.specs.Order.{fp_cmp}
 use Rattle.share_index.proofs.Owning.{owner_total}
 use Rattle.share_index.proofs.Placing.{fp_total}
 use Rattle.user_dedup.specs.declared.command.Command.{Command}

@@ -12,8 +12,8 @@ use Rattle.container_log.specs.Places.{end_of_laid}
 use Rattle.container_log.specs.Laying.{lengths}
 use Rattle.file_index.specs.declared.key.FileKey.{FileKey}
 use Rattle.file_index.specs.Files.{key_of}
-use Rattle.index_base.specs.declared.Accounts.{Accounts}
-use Rattle.index_base.specs.Accounts.{limit_for, use_for}
+use Rattle.pool_map.specs.declared.accounts.Accounts.{Accounts}
+use Rattle.pool_map.specs.Accounts.{limit_for, use_for}
 use Rattle.share_index.specs.declared.key.Owner.{Owner}
 use Rattle.share_index.specs.Order.{owner_of}
 use Rattle.user_dedup.specs.declared.command.Command.{Command}
@@ -22,10 +22,11 @@ use Rattle.user_dedup.specs.declared.view.View.{View}
 use Rattle.user_dedup.specs.Cloud.{user_view, view_after}
 use Rattle.user_dedup.specs.Owning.{is_among}
 use Rattle.user_dedup.proofs.Views.{view_next}
-use Rattle.cloud_store.specs.Contents.{strings_in, distinct, shares_end, place_in, recipes_in, entry_in}
+use Rattle.cloud_store.specs.Contents.{strings_in, distinct, shares_end, place_in, recipes_in, entry_in, IsUndeleted}
 use Rattle.cloud_store.specs.Space.{use_of}
 use Rattle.cloud_store.proofs.Entries.{entry_put}
 use Rattle.cloud_store.proofs.Lists.{strings_more, recipes_more}
+use Rattle.cloud_store.proofs.Undeleted.{undeleted_more, front_undeleted}
 use Rattle.cloud_index.specs.declared.index.CloudIndex.{CloudIndex}
 use Rattle.cloud_index.specs.Memory.{Remembers, HasRooms, HasShareRoom, HasFileRoom}
 
@@ -35,6 +36,7 @@ record Alike (shape : Shape) (one two : List Command) : Type 0 where
   pub recipes : recipes_in one ≡ recipes_in two
   pub own : (user : UserId) → (user_view shape one user).own ≡ (user_view shape two user).own
   pub entries : (key : FileKey) → entry_in one key ≡ entry_in two key
+  pub undeleted : IsUndeleted one → IsUndeleted two
 
 alike : (shape : Shape) (one two : List Command) (index : CloudIndex) → Alike shape one two → Remembers shape one index → Remembers shape two index
 alike shape one two index a r = record {
@@ -47,6 +49,7 @@ alike shape one two index a r = record {
   files = record {
     files = λ key. r.files.files key ∙ a.entries key;
     count = r.files.count ∙ ap length a.recipes;
+    undeleted = a.undeleted r.files.undeleted;
   };
   shares_end = r.shares_end ∙ ap shares_end a.strings;
   recipes_end = r.recipes_end ∙ ap (λ l. end_of_laid 0 (lengths l)) a.recipes;
@@ -58,6 +61,7 @@ with_none shape list user = record {
   recipes = sym (recipes_more list (commands.Put user []) ∙ append-nil (recipes_in list));
   own = λ q. sym (ap (λ (v : View). v.own) (view_next shape list (commands.Put user []) q) ∙ by_test (user.0 == q.0) (user_view shape list q));
   entries = λ key. sym (entry_put list user [] key);
+  undeleted = λ none. undeleted_more list (commands.Put user []) none tt;
 }
   where
     by_test : (b : Bool) (v : View) → (cond b (view_after shape v (commands.Put user [])) v).own ≡ v.own
@@ -68,7 +72,7 @@ pub empty_put : (shape : Shape) (list : List Command) (user : UserId) (index : C
 empty_put shape list user index =
     let a = with_none shape list user in (
       alike shape list (list ++ commands.Put user [] ∷ []) index a,
-      alike shape (list ++ commands.Put user [] ∷ []) list index (record { strings = sym a.strings; recipes = sym a.recipes; own = λ q. sym (a.own q); entries = λ key. sym (a.entries key) }),
+      alike shape (list ++ commands.Put user [] ∷ []) list index (record { strings = sym a.strings; recipes = sym a.recipes; own = λ q. sym (a.own q); entries = λ key. sym (a.entries key); undeleted = front_undeleted list (commands.Put user [] ∷ []) }),
     )
 
 -- ---- room

@@ -18,8 +18,9 @@ use Rattle.file_index.specs.Order.{key_cmp}
 use Rattle.file_index.proofs.Order.{key_total}
 use Rattle.record_body.specs.declared.body.CommitBody.{CommitBody}
 use Rattle.record_body.specs.Spelling.{Body, Commit}
-use Rattle.share_index.specs.declared.key.Place.{Place}
-use Rattle.share_index.specs.Order.{fp_cmp, owner_cmp, owner_of}
+use Rattle.cd_base.specs.declared.place.Place.{Place}
+use Rattle.share_index.specs.Order.{owner_cmp, owner_of}
+use Rattle.cd_base.specs.Order.{fp_cmp}
 use Rattle.user_dedup.specs.declared.command.Command.{Command}
 use Rattle.user_dedup.specs.declared.command.Command.TheVariants as commands
 use Rattle.user_dedup.specs.declared.view.View.{View}
@@ -32,6 +33,7 @@ use Rattle.cloud_store.specs.Records.{record_after}
 use Rattle.cloud_store.proofs.Entries.{entry_commit, same_key}
 use Rattle.cloud_store.proofs.Laying.{end-append}
 use Rattle.cloud_store.proofs.Lists.{strings_more, recipes_more}
+use Rattle.cloud_store.proofs.Undeleted.{undeleted_more}
 use Rattle.cloud_index.specs.declared.index.CloudIndex.{CloudIndex}
 use Rattle.cloud_index.specs.Memory.{Remembers}
 use Rattle.cloud_index.specs.Taking.{TakesCommit}
@@ -51,6 +53,7 @@ remembers_none shape index places owners files shares recipes = record {
   files = record {
     files = λ key. ap (λ (m : FinMap key_cmp Entry). get m key) files ∙ get-empty key_cmp key;
     count = ap (λ (m : FinMap key_cmp Entry). len m) files ∙ len-empty key_cmp Entry;
+    undeleted = tt;
   };
   shares_end = shares;
   recipes_end = recipes;
@@ -107,6 +110,7 @@ module _ (shape : Shape) (list : List Command) (user : UserId) (tag : Tag) (vers
       count =
           let longer = ap (λ (m : FinMap key_cmp Entry). len m) taken.files ∙ len-new key_total old.files.files k e none in
           omega (arith, longer, r.files.count, ap length one_recipe, length-append (recipes_in list) (recipe ∷ []));
+      undeleted = undeleted_more list (commands.Commit user tag version recipe) r.files.undeleted tt;
     };
     shares_end = taken.shares_end ∙ r.shares_end ∙ ap shares_end (sym same_strings);
     recipes_end = taken.end ∙ ap (λ n. end_after n (length recipe)) r.recipes_end ∙ sym (end-append 0 (recipes_in list) (recipe ∷ [])) ∙ ap (λ l. end_of_laid 0 (lengths l)) (sym one_recipe);

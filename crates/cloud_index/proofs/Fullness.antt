@@ -17,8 +17,8 @@ use Rattle.cd_base.specs.declared.shape.Shape.{Shape}
 use Rattle.container_log.specs.Places.{end_after, end_of_laid}
 use Rattle.container_log.specs.Laying.{lengths}
 use Rattle.container_log.proofs.Least.{place_behind}
-use Rattle.share_index.specs.declared.key.Place.{Place}
-use Rattle.share_index.specs.Order.{fp_cmp}
+use Rattle.cd_base.specs.declared.place.Place.{Place}
+use Rattle.cd_base.specs.Order.{fp_cmp}
 use Rattle.user_dedup.specs.declared.command.Command.{Command}
 use Rattle.user_dedup.specs.declared.command.Command.TheVariants as commands
 use Rattle.user_dedup.specs.Cloud.{fingerprint}

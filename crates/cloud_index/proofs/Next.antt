@@ -152,7 +152,7 @@ holds_of shape list index is user key = (forth, back)
       where
         by_file : (o : Option FileEntry) → entry_at files key ≡ o → Contains (map file_key files) key
         by_file None at =
-            absurd (let gone : entry_in list (of user key) ≡ None = (none_entered shape list user key.0 key.1).1 at in
+            absurd (let gone : entry_in list (of user key) ≡ None = (none_entered shape list user key.0 key.1 is.undeleted).1 at in
             let wrong : false ≡ true = sym (ap (λ (o : Option Entry). is_some o) (got ∙ gone)) ∙ some in cc)
         by_file (Some file) at =
             let f = found_entry files key file at in
@@ -164,7 +164,7 @@ holds_of shape list index is user key = (forth, back)
         by_entry : (o : Option Entry) → get index.files (of user key) ≡ o → IsSome o
         by_entry None none =
             absurd (let r = mapped_at files key c in
-            no_entry files key ((none_entered shape list user key.0 key.1).0 (sym got ∙ none)) r.0 r.1 r.2 r.3)
+            no_entry files key ((none_entered shape list user key.0 key.1 is.undeleted).0 (sym got ∙ none)) r.0 r.1 r.2 r.3)
         by_entry (Some e) some = refl
 
 pub after_is : (shape : Shape) (list : List Command) (index : Files) (user : UserId) (last : Option Key) (result : Option Key) → IndexesFiles list index

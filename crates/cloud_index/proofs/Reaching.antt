@@ -1,8 +1,8 @@
 -- How far new shares reach, one after another.
 use Rattle.std.specs.Prelude.{◌≡◌, ℕ, ◌+◌, ◌<◌, ◌≤◌, ◌^◌, List, length, drop}
 use Rattle.std.specs.FinMap.{FinMap}
-use Rattle.share_index.specs.declared.key.Place.{Place}
-use Rattle.share_index.specs.Order.{fp_cmp}
+use Rattle.cd_base.specs.declared.place.Place.{Place}
+use Rattle.cd_base.specs.Order.{fp_cmp}
 use Rattle.cloud_store.specs.Space.{end_past}
 use Rattle.cloud_index.specs.declared.rooms.New.{New}
 use Rattle.cloud_index.specs.News.{fresh_lens}

@@ -17,8 +17,9 @@ use Rattle.container_log.specs.Places.{end_after, end_of_laid}
 use Rattle.container_log.specs.Laying.{lengths}
 use Rattle.record_body.specs.declared.body.PutItem.{PutItem}
 use Rattle.share_index.specs.declared.key.Owner.{Owner}
-use Rattle.share_index.specs.declared.key.Place.{Place}
-use Rattle.share_index.specs.Order.{fp_cmp, owner_cmp, owner_of, fp_exact, owner_exact}
+use Rattle.cd_base.specs.declared.place.Place.{Place}
+use Rattle.share_index.specs.Order.{owner_cmp, owner_of, owner_exact}
+use Rattle.cd_base.specs.Order.{fp_cmp, fp_exact}
 use Rattle.share_index.specs.Shares.{Shares}
 use Rattle.share_index.proofs.Owning.{owner_total}
 use Rattle.share_index.proofs.Placing.{fp_total}
@@ -35,6 +36,7 @@ use Rattle.cloud_store.proofs.Distinct.{among-append, none_placed, fresh_known, 
 use Rattle.cloud_store.proofs.Entries.{entry_put}
 use Rattle.cloud_store.proofs.Laying.{end-append}
 use Rattle.cloud_store.proofs.Lists.{strings_more, recipes_more}
+use Rattle.cloud_store.proofs.Undeleted.{undeleted_more, front_undeleted}
 use Rattle.cloud_index.specs.declared.index.CloudIndex.{CloudIndex}
 use Rattle.cloud_index.specs.Memory.{Remembers}
 use Rattle.cloud_index.specs.Taking.{places_with, end_with, TakesItem}
@@ -175,6 +177,7 @@ module _ (shape : Shape) (list : List Command) (user : UserId) (strings : List (
   files_next index is = record {
     files = λ key. is.files key ∙ entry_put list user strings key ∙ sym (entry_put list user (strings ++ s ∷ []) key);
     count = is.count ∙ ap length (sym same_recipes);
+    undeleted = undeleted_more list (commands.Put user (strings ++ s ∷ [])) (front_undeleted list (commands.Put user strings ∷ []) is.undeleted) tt;
   }
 
   string_next : (old new : CloudIndex) → Remembers shape before_list old → get old.shares.owners (owner_of user.0 (fingerprint s).0) ≡ None

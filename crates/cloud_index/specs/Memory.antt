@@ -9,8 +9,8 @@ use Rattle.cd_base.specs.declared.rooms.Rooms.{Rooms}
 use Rattle.cd_base.specs.declared.shape.Shape.{Shape}
 use Rattle.file_index.specs.Files.{key_of}
 use Rattle.file_index.specs.Files.{used_by as files_used}
-use Rattle.index_base.specs.declared.Accounts.TheVariants.{Shared}
-use Rattle.index_base.specs.Accounts.{limit_for}
+use Rattle.pool_map.specs.declared.accounts.Accounts.TheVariants.{Shared}
+use Rattle.pool_map.specs.Accounts.{limit_for}
 use Rattle.message_fields.specs.Keys.{is_above}
 use Rattle.share_index.specs.Order.{owner_of}
 use Rattle.share_index.specs.Shares.{used_by as owners_used}

@@ -7,8 +7,9 @@ use Rattle.cd_base.specs.declared.rooms.Rooms.{Rooms}
 use Rattle.container_log.specs.Places.{place_of, end_after, end_of_laid}
 use Rattle.container_log.specs.Laying.{lengths}
 use Rattle.record_body.specs.declared.body.PutItem.{PutItem}
-use Rattle.share_index.specs.declared.key.Place.{Place}
-use Rattle.share_index.specs.Order.{fp_cmp, owner_of}
+use Rattle.cd_base.specs.declared.place.Place.{Place}
+use Rattle.share_index.specs.Order.{owner_of}
+use Rattle.cd_base.specs.Order.{fp_cmp}
 use Rattle.user_dedup.specs.Cloud.{fingerprint}
 use Rattle.user_dedup.specs.Dedup.{FullRoom}
 use Rattle.cloud_index.specs.declared.index.CloudIndex.{CloudIndex}

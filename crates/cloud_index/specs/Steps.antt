@@ -5,9 +5,9 @@ use Rattle.cd_base.specs.declared.ids.Fp.{Fp}
 use Rattle.cd_base.specs.declared.ids.UserId.{UserId}
 use Rattle.cd_base.specs.declared.rooms.Rooms.{Rooms}
 use Rattle.container_log.specs.Places.{place_of, end_after, end_of_laid}
-use Rattle.index_base.specs.declared.Accounts.TheVariants.{Shared}
+use Rattle.pool_map.specs.declared.accounts.Accounts.TheVariants.{Shared}
 use Rattle.record_body.specs.declared.body.PutItem.{PutItem}
-use Rattle.share_index.specs.declared.key.Place.{Place}
+use Rattle.cd_base.specs.declared.place.Place.{Place}
 use Rattle.share_index.specs.Order.{owner_of}
 use Rattle.cloud_index.specs.declared.index.CloudIndex.{CloudIndex}
 use Rattle.cloud_index.specs.declared.rooms.New.{New}

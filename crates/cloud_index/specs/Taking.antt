@@ -5,8 +5,9 @@ use Rattle.file_index.specs.Files.{key_of}
 use Rattle.cd_base.specs.declared.ids.UserId.{UserId}
 use Rattle.record_body.specs.declared.body.CommitBody.{CommitBody}
 use Rattle.record_body.specs.declared.body.PutItem.{PutItem}
-use Rattle.share_index.specs.declared.key.Place.{Place}
-use Rattle.share_index.specs.Order.{fp_cmp, owner_of}
+use Rattle.cd_base.specs.declared.place.Place.{Place}
+use Rattle.share_index.specs.Order.{owner_of}
+use Rattle.cd_base.specs.Order.{fp_cmp}
 use Rattle.cloud_index.specs.declared.index.CloudIndex.{CloudIndex}
 
 -- The limits are as they were.

@@ -22,10 +22,10 @@ ghost use Rattle.cloud_index.specs.Steps.{Placed, Owned, part_in, Adds, AddsAll,
 use crate::places::place_behind;
 use crate::rooms::{OfCommit, OfPut, full_for_commit, full_for_put};
 use crate::{Full, New};
-use cd_base::{Fp, NoMemory, Rooms, Tag, UserId, Version};
+use cd_base::{Fp, NoMemory, Place, Rooms, Tag, UserId, Version};
 use file_index::{Entry, FileIndex};
 use record_body::{CommitBody, PutItem};
-use share_index::{Place, ShareIndex};
+use share_index::ShareIndex;
 use std::alloc::Global;
 
 /// What a server remembers of its cloud's list of commands: where each share lies, who owns which fingerprints, the entry of

@@ -9,4 +9,4 @@ mod places;
 mod rooms;
 
 pub use index::CloudIndex;
-pub use rooms::{Full, New};
+pub use rooms::{Full, New, full_for_delete};

@@ -1,9 +1,11 @@
 //! What a command needs of each room.
 
-ghost use Rattle.std.specs.Prelude.{◌≡◌, ◌<◌, ◌+◌, ◌^◌, option_map};
+ghost use Rattle.std.specs.Prelude.{◌≡◌, ◌<◌, ◌+◌, ◌^◌, List, option_map};
 ghost use Rattle.std.specs.Option.{option_or};
 ghost use Rattle.cd_base.specs.declared.rooms.Room.TheVariants as names;
-ghost use Rattle.cloud_store.specs.Space.{refusal};
+ghost use Rattle.user_dedup.specs.declared.command.Command.{Command};
+ghost use Rattle.cloud_store.specs.Records.{journal_len};
+ghost use Rattle.cloud_store.specs.Space.{refusal, deletion_full};
 ghost use Rattle.cloud_index.specs.News.{seen};
 
 use cd_base::{Fp, Room, Rooms};
@@ -108,4 +110,18 @@ pub(crate) fn full_for_commit(rooms: &Rooms, used: OfCommit, need: OfCommit) -> 
     let journal = full_room(Room::Journal, used.journal, need.journal, rooms.journal);
     let second = either(recipes, journal);
     either(files, second)
+}
+
+/// What a deletion is answered. A cloud's journal has no record of one, so there is never room for it: it needs a byte more than
+/// the journal has. Of the journal so many bytes are used, up to and with the last gate.
+pub fn full_for_delete(rooms: &Rooms, used: u64) -> Full
+    requires limit { rooms.now.journal < 2 ^ 63 }
+    ensures full { (list : List Command) → used ≡ journal_len list → seen result ≡ deletion_full rooms.now list }
+{
+    Full {
+        room: Room::Journal,
+        used,
+        need: rooms.journal + 1,
+        limit: rooms.journal,
+    }
 }

@@ -4,7 +4,8 @@ use Rattle.std.specs.Prelude.{true, false, is_some, option_map, slice_index_or}
 use Rattle.std.specs.FinMap.{get-empty}
 use Rattle.file_index.specs.Files.{key_of}
 use Rattle.file_index.specs.Order.{key_cmp}
-use Rattle.share_index.specs.Order.{fp_cmp, owner_cmp, owner_of}
+use Rattle.share_index.specs.Order.{owner_cmp, owner_of}
+use Rattle.cd_base.specs.Order.{fp_cmp}
 use Rattle.cd_base.specs.declared.shape.Shape.{Shape}
 use Rattle.spent_table.specs.Spending.{nothing as no_row}
 use Rattle.user_dedup.proofs.Owned.{contains_nothing}

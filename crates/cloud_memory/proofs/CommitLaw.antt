@@ -26,12 +26,12 @@ use Rattle.user_dedup.specs.Pages.{is_at, entry_at}
 use Rattle.user_dedup.specs.Pages.{key_of as file_key}
 use Rattle.user_dedup.specs.Requests.{fps_of}
 use Rattle.user_dedup.proofs.Owned.{among_contains}
-use Rattle.command_list.specs.declared.command.Command.{Command}
-use Rattle.command_list.specs.declared.command.Command.TheVariants as commands
-use Rattle.command_list.specs.Commands.{user_view, named_in, strings_in}
-use Rattle.command_list.specs.Spending.{Spent, spent_of, files_of}
-use Rattle.command_list.proofs.Deleting.{its_key}
-use Rattle.command_list.proofs.Views.{own_adds, others_stay}
+use Rattle.user_dedup.specs.declared.command.Command.{Command}
+use Rattle.user_dedup.specs.declared.command.Command.TheVariants as commands
+use Rattle.user_dedup.specs.Cloud.{user_view, named_in, strings_in}
+use Rattle.user_dedup.specs.Spending.{Spent, spent_of, files_of}
+use Rattle.user_dedup.proofs.Deleting.{its_key}
+use Rattle.user_dedup.proofs.Views.{own_adds, others_stay}
 use Rattle.cloud_areas.specs.Chains.{commit_of}
 use Rattle.cloud_memory.specs.Memory.{Memory, Remembers, as_spent, uses_of, times, summary, summary_of}
 use Rattle.cloud_memory.specs.Sharing.{AreOwned}

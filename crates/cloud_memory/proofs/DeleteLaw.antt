@@ -15,15 +15,15 @@ use Rattle.user_dedup.specs.declared.view.View.{View}
 use Rattle.user_dedup.specs.Owning.{is_among}
 use Rattle.user_dedup.specs.Pages.{is_at, entry_at, AreApart}
 use Rattle.user_dedup.specs.Requests.{fps_of}
-use Rattle.command_list.specs.declared.command.Command.{Command}
-use Rattle.command_list.specs.declared.command.Command.TheVariants as commands
-use Rattle.command_list.specs.Asking.{IsSound}
-use Rattle.command_list.specs.Commands.{user_view, named_by, named_in, without_key, still_owned, strings_in}
-use Rattle.command_list.specs.Commands.{without_entry as view_without}
-use Rattle.command_list.proofs.Deleting.{its_key, at_its_key, entry_gone, entry_stays, deleted_view}
-use Rattle.command_list.proofs.Sound.{keys_apart}
-use Rattle.command_list.proofs.Spending.{deletes_nothing_spent}
-use Rattle.command_list.proofs.Views.{others_stay}
+use Rattle.user_dedup.specs.declared.command.Command.{Command}
+use Rattle.user_dedup.specs.declared.command.Command.TheVariants as commands
+use Rattle.user_dedup.specs.Dedup.{IsSound}
+use Rattle.user_dedup.specs.Cloud.{user_view, named_by, named_in, without_key, still_owned, strings_in}
+use Rattle.user_dedup.specs.Cloud.{without_entry as view_without}
+use Rattle.user_dedup.proofs.Deleting.{its_key, at_its_key, entry_gone, entry_stays, deleted_view}
+use Rattle.user_dedup.proofs.Sound.{keys_apart}
+use Rattle.user_dedup.proofs.Spending.{deletes_nothing_spent}
+use Rattle.user_dedup.proofs.Views.{others_stay}
 use Rattle.cloud_memory.specs.Memory.{Memory, Remembers, uses_of, times, summary, summary_of}
 use Rattle.cloud_memory.specs.Steps.{without_entry}
 use Rattle.cloud_memory.proofs.Puts.{ArePlaced}

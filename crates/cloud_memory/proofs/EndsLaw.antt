@@ -15,11 +15,11 @@ use Rattle.file_index.specs.Files.{key_of}
 use Rattle.record_body.specs.declared.body.PutItem.{PutItem}
 use Rattle.record_bodies.specs.Spelling as bodies
 use Rattle.record_bodies.specs.Spelling.{Body}
-use Rattle.share_index.specs.declared.key.Place.{Place}
-use Rattle.command_list.specs.declared.command.Command.{Command}
-use Rattle.command_list.specs.declared.command.Command.TheVariants as commands
-use Rattle.command_list.specs.Asking.{IsSound}
-use Rattle.command_list.specs.Spending.{Spent, held_len, spent_by_all}
+use Rattle.cd_base.specs.declared.place.Place.{Place}
+use Rattle.user_dedup.specs.declared.command.Command.{Command}
+use Rattle.user_dedup.specs.declared.command.Command.TheVariants as commands
+use Rattle.user_dedup.specs.Dedup.{IsSound}
+use Rattle.user_dedup.specs.Spending.{Spent, held_len, spent_by_all}
 use Rattle.cloud_areas.specs.Placing.{shares_in, recipes_placed, recipes_in, places_given, places_of, region_start, end_of, greatest_end}
 use Rattle.cloud_areas.specs.Chains.{commit_of}
 use Rattle.cloud_memory.specs.declared.rooms.New.{New}

@@ -9,17 +9,17 @@ use Rattle.cd_base.specs.declared.shape.Shape.{Shape}
 use Rattle.file_index.specs.declared.key.FileKey.{FileKey}
 use Rattle.file_index.specs.Files.{key_of}
 use Rattle.file_index.specs.Files.{used_by as files_used}
-use Rattle.index_base.specs.declared.Accounts.{Accounts}
-use Rattle.index_base.specs.Accounts.{limit_for, use_for, keys_of}
+use Rattle.pool_map.specs.declared.accounts.Accounts.{Accounts}
+use Rattle.pool_map.specs.Accounts.{limit_for, use_for, keys_of}
 use Rattle.journal_start.specs.declared.rooms.Rooms.{Rooms}
 use Rattle.record_body.specs.declared.body.CommitBody.{CommitBody}
 use Rattle.share_index.specs.Order.{owner_cmp}
 use Rattle.spent_table.specs.declared.Spent.{Spent as Row}
 use Rattle.spent_table.specs.Spending.{spent_by, both, of_recipe}
 use Rattle.journal_start.specs.Ranges.{AreRooms}
-use Rattle.command_list.specs.declared.command.Command.{Command}
-use Rattle.command_list.specs.Spending.{Spent, nothing, refusal, limits_of, files_of, files_limit, IsWithin}
-use Rattle.command_list.proofs.Spending.{each_within}
+use Rattle.user_dedup.specs.declared.command.Command.{Command}
+use Rattle.user_dedup.specs.Spending.{Spent, nothing, refusal, limits_of, files_of, files_limit, IsWithin}
+use Rattle.user_dedup.proofs.Spending.{each_within}
 use Rattle.user_dedup.specs.Dedup.{FullRoom}
 use Rattle.cloud_memory.specs.declared.cloud.CloudMemory.{CloudMemory}
 use Rattle.cloud_memory.specs.Memory.{Memory}

@@ -15,7 +15,7 @@ use Rattle.recipe.specs.Spelling.{is_name_len, is_file_len, is_count, total}
 use Rattle.recipe.specs.Reading.{item_at, items_at, file_at, ended, tail_at, recipe_left, placed, recipe_at}
 use Rattle.user_dedup.specs.declared.file_list.FileEntry.{FileEntry}
 use Rattle.user_dedup.specs.Requests.{fps_read, fps_of}
-use Rattle.command_list.specs.Commands.{named_in}
+use Rattle.user_dedup.specs.Cloud.{named_in}
 use Rattle.cloud_memory.specs.Memory.{times}
 use Rattle.cloud_memory.proofs.Naming.{times-cons}
 

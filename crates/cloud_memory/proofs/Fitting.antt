@@ -17,8 +17,8 @@ use Rattle.record_body.specs.declared.body.PutItem.{PutItem}
 use Rattle.record_bodies.specs.declared.body.KeptItem.{KeptItem}
 use Rattle.record_bodies.specs.Spelling.{FitsKept}
 use Rattle.spent_table.specs.declared.Spent.{Spent}
-use Rattle.share_index.specs.declared.key.Place.{Place}
-use Rattle.share_index.specs.Order.{fp_cmp}
+use Rattle.cd_base.specs.declared.place.Place.{Place}
+use Rattle.cd_base.specs.Order.{fp_cmp}
 use Rattle.share_index.proofs.Placing.{fp_total}
 use Rattle.cloud_memory.specs.declared.rooms.New.{New}
 use Rattle.cloud_memory.specs.Memory.{Memory}

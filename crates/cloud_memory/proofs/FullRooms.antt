@@ -13,13 +13,14 @@ use Rattle.cd_base.specs.declared.ids.Version.{Version}
 use Rattle.cd_base.specs.declared.rooms.Room.{Room}
 use Rattle.cd_base.specs.declared.rooms.Room.TheVariants as names
 use Rattle.cd_base.specs.declared.shape.Shape.{Shape}
-use Rattle.index_base.specs.Accounts.{keys_of}
+use Rattle.pool_map.specs.Accounts.{keys_of}
 use Rattle.file_index.specs.declared.key.FileKey.{FileKey}
 use Rattle.file_index.specs.Order.{key_exact}
 use Rattle.file_index.proofs.Order.{key_total}
 use Rattle.journal_start.specs.declared.rooms.Rooms.{Rooms}
 use Rattle.share_index.specs.declared.key.Owner.{Owner}
-use Rattle.share_index.specs.Order.{owner_of, fp_exact, owner_exact}
+use Rattle.share_index.specs.Order.{owner_of, owner_exact}
+use Rattle.cd_base.specs.Order.{fp_exact}
 use Rattle.share_index.proofs.Owning.{owner_total}
 use Rattle.share_index.proofs.Placing.{fp_total}
 use Rattle.spent_table.specs.Spending.{spent_by}
@@ -31,15 +32,15 @@ use Rattle.user_dedup.specs.Owning.{is_among}
 use Rattle.user_dedup.specs.Pages.{entry_at, AreApart}
 use Rattle.user_dedup.specs.Pages.{key_of as file_key}
 use Rattle.user_dedup.proofs.Owned.{among_contains, contains_here, contains_later, contains_nothing, contains_cases}
-use Rattle.command_list.specs.declared.command.Command.{Command}
-use Rattle.command_list.specs.declared.command.Command.TheVariants as commands
-use Rattle.command_list.specs.Asking.{IsSound}
-use Rattle.command_list.specs.Commands.{user_of, commands_of, strings_of, strings_in, view_after, user_view, named_by, named_in, without_key}
-use Rattle.command_list.specs.Spending.{Spent, nothing, refusal, limits_of, spent_of, files_of, files_limit, full_for, UsesWithin, IsWithin}
-use Rattle.command_list.specs.Spending as spending
-use Rattle.command_list.proofs.Once.{Once}
-use Rattle.command_list.proofs.Sound.{keys_apart}
-use Rattle.command_list.proofs.Spending.{each_within}
+use Rattle.user_dedup.specs.declared.command.Command.{Command}
+use Rattle.user_dedup.specs.declared.command.Command.TheVariants as commands
+use Rattle.user_dedup.specs.Dedup.{IsSound}
+use Rattle.user_dedup.specs.Cloud.{user_of, commands_of, strings_of, strings_in, view_after, user_view, named_by, named_in, without_key}
+use Rattle.user_dedup.specs.Spending.{Spent, nothing, refusal, limits_of, spent_of, files_of, files_limit, full_for, UsesWithin, IsWithin}
+use Rattle.user_dedup.specs.Spending as spending
+use Rattle.user_dedup.proofs.Once.{Once}
+use Rattle.user_dedup.proofs.Sound.{keys_apart}
+use Rattle.user_dedup.proofs.Spending.{each_within}
 use Rattle.cloud_memory.specs.declared.rooms.New.{New}
 use Rattle.cloud_memory.specs.Memory.{Memory, Remembers, uses_of}
 use Rattle.cloud_memory.specs.News.{AreOf, AreNewTo}

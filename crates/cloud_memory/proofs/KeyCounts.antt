@@ -9,7 +9,7 @@ use Rattle.std.specs.FinMap.{find, FinMap, get, remove, len, len-entries, entrie
 use Rattle.std.proofs.lemmas.List.Sums.{sum_by-cons}
 use Rattle.pool_map.specs.MapSums.{sum_by-remove}
 use Rattle.user_dedup.proofs.Owned.{contains_here, contains_later, contains_nothing, contains_cases}
-use Rattle.command_list.proofs.Once.{Once}
+use Rattle.user_dedup.proofs.Once.{Once}
 use Rattle.cloud_memory.proofs.Keys.{is_eq-at}
 
 none_found : {X : Type 0} (t : Bool) (x : X) (o : Option X) → cond t (Some x) o ≡ None → (t ≡ false) × (o ≡ None)

@@ -9,17 +9,17 @@ use Rattle.std.proofs.Math.Seq.{get_or-set_same, get_or-set_other}
 use Rattle.std.specs.FinMap.{FinMap, get}
 use Rattle.cd_base.specs.declared.ids.Fp.{Fp}
 use Rattle.cd_base.specs.declared.ids.UserId.{UserId}
-use Rattle.share_index.specs.declared.key.Place.{Place}
-use Rattle.share_index.specs.Order.{fp_cmp}
+use Rattle.cd_base.specs.declared.place.Place.{Place}
+use Rattle.cd_base.specs.Order.{fp_cmp}
 use Rattle.spent_table.specs.declared.Spent.{Spent as Row}
 use Rattle.spent_table.specs.Spending.{spent_by, nothing as no_row}
 use Rattle.user_dedup.specs.Cloud.{fingerprint, has_fingerprint}
 use Rattle.user_dedup.specs.Owning.{is_among}
 use Rattle.user_dedup.proofs.Owned.{among_contains, contains_among, contains_here, contains_later}
-use Rattle.command_list.specs.declared.command.Command.{Command}
-use Rattle.command_list.specs.Commands.{is_of, commands_of, strings_of, strings_in, recipes_of, held_bytes}
-use Rattle.command_list.specs.Spending.{Spent, held_len, spent_in, spent_of, spent_by_all}
-use Rattle.command_list.proofs.Views.{strings_among, sent_is_held, held_more}
+use Rattle.user_dedup.specs.declared.command.Command.{Command}
+use Rattle.user_dedup.specs.Cloud.{is_of, commands_of, strings_of, strings_in, recipes_of, held_bytes}
+use Rattle.user_dedup.specs.Spending.{Spent, held_len, spent_in, spent_of, spent_by_all}
+use Rattle.user_dedup.proofs.Views.{strings_among, sent_is_held, held_more}
 use Rattle.cloud_memory.proofs.Puts.{ArePlaced, len_at}
 
 -- ---- strings

@@ -11,7 +11,7 @@ use Rattle.cd_base.specs.declared.ids.UserId.{UserId}
 use Rattle.share_index.specs.Order.{owner_cmp, owner_of}
 use Rattle.share_index.specs.Shares.{uses_at}
 use Rattle.user_dedup.specs.Owning.{is_among}
-use Rattle.command_list.specs.Commands.{still_owned}
+use Rattle.user_dedup.specs.Cloud.{still_owned}
 use Rattle.cloud_memory.specs.Memory.{times}
 use Rattle.cloud_memory.specs.Steps.{raised, with_use, less_one, without_use}
 use Rattle.cloud_memory.proofs.Keys.{owner_in, owner_out}

@@ -22,8 +22,8 @@ use Rattle.file_index.specs.Order.{key_cmp, key_exact}
 use Rattle.message_fields.specs.Keys.{is_above, AreAbove}
 use Rattle.message_fields.specs.Keys.{key_cmp as cmp_keys}
 use Rattle.user_dedup.specs.declared.file_list.FileEntry.{FileEntry}
-use Rattle.command_list.specs.declared.command.Command.{Command}
-use Rattle.command_list.specs.Commands.{user_view}
+use Rattle.user_dedup.specs.declared.command.Command.{Command}
+use Rattle.user_dedup.specs.Cloud.{user_view}
 use Rattle.user_dedup.specs.Pages.{page_of, entry_at, IsPage}
 use Rattle.user_dedup.specs.Pages.{key_of as file_key}
 use Rattle.user_dedup.proofs.Owned.{contains_here, contains_later, contains_nothing, contains_cases}

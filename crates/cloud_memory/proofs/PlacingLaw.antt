@@ -19,8 +19,8 @@ use Rattle.record_body.specs.declared.body.PutItem.{PutItem}
 use Rattle.record_bodies.specs.declared.body.DeleteBody.{DeleteBody}
 use Rattle.record_bodies.specs.Spelling as bodies
 use Rattle.record_bodies.specs.Spelling.{Body}
-use Rattle.share_index.specs.declared.key.Place.{Place}
-use Rattle.share_index.specs.Order.{fp_cmp}
+use Rattle.cd_base.specs.declared.place.Place.{Place}
+use Rattle.cd_base.specs.Order.{fp_cmp}
 use Rattle.user_dedup.proofs.Owned.{fp_same, contains_here, contains_nothing, contains_cases}
 use Rattle.cloud_areas.specs.Placing.{shares_placed, shares_in, places_given}
 use Rattle.cloud_memory.specs.declared.rooms.New.{New}

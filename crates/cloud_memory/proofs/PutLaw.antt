@@ -14,7 +14,7 @@ use Rattle.cd_base.specs.declared.ids.Version.{Version}
 use Rattle.cd_base.specs.declared.shape.Shape.{Shape}
 use Rattle.file_index.specs.Files.{key_of}
 use Rattle.record_body.specs.declared.body.PutItem.{PutItem}
-use Rattle.share_index.specs.declared.key.Place.{Place}
+use Rattle.cd_base.specs.declared.place.Place.{Place}
 use Rattle.share_index.specs.Order.{owner_of}
 use Rattle.spent_table.specs.declared.Spent.{Spent as Row}
 use Rattle.spent_table.specs.Spending.{spent_by, both}
@@ -25,14 +25,14 @@ use Rattle.user_dedup.specs.Owning.{is_among}
 use Rattle.user_dedup.specs.Pages.{entry_at}
 use Rattle.user_dedup.specs.Requests.{fps_of}
 use Rattle.user_dedup.proofs.Owned.{among_contains, contains_among}
-use Rattle.command_list.specs.declared.command.Command.{Command}
-use Rattle.command_list.specs.declared.command.Command.TheVariants as commands
-use Rattle.command_list.specs.Asking.{IsSound}
-use Rattle.command_list.specs.Commands.{user_view, named_in, strings_in}
-use Rattle.command_list.specs.Spending.{Spent, held_len, spent_of}
-use Rattle.command_list.proofs.Filtered.{from_flat}
-use Rattle.command_list.proofs.Sound.{entries_owned}
-use Rattle.command_list.proofs.Views.{own_adds, others_stay}
+use Rattle.user_dedup.specs.declared.command.Command.{Command}
+use Rattle.user_dedup.specs.declared.command.Command.TheVariants as commands
+use Rattle.user_dedup.specs.Dedup.{IsSound}
+use Rattle.user_dedup.specs.Cloud.{user_view, named_in, strings_in}
+use Rattle.user_dedup.specs.Spending.{Spent, held_len, spent_of}
+use Rattle.user_dedup.proofs.Filtered.{from_flat}
+use Rattle.user_dedup.proofs.Sound.{entries_owned}
+use Rattle.user_dedup.proofs.Views.{own_adds, others_stay}
 use Rattle.cloud_memory.specs.declared.rooms.New.{New}
 use Rattle.cloud_memory.specs.Memory.{Memory, Remembers, as_spent, uses_of, summary, summary_of}
 use Rattle.cloud_memory.specs.News.{AreOf, AreNewTo}

@@ -9,8 +9,8 @@ use Rattle.cd_base.specs.declared.ids.UserId.{UserId}
 use Rattle.record_body.specs.Spelling.{placed_bytes, item_bytes}
 use Rattle.record_bodies.specs.Spelling as bodies
 use Rattle.record_bodies.specs.Spelling.{body_bytes}
-use Rattle.share_index.specs.declared.key.Place.{Place}
-use Rattle.share_index.specs.Order.{fp_cmp}
+use Rattle.cd_base.specs.declared.place.Place.{Place}
+use Rattle.cd_base.specs.Order.{fp_cmp}
 use Rattle.cloud_memory.specs.declared.rooms.New.{New}
 use Rattle.cloud_memory.specs.Memory.{Memory}
 use Rattle.cloud_memory.specs.News.{AreApart}

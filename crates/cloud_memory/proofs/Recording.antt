@@ -12,12 +12,12 @@ use Rattle.container_log.specs.Laying.{lengths}
 use Rattle.container_log.specs.Places.{container_len, place_of}
 use Rattle.record_bodies.specs.Spelling as bodies
 use Rattle.record_bodies.specs.Spelling.{Body}
-use Rattle.share_index.specs.declared.key.Place.{Place}
+use Rattle.cd_base.specs.declared.place.Place.{Place}
 use Rattle.user_dedup.specs.Cloud.{fingerprint}
 use Rattle.user_dedup.specs.Owning.{is_among}
-use Rattle.command_list.specs.declared.command.Command.{Command}
-use Rattle.command_list.specs.declared.command.Command.TheVariants as commands
-use Rattle.command_list.specs.Commands.{strings_in}
+use Rattle.user_dedup.specs.declared.command.Command.{Command}
+use Rattle.user_dedup.specs.declared.command.Command.TheVariants as commands
+use Rattle.user_dedup.specs.Cloud.{strings_in}
 use Rattle.cloud_areas.specs.Chains.{PlacedNew, AreItems, IsRecord, commit_of}
 use Rattle.cloud_areas.specs.Laid.{AreLaid}
 use Rattle.cloud_areas.specs.Placing.{places_given, places_of, end_of, AreBehind}

@@ -12,18 +12,19 @@ use Rattle.cd_base.specs.declared.ids.UserId.{UserId}
 use Rattle.cd_base.specs.declared.rooms.Room.{Room}
 use Rattle.cd_base.specs.declared.rooms.Room.TheVariants as names
 use Rattle.container_log.specs.Places.{place_of}
-use Rattle.index_base.specs.declared.Accounts.{Accounts}
-use Rattle.index_base.specs.Accounts.{limit_for, use_for, keys_of}
+use Rattle.pool_map.specs.declared.accounts.Accounts.{Accounts}
+use Rattle.pool_map.specs.Accounts.{limit_for, use_for, keys_of}
 use Rattle.journal_start.specs.declared.rooms.Rooms.{Rooms}
 use Rattle.journal_start.specs.Ranges.{AreRooms}
 use Rattle.record_body.specs.declared.body.PutItem.{PutItem}
 use Rattle.share_index.specs.declared.key.Owner.{Owner}
-use Rattle.share_index.specs.declared.key.Place.{Place}
-use Rattle.share_index.specs.Order.{fp_cmp, owner_cmp, owner_of}
+use Rattle.cd_base.specs.declared.place.Place.{Place}
+use Rattle.share_index.specs.Order.{owner_cmp, owner_of}
+use Rattle.cd_base.specs.Order.{fp_cmp}
 use Rattle.share_index.proofs.Placing.{fp_total}
 use Rattle.spent_table.specs.declared.Spent.{Spent as Row}
 use Rattle.spent_table.specs.Spending.{spent_by, both}
-use Rattle.command_list.specs.Spending.{Spent, nothing, refusal, limits_of}
+use Rattle.user_dedup.specs.Spending.{Spent, nothing, refusal, limits_of}
 use Rattle.user_dedup.specs.Dedup.{FullRoom}
 use Rattle.cloud_memory.specs.declared.cloud.CloudMemory.{CloudMemory}
 use Rattle.cloud_memory.specs.declared.rooms.New.{New}

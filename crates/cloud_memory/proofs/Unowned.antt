@@ -10,8 +10,8 @@ use Rattle.cd_base.specs.declared.shape.Shape.{Shape}
 use Rattle.share_index.specs.Order.{owner_cmp, owner_of}
 use Rattle.user_dedup.specs.Owning.{is_among, lacking_from, first_lacking}
 use Rattle.user_dedup.proofs.Owned.{among_contains, contains_among}
-use Rattle.command_list.specs.declared.command.Command.{Command}
-use Rattle.command_list.specs.Commands.{user_view}
+use Rattle.user_dedup.specs.declared.command.Command.{Command}
+use Rattle.user_dedup.specs.Cloud.{user_view}
 use Rattle.cloud_memory.specs.Memory.{Memory, Remembers, uses_of}
 use Rattle.cloud_memory.specs.Sharing.{AreOwned, IsFirstUnowned, FindsUnowned}
 use Rattle.cloud_memory.proofs.Walking.{take_next, take_whole}

@@ -6,8 +6,8 @@ use Rattle.file_index.specs.declared.key.FileKey.{FileKey}
 use Rattle.file_index.specs.Order.{key_cmp}
 use Rattle.message_fields.specs.Shares.{share_limit}
 use Rattle.record_body.specs.declared.body.PutItem.{PutItem}
-use Rattle.share_index.specs.declared.key.Place.{Place}
-use Rattle.share_index.specs.Order.{fp_cmp}
+use Rattle.cd_base.specs.declared.place.Place.{Place}
+use Rattle.cd_base.specs.Order.{fp_cmp}
 use Rattle.cloud_memory.specs.Memory.{Memory}
 
 -- Each share has from 1 to 8,208 bytes.

@@ -5,14 +5,14 @@ use Rattle.cd_base.specs.declared.ids.Fp.{Fp}
 use Rattle.cd_base.specs.declared.ids.UserId.{UserId}
 use Rattle.file_index.specs.declared.key.Entry.{Entry}
 use Rattle.file_index.specs.Order.{key_cmp}
-use Rattle.index_base.specs.declared.Accounts.TheVariants.{PerUser}
+use Rattle.pool_map.specs.declared.accounts.Accounts.TheVariants.{PerUser}
 use Rattle.file_index.specs.Files.{key_of}
 use Rattle.file_index.specs.Files.{used_by as files_used}
-use Rattle.index_base.specs.Accounts.{limit_for, keys_of}
+use Rattle.pool_map.specs.Accounts.{limit_for, keys_of}
 use Rattle.journal_start.specs.declared.rooms.Rooms.{Rooms}
 use Rattle.record_body.specs.declared.body.CommitBody.{CommitBody}
 use Rattle.record_body.specs.declared.body.PutItem.{PutItem}
-use Rattle.share_index.specs.declared.key.Place.{Place}
+use Rattle.cd_base.specs.declared.place.Place.{Place}
 use Rattle.share_index.specs.Order.{owner_of}
 use Rattle.share_index.specs.Shares.{used_by as owners_used}
 use Rattle.spent_table.specs.Spending.{spent_by}

@@ -10,8 +10,9 @@ use Rattle.cd_base.specs.declared.shape.Shape.{Shape}
 use Rattle.container_log.specs.Laying.{IsAt}
 use Rattle.message_fields.specs.Keys.{is_above}
 use Rattle.record_body.specs.declared.body.CommitBody.{CommitBody}
-use Rattle.share_index.specs.declared.key.Place.{Place}
-use Rattle.share_index.specs.Order.{fp_cmp, owner_cmp, owner_of}
+use Rattle.cd_base.specs.declared.place.Place.{Place}
+use Rattle.share_index.specs.Order.{owner_cmp, owner_of}
+use Rattle.cd_base.specs.Order.{fp_cmp}
 use Rattle.file_index.specs.declared.key.Entry.{Entry}
 use Rattle.file_index.specs.Files.{key_of}
 use Rattle.file_index.specs.Order.{key_cmp}
@@ -22,9 +23,9 @@ use Rattle.user_dedup.specs.Cloud.{fingerprint}
 use Rattle.user_dedup.specs.Owning.{is_among}
 use Rattle.user_dedup.specs.Pages.{entry_at, sorted_keys}
 use Rattle.user_dedup.specs.Pages.{key_of as file_key}
-use Rattle.command_list.specs.declared.command.Command.{Command}
-use Rattle.command_list.specs.Commands.{user_view, named_in, strings_in, held_bytes}
-use Rattle.command_list.specs.Spending.{Spent, spent_of, spent_by_all}
+use Rattle.user_dedup.specs.declared.command.Command.{Command}
+use Rattle.user_dedup.specs.Cloud.{user_view, named_in, strings_in, held_bytes}
+use Rattle.user_dedup.specs.Spending.{Spent, spent_of, spent_by_all}
 use Rattle.record_bodies.specs.Spelling.{Body, Commit}
 use Rattle.cloud_areas.specs.Placing.{shares_in, recipes_in, region_start, places_of, greatest_end}
 use Rattle.cloud_areas.specs.Chains.{least_shares, least_recipes}

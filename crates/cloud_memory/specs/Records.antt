@@ -5,9 +5,9 @@ use Rattle.cd_base.specs.declared.ids.Fp.{Fp}
 use Rattle.cd_base.specs.declared.ids.UserId.{UserId}
 use Rattle.cd_base.specs.declared.rooms.Room.TheVariants.{Files}
 use Rattle.file_index.specs.Files.{used_by as files_used}
-use Rattle.index_base.specs.Accounts.{limit_for}
+use Rattle.pool_map.specs.Accounts.{limit_for}
 use Rattle.record_body.specs.declared.body.PutItem.{PutItem}
-use Rattle.share_index.specs.declared.key.Place.{Place}
+use Rattle.cd_base.specs.declared.place.Place.{Place}
 use Rattle.share_index.specs.Order.{owner_of}
 use Rattle.share_index.specs.Shares.{used_by as owners_used}
 use Rattle.cloud_areas.specs.Placing.{end_of}

@@ -4,10 +4,10 @@ use Rattle.std.specs.Option.{option_or}
 use Rattle.std.specs.FinMap.{len}
 use Rattle.cd_base.specs.declared.ids.UserId.{UserId}
 use Rattle.cd_base.specs.declared.rooms.Room.TheVariants as names
-use Rattle.command_list.specs.Spending.{refusal, limits_of, files_limit}
+use Rattle.user_dedup.specs.Spending.{refusal, limits_of, files_limit}
 use Rattle.user_dedup.specs.Dedup.{FullRoom}
-use Rattle.index_base.specs.Accounts.{keys_of}
-use Rattle.index_base.specs.declared.Accounts.TheVariants.{PerUser}
+use Rattle.pool_map.specs.Accounts.{keys_of}
+use Rattle.pool_map.specs.declared.accounts.Accounts.TheVariants.{PerUser}
 use Rattle.journal_start.specs.declared.rooms.Rooms.{Rooms}
 use Rattle.spent_table.specs.Spending.{spent_by}
 use Rattle.cloud_memory.specs.declared.cloud.CloudMemory.{CloudMemory}

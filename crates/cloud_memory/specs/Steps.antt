@@ -10,8 +10,9 @@ use Rattle.file_index.specs.Files.{key_of}
 use Rattle.record_body.specs.declared.body.CommitBody.{CommitBody}
 use Rattle.record_body.specs.declared.body.PutItem.{PutItem}
 use Rattle.record_bodies.specs.declared.body.KeptItem.{KeptItem}
-use Rattle.share_index.specs.declared.key.Place.{Place}
-use Rattle.share_index.specs.Order.{fp_cmp, owner_cmp, owner_of}
+use Rattle.cd_base.specs.declared.place.Place.{Place}
+use Rattle.share_index.specs.Order.{owner_cmp, owner_of}
+use Rattle.cd_base.specs.Order.{fp_cmp}
 use Rattle.share_index.specs.Shares.{uses_at}
 use Rattle.spent_table.specs.declared.Spent.{Spent}
 use Rattle.spent_table.specs.Spending.{nothing, spent_by, both}

@@ -3,13 +3,13 @@
 ghost use Rattle.std.specs.Prelude.{◌≡◌, ◌<◌, ◌≤◌, ◌+◌, ◌*◌, ◌^◌, ℕ, List, length, sum_by, option_map};
 ghost use Rattle.std.specs.FinMap as maps;
 ghost use Rattle.cd_base.specs.declared.shape.Shape.{Shape};
-ghost use Rattle.index_base.specs.Accounts.{keys_of};
+ghost use Rattle.pool_map.specs.Accounts.{keys_of};
 ghost use Rattle.journal_start.specs.Ranges.{AreRooms};
 ghost use Rattle.record_bodies.specs.Spelling as bodies;
 ghost use Rattle.record_bodies.specs.Spelling.{body_bytes};
-ghost use Rattle.command_list.specs.declared.command.Command.{Command};
-ghost use Rattle.command_list.specs.Spending.{files_of};
-ghost use Rattle.command_list.specs.Asking.{IsSound};
+ghost use Rattle.user_dedup.specs.declared.command.Command.{Command};
+ghost use Rattle.user_dedup.specs.Spending.{files_of};
+ghost use Rattle.user_dedup.specs.Dedup.{IsSound};
 ghost use Rattle.cloud_memory.specs.Memory.{Remembers};
 ghost use Rattle.cloud_memory.specs.News.{AreNewTo, seen};
 ghost use Rattle.cloud_memory.specs.Rooms.{memory_of, HasRooms, full_put, full_news, full_files, full_commit};

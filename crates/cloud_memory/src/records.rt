@@ -2,7 +2,7 @@
 
 ghost use Rattle.std.specs.Prelude.{◌≡◌, ◌↔◌, ◌<◌, ◌+◌, ◌^◌, length, None, IsErr, IfErr, OnOk, OnErr};
 ghost use Rattle.std.specs.FinMap as maps;
-ghost use Rattle.index_base.specs.Accounts.{keys_of, limit_for};
+ghost use Rattle.pool_map.specs.Accounts.{keys_of, limit_for};
 ghost use Rattle.journal_start.specs.declared.rooms.Rooms.{Rooms};
 ghost use Rattle.share_index.specs.Order.{owner_of};
 ghost use Rattle.share_index.specs.Shares.{used_by as owners_used};

@@ -2,7 +2,7 @@
 
 ghost use Rattle.std.specs.Prelude.{◌≡◌, option_map};
 ghost use Rattle.std.specs.Option.{option_or};
-ghost use Rattle.command_list.specs.Spending.{refusal, limits_of, files_limit};
+ghost use Rattle.user_dedup.specs.Spending.{refusal, limits_of, files_limit};
 ghost use Rattle.cloud_memory.specs.News.{seen};
 
 use cd_base::{Fp, Room, UserId};

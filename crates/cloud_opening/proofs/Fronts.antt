@@ -24,6 +24,7 @@ use Rattle.cloud_store.specs.Records.{record_after, records_after, bodies_in, re
 use Rattle.cloud_store.specs.Space.{Use, use_of, IsWithin}
 use Rattle.cloud_store.proofs.Distinct.{distinct-append}
 use Rattle.cloud_store.proofs.Lists.{strings_more, recipes_more, journal_more}
+use Rattle.cloud_store.proofs.Undeleted.{front_undeleted}
 use Rattle.cloud_store.proofs.Laying.{shares_end-append, end-append, end_behind}
 
 -- ---- how much they use
@@ -78,6 +79,7 @@ within_front rooms list left w =
       shares = omega (arith, u.shares, w.shares);
       recipes = omega (arith, u.recipes, w.recipes);
       journal = omega (arith, u.journal, w.journal);
+      undeleted = front_undeleted list left w.undeleted;
     }
 
 -- ---- they are sound

@@ -45,7 +45,7 @@ unfolding StandsFor
 stands_sound image header list s = s.0
 
 pub has_none : (image : Image) (header : Header) → IsJournal (header_bytes header ∷ []) (image Journal) → HasList image header []
-has_none image header journal = record { journal = journal; shares = All-nil (IsAt (image Shares)); recipes = All-nil (IsAt (image Recipes)) }
+has_none image header journal = record { journal = journal; shares = All-nil (IsAt (image Shares)); recipes = All-nil (IsAt (image Recipes)); undeleted = tt }
 
 none_stands : (image : Image) (header : Header) → IsNewOrUnbegun header (image Journal) → StandsFor image header []
 unfolding StandsFor
@@ -86,6 +86,7 @@ module _ (c0 c1 : Cloud) (header : Header) (journal : State)
         journal = subst (IsJournal (header_bytes header ∷ bodies_in list)) (sym is) has.journal;
         shares = subst (λ (l : List ℕ). All (IsAt l) (laid_shares (strings_in list))) (sym (ap (λ (s : Store). s.read) (others Shares (λ e. cc)))) has.shares;
         recipes = subst (λ (l : List ℕ). All (IsAt l) (placed 0 (recipes_in list))) (sym (ap (λ (s : Store). s.read) (others Recipes (λ e. cc)))) has.recipes;
+        undeleted = has.undeleted;
       }
 
   pub has_after : (list : List Command) → StandsFor (reads c0.now) header list → HasList (reads c1.now) header list
@@ -105,6 +106,7 @@ pub records_of : (cloud : Cloud) (header : Header) (list : List Command) (areas 
     → areas.shares ≡ length (cloud.now Shares).read → areas.recipes ≡ length (cloud.now Recipes).read → HasRecords header list areas (cloud.now Journal)
 records_of cloud header list areas sound has shares recipes = record {
   sound = sound;
+  undeleted = has.undeleted;
   journal = has.journal;
   shares = omega (arith, shares, ends_in (cloud.now Shares).read 0 (distinct (strings_in list)) (omega arith) has.shares);
   recipes = omega (arith, recipes, ends_in (cloud.now Recipes).read 0 (recipes_in list) (omega arith) has.recipes);
@@ -117,7 +119,7 @@ none_taken header list rooms journal store index room reading remembers = record
   whole = refl;
   reading = reading;
   remembers = remembers;
-  within = record { fps = omega arith; owners = omega arith; files = omega arith; shares = omega arith; recipes = omega arith; journal = omega (arith, room) };
+  within = record { fps = omega arith; owners = omega arith; files = omega arith; shares = omega arith; recipes = omega arith; journal = omega (arith, room); undeleted = tt };
 }
 
 -- a room in which not even the header's record lies

@@ -15,10 +15,11 @@ use Rattle.commit_journal.proofs.Unique.{one_journal, first_read, none_damaged}
 use Rattle.record_body.specs.Spelling.{body_bytes}
 use Rattle.user_dedup.specs.declared.command.Command.{Command}
 use Rattle.user_dedup.specs.Dedup.{IsSound}
-use Rattle.cloud_store.specs.Contents.{strings_in, shares_end, recipes_end}
+use Rattle.cloud_store.specs.Contents.{strings_in, shares_end, recipes_end, IsUndeleted}
 use Rattle.cloud_store.specs.Records.{record_after, bodies_in, journal_len}
 use Rattle.cloud_store.specs.Space.{use_of, IsWithin}
 use Rattle.cloud_store.proofs.Lists.{bodies_more}
+use Rattle.cloud_store.proofs.Undeleted.{front_undeleted, last_undeleted}
 use Rattle.cloud_index.specs.declared.index.CloudIndex.{CloudIndex}
 use Rattle.cloud_index.specs.Memory.{Remembers}
 use Rattle.record_replay.specs.declared.refusal.AreaLengths.{AreaLengths}
@@ -52,7 +53,7 @@ module _ (header : Header) (list done : List Command) (rooms : Rooms) (areas : A
 
     -- what a record's taking says of the command
     abbrev pub Taking : CloudIndex → Result (Unit {0}) OpenErr → Type 0
-    Taking after result = (h : Header) (before : List Command) (command : Command) → Remembers h.shape before index → IsSound h.shape h.cloud.0 (before ++ command ∷ [])
+    Taking after result = (h : Header) (before : List Command) (command : Command) → Remembers h.shape before index → IsSound h.shape h.cloud.0 (before ++ command ∷ []) → IsUndeleted (command ∷ [])
         → mid.body ≡ body_bytes (record_after before command) → IsWithin rooms before → mid.body_at ≡ journal_len before + 4
         → shares_end (strings_in (before ++ command ∷ [])) ≤ areas.shares → recipes_end (before ++ command ∷ []) ≤ areas.recipes
         → OneIs h before command rooms after result
@@ -63,6 +64,7 @@ module _ (header : Header) (list done : List Command) (rooms : Rooms) (areas : A
         let all = ap use_of f.whole in
         taking header done f.command taken.remembers
         (sound_front header.shape header.cloud.0 (done ++ f.command ∷ []) f.rest (subst (IsSound header.shape header.cloud.0) f.whole records.sound))
+        (last_undeleted done f.command (front_undeleted (done ++ f.command ∷ []) f.rest (subst IsUndeleted f.whole records.undeleted)))
         f.body_is taken.within (omega (arith, over.body_at, taken.reading.gate, gate_behind header done))
         (omega (arith, front.shares, ap (λ (l : List Command). shares_end (strings_in l)) f.whole, records.shares))
         (omega (arith, front.recipes, ap (λ (l : List Command). recipes_end l) f.whole, records.recipes))

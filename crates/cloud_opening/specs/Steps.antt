@@ -17,7 +17,7 @@ use Rattle.commit_journal.specs.Outcomes.{HasGate}
 use Rattle.commit_journal.specs.States as journals
 use Rattle.user_dedup.specs.declared.command.Command.{Command}
 use Rattle.user_dedup.specs.Dedup.{IsSound}
-use Rattle.cloud_store.specs.Contents.{strings_in, shares_end, recipes_end}
+use Rattle.cloud_store.specs.Contents.{strings_in, shares_end, recipes_end, IsUndeleted}
 use Rattle.cloud_store.specs.Records.{bodies_in}
 use Rattle.cloud_store.specs.Space.{IsWithin}
 use Rattle.cloud_store.specs.Store.{HasList}
@@ -57,10 +57,11 @@ GateIs old new (Err e) = Unit {0}
 
 -- ---- by the list whose records the journal has
 
--- The journal has the records of the list, which is sound, and the areas reach as far as what it lays.
+-- The journal has the records of the list, which is sound and has no deletion, and the areas reach as far as what it lays.
 pub record HasRecords (header : Header) (list : List Command) (areas : AreaLengths) (store : Store) : Type 0 where
   pub sound : IsSound header.shape header.cloud.0 list
   pub journal : IsJournal (header_bytes header ∷ bodies_in list) store.read
+  pub undeleted : IsUndeleted list
   pub shares : shares_end (strings_in list) ≤ areas.shares
   pub recipes : recipes_end list ≤ areas.recipes
 

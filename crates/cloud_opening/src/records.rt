@@ -12,7 +12,7 @@ ghost use Rattle.commit_journal.specs.States.{state_of, IsReading};
 ghost use Rattle.record_body.specs.Spelling.{body_bytes};
 ghost use Rattle.user_dedup.specs.declared.command.Command.{Command};
 ghost use Rattle.user_dedup.specs.Dedup.{IsSound};
-ghost use Rattle.cloud_store.specs.Contents.{strings_in, shares_end, recipes_end};
+ghost use Rattle.cloud_store.specs.Contents.{strings_in, shares_end, recipes_end, IsUndeleted};
 ghost use Rattle.cloud_store.specs.Records.{record_after, journal_len};
 ghost use Rattle.cloud_store.specs.Space.{IsWithin};
 ghost use Rattle.cloud_index.specs.Memory.{Remembers, HasRooms};
@@ -75,7 +75,7 @@ fn take_record(
     requires end { (state_of journal.old).body_at + length (state_of journal.old).body < 2 ^ 64 }
     ensures rooms { HasRooms rooms.now index.new }
     ensures taken { (header : Header) (list : List Command) (command : Command) → Remembers header.shape list index.old
-        → IsSound header.shape header.cloud.0 (list ++ command ∷ [])
+        → IsSound header.shape header.cloud.0 (list ++ command ∷ []) → IsUndeleted (command ∷ [])
         → (state_of journal.old).body ≡ body_bytes (record_after list command) → IsWithin rooms.now list
         → (state_of journal.old).body_at ≡ journal_len list + 4
         → shares_end (strings_in (list ++ command ∷ [])) ≤ areas.now.shares

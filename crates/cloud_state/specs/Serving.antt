@@ -35,11 +35,12 @@ abbrev pub laying_moments : List (List ℕ) → ℕ
 laying_moments [] = 0
 laying_moments (blob ∷ blobs) = 2
 
--- how many writes and syncs a command takes: two for what it lays, and four for its record
+-- how many writes and syncs a command takes: two for what it lays, and four for its record; a deletion is never added
 abbrev pub moments_of : List Command → Option Command → ℕ
 moments_of list None = 0
 moments_of list (Some (commands.Put user strings)) = laying_moments (fresh_after (strings_in list) strings) + 4
 moments_of list (Some (commands.Commit user tag version recipe)) = 6
+moments_of list (Some (commands.Delete user tag version)) = 0
 
 -- a reply that some open server gives to the request: it says neither that a device failed, nor that the journal is damaged, nor that
 -- memory ran out

@@ -8,7 +8,7 @@ use Rattle.cd_base.specs.declared.ids.Fp.{Fp}
 use Rattle.container_log.specs.Places.{place_of, end_after}
 use Rattle.container_log.specs.Laying.{Placed, placed}
 use Rattle.container_log.proofs.Laid.{placed_more}
-use Rattle.share_index.specs.declared.key.Place.{Place}
+use Rattle.cd_base.specs.declared.place.Place.{Place}
 use Rattle.user_dedup.specs.Cloud.{fingerprint, has_fingerprint}
 use Rattle.user_dedup.specs.Owning.{is_among, new_strings}
 use Rattle.user_dedup.proofs.Owned.{fp_same}

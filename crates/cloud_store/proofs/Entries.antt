@@ -28,7 +28,7 @@ use Rattle.user_dedup.specs.declared.view.View.{View}
 use Rattle.user_dedup.specs.Cloud.{fingerprint, commands_of, no_view, view_after, user_view}
 use Rattle.user_dedup.specs.Pages.{is_at, entry_at}
 use Rattle.user_dedup.proofs.Owned.{contains_here, contains_later}
-use Rattle.cloud_store.specs.Contents.{recipes_in, recipes_end, entry_behind, entries_from, entry_in}
+use Rattle.cloud_store.specs.Contents.{recipes_in, recipes_end, entry_behind, entries_from, entry_in, IsUndeleted}
 
 -- ---- one command more
 
@@ -37,6 +37,7 @@ entries-append end [] b = refl
 entries-append end (commands.Put user shares ∷ a) b = entries-append end a b
 entries-append end (commands.Commit user tag version recipe ∷ a) b =
     ap (λ l. (key_of user.0 tag.0 version.0, entry_behind end recipe) ∷ l) (entries-append (end_after end (length recipe)) a b)
+entries-append end (commands.Delete user tag version ∷ a) b = entries-append end a b
 
 abbrev entry_found : List (FileKey × Entry) → FileKey → Option Entry
 entry_found es key = option_map (λ (e : FileKey × Entry). e.1) (find (λ (e : FileKey × Entry). eq_by_cmp key_cmp key e.0) es)
@@ -108,11 +109,12 @@ abbrev user_files : UserId → List Command → List FileEntry
 user_files user [] = []
 user_files user (commands.Put u shares ∷ list) = user_files user list
 user_files user (commands.Commit u tag version recipe ∷ list) = cond (u.0 == user.0) (record { tag = tag; version = version; recipe = recipe } ∷ user_files user list) (user_files user list)
+user_files user (commands.Delete u tag version ∷ list) = user_files user list
 
-files_of : (shape : Shape) (v : View) (list : List Command) (user : UserId) → (fold (view_after shape) v (commands_of user list)).files ≡ v.files ++ user_files user list
-files_of shape v [] user = sym (append-nil v.files)
-files_of shape v (commands.Put u shares ∷ list) user =
-    by_test (u.0 == user.0) (files_of shape (view_after shape v (commands.Put u shares)) list user) (files_of shape v list user)
+files_of : (shape : Shape) (v : View) (list : List Command) (user : UserId) → IsUndeleted list → (fold (view_after shape) v (commands_of user list)).files ≡ v.files ++ user_files user list
+files_of shape v [] user none = sym (append-nil v.files)
+files_of shape v (commands.Put u shares ∷ list) user none =
+    by_test (u.0 == user.0) (files_of shape (view_after shape v (commands.Put u shares)) list user none) (files_of shape v list user none)
   where
     by_test : (b : Bool)
         → (fold (view_after shape) (view_after shape v (commands.Put u shares)) (commands_of user list)).files ≡ v.files ++ user_files user list
@@ -120,8 +122,8 @@ files_of shape v (commands.Put u shares ∷ list) user =
         → (fold (view_after shape) v (cond b (commands.Put u shares ∷ commands_of user list) (commands_of user list))).files ≡ v.files ++ user_files user list
     by_test true own other = own
     by_test false own other = other
-files_of shape v (commands.Commit u tag version recipe ∷ list) user =
-    by_test (u.0 == user.0) (files_of shape (view_after shape v (commands.Commit u tag version recipe)) list user) (files_of shape v list user)
+files_of shape v (commands.Commit u tag version recipe ∷ list) user none =
+    by_test (u.0 == user.0) (files_of shape (view_after shape v (commands.Commit u tag version recipe)) list user none) (files_of shape v list user none)
   where
     by_test : (b : Bool)
         → (fold (view_after shape) (view_after shape v (commands.Commit u tag version recipe)) (commands_of user list)).files ≡ (v.files ++ record { tag = tag; version = version; recipe = recipe } ∷ []) ++ user_files user list
@@ -130,6 +132,7 @@ files_of shape v (commands.Commit u tag version recipe ∷ list) user =
         ≡ v.files ++ cond b (record { tag = tag; version = version; recipe = recipe } ∷ user_files user list) (user_files user list)
     by_test true own other = own ∙ append_assoc v.files (record { tag = tag; version = version; recipe = recipe } ∷ []) (user_files user list)
     by_test false own other = other
+files_of shape v (commands.Delete u tag version ∷ list) user none = absurd none
 
 -- ---- the entry of a file
 
@@ -154,6 +157,7 @@ match_all : (user : UserId) (tag : Tag) (version : Version) (end : ℕ) (list : 
     → Matches (placed end (recipes_in list)) (entry_found (entries_from end list) (key_of user.0 tag.0 version.0)) (find (is_at (tag, version)) (user_files user list))
 match_all user tag version end [] = tt
 match_all user tag version end (commands.Put u shares ∷ list) = match_all user tag version end list
+match_all user tag version end (commands.Delete u t v ∷ list) = match_all user tag version end list
 match_all user tag version end (commands.Commit u t v recipe ∷ list) =
     subst (Matches (placed end (recipe ∷ recipes_in list)) (option_map (λ (e : FileKey × Entry). e.1) (cond (eq_by_cmp key_cmp (key_of user.0 tag.0 version.0) (key_of u.0 t.0 v.0)) (Some (key_of u.0 t.0 v.0, entry_behind end recipe)) rest)))
     (sym (find_cond (is_at (tag, version)) (u.0 == user.0) (record { tag = t; version = v; recipe = recipe } ∷ user_files user list) (user_files user list)))
@@ -174,18 +178,18 @@ match_all user tag version end (commands.Commit u t v recipe ∷ list) =
     by_tests false true false e m = matches_later (record { place = place_of end (length recipe); blob = recipe }) (placed (end_after end (length recipe)) (recipes_in list)) (option_map (λ (e : FileKey × Entry). e.1) rest) (find (is_at (tag, version)) (user_files user list)) m
     by_tests false false x e m = matches_later (record { place = place_of end (length recipe); blob = recipe }) (placed (end_after end (length recipe)) (recipes_in list)) (option_map (λ (e : FileKey × Entry). e.1) rest) (find (is_at (tag, version)) (user_files user list)) m
 
-matches : (shape : Shape) (list : List Command) (user : UserId) (tag : Tag) (version : Version)
+matches : (shape : Shape) (list : List Command) (user : UserId) (tag : Tag) (version : Version) → IsUndeleted list
     → Matches (placed 0 (recipes_in list)) (entry_in list (key_of user.0 tag.0 version.0)) (entry_at (user_view shape list user).files (tag, version))
-matches shape list user tag version =
-    subst (λ fs. Matches (placed 0 (recipes_in list)) (entry_in list (key_of user.0 tag.0 version.0)) (entry_at fs (tag, version))) (sym (files_of shape no_view list user)) (match_all user tag version 0 list)
+matches shape list user tag version none =
+    subst (λ fs. Matches (placed 0 (recipes_in list)) (entry_in list (key_of user.0 tag.0 version.0)) (entry_at fs (tag, version))) (sym (files_of shape no_view list user none)) (match_all user tag version 0 list)
 
 -- the entry that is remembered is the view's
-pub entry_is : (shape : Shape) (list : List Command) (user : UserId) (tag : Tag) (version : Version) (e : Entry) → entry_in list (key_of user.0 tag.0 version.0) ≡ Some e
+pub entry_is : (shape : Shape) (list : List Command) (user : UserId) (tag : Tag) (version : Version) (e : Entry) → IsUndeleted list → entry_in list (key_of user.0 tag.0 version.0) ≡ Some e
     → (f : FileEntry) × (entry_at (user_view shape list user).files (tag, version) ≡ Some f) × (fingerprint f.recipe ≡ e.fp) × (length f.recipe ≡ e.len)
     × Contains (placed 0 (recipes_in list)) (record { place = e.at; blob = f.recipe })
-entry_is shape list user tag version e is =
+entry_is shape list user tag version e none is =
     by_file (entry_at (user_view shape list user).files (tag, version)) refl
-    (subst (λ o. Matches (placed 0 (recipes_in list)) o (entry_at (user_view shape list user).files (tag, version))) is (matches shape list user tag version))
+    (subst (λ o. Matches (placed 0 (recipes_in list)) o (entry_at (user_view shape list user).files (tag, version))) is (matches shape list user tag version none))
   where
     by_file : (o : Option FileEntry) → entry_at (user_view shape list user).files (tag, version) ≡ o → Matches (placed 0 (recipes_in list)) (Some e) o
         → (f : FileEntry) × (entry_at (user_view shape list user).files (tag, version) ≡ Some f) × (fingerprint f.recipe ≡ e.fp) × (length f.recipe ≡ e.len)
@@ -199,7 +203,7 @@ both_none laid None (Some f) m = absurd m
 both_none laid (Some e) None m = absurd m
 both_none laid (Some e) (Some f) m = (λ h. absurd (let never : Some e ≡ None = h in cc), λ h. absurd (let never : Some f ≡ None = h in cc))
 
-pub none_entered : (shape : Shape) (list : List Command) (user : UserId) (tag : Tag) (version : Version)
+pub none_entered : (shape : Shape) (list : List Command) (user : UserId) (tag : Tag) (version : Version) → IsUndeleted list
     → (entry_in list (key_of user.0 tag.0 version.0) ≡ None) ↔ (entry_at (user_view shape list user).files (tag, version) ≡ None)
-none_entered shape list user tag version =
-    both_none (placed 0 (recipes_in list)) (entry_in list (key_of user.0 tag.0 version.0)) (entry_at (user_view shape list user).files (tag, version)) (matches shape list user tag version)
+none_entered shape list user tag version none =
+    both_none (placed 0 (recipes_in list)) (entry_in list (key_of user.0 tag.0 version.0)) (entry_at (user_view shape list user).files (tag, version)) (matches shape list user tag version none)

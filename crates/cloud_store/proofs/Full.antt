@@ -14,8 +14,9 @@ use Rattle.user_dedup.specs.declared.command.Command.{Command}
 use Rattle.user_dedup.specs.declared.command.Command.TheVariants as commands
 use Rattle.user_dedup.specs.Dedup.{FullRoom}
 use Rattle.cloud_store.specs.Contents.{strings_in, distinct, shares_end, recipes_in}
-use Rattle.cloud_store.specs.Space.{Use, use_of, end_past, refusal, full_for, IsWithin}
+use Rattle.cloud_store.specs.Space.{Use, use_of, end_past, refusal, deletion_full, full_for, IsWithin}
 use Rattle.cloud_store.proofs.Lists.{strings_more, recipes_more}
+use Rattle.cloud_store.proofs.Undeleted.{undeleted_more, last_undeleted}
 
 abbrev full_of : Room → ℕ → ℕ → ℕ → FullRoom
 full_of room used need limit = record { room = room; used = used; need = need; limit = limit }
@@ -101,6 +102,7 @@ full_none rooms list (commands.Put user shares) w = (forth, back)
           shares = subst (λ (n : ℕ). n ≤ rooms.shares) ends ((past rooms.shares 0 (lengths (distinct (strings_in list ++ shares)))).0 ((grows names.Shares used.shares reach rooms.shares w.shares).0 c.0));
           recipes = subst (λ (rs : List (List ℕ)). end_of_laid 0 (lengths rs) ≤ rooms.recipes) (sym same_recipes) w.recipes;
           journal = (grows names.Journal used.journal grown.journal rooms.journal w.journal).0 c.1;
+          undeleted = undeleted_more list (commands.Put user shares) w.undeleted tt;
         }
 
     back : IsWithin rooms (list ++ commands.Put user shares ∷ []) → full_for rooms list (commands.Put user shares) ≡ None
@@ -138,6 +140,7 @@ full_none rooms list (commands.Commit user tag version recipe) w = (forth, back)
           shares = subst (λ (ss : List (List ℕ)). shares_end ss ≤ rooms.shares) (sym same_strings) w.shares;
           recipes = (grows names.Recipes used.recipes grown.recipes rooms.recipes w.recipes).0 b.0;
           journal = (grows names.Journal used.journal grown.journal rooms.journal w.journal).0 b.1;
+          undeleted = undeleted_more list (commands.Commit user tag version recipe) w.undeleted tt;
         }
 
     back : IsWithin rooms (list ++ commands.Commit user tag version recipe ∷ []) → full_for rooms list (commands.Commit user tag version recipe) ≡ None
@@ -145,3 +148,7 @@ full_none rooms list (commands.Commit user tag version recipe) w = (forth, back)
         none_or (refusal names.Files used.files (grown.files - used.files) rooms.files) two ((grows names.Files used.files grown.files rooms.files w.files).1 v.files)
         (none_or (refusal names.Recipes used.recipes (grown.recipes - used.recipes) rooms.recipes) three ((grows names.Recipes used.recipes grown.recipes rooms.recipes w.recipes).1 v.recipes)
         ((grows names.Journal used.journal grown.journal rooms.journal w.journal).1 v.journal))
+full_none rooms list (commands.Delete user tag version) w = (
+  λ e. absurd (let never : Some (deletion_full rooms list) ≡ None = e in cc),
+  λ v. absurd (last_undeleted list (commands.Delete user tag version) v.undeleted),
+)

@@ -16,7 +16,7 @@ use Rattle.container_log.proofs.Least.{place_behind}
 use Rattle.record_body.specs.Spelling.{body_bytes}
 use Rattle.user_dedup.specs.declared.command.Command.{Command}
 use Rattle.user_dedup.specs.Cloud.{strings_of}
-use Rattle.cloud_store.specs.Contents.{strings_in, distinct, fresh_after, shares_end, laid_shares, recipes_of, recipes_in, recipes_end}
+use Rattle.cloud_store.specs.Contents.{strings_in, distinct, fresh_after, shares_end, laid_shares, recipes_of, recipes_in, recipes_end, IsUndeleted}
 use Rattle.cloud_store.specs.Records.{record_after, bodies_in}
 use Rattle.cloud_store.specs.Store.{HasList}
 use Rattle.cloud_store.proofs.Distinct.{distinct-append}
@@ -62,12 +62,13 @@ pub has_more : (image : Image) (header : Header) (list : List Command) (command 
     → All (IsAt (image Shares)) (laid_shares (strings_in list))
     → All (IsAt (image Shares)) (placed (shares_end (strings_in list)) (fresh_after (strings_in list) (strings_of command)))
     → All (IsAt (image Recipes)) (placed 0 (recipes_in list))
-    → All (IsAt (image Recipes)) (placed (recipes_end list) (recipes_of command))
+    → All (IsAt (image Recipes)) (placed (recipes_end list) (recipes_of command)) → IsUndeleted (list ++ command ∷ [])
     → HasList image header (list ++ command ∷ [])
-has_more image header list command journal shares new_shares recipes new_recipes = record {
+has_more image header list command journal shares new_shares recipes new_recipes undeleted = record {
   journal = subst (λ bodies. IsJournal (header_bytes header ∷ bodies) (image Journal)) (sym (bodies_more list command)) journal;
   shares = subst (All (IsAt (image Shares))) (sym (ap laid_shares (strings_more list command) ∙ laid_shares-append (strings_in list) (strings_of command)))
       (All-append (IsAt (image Shares)) (laid_shares (strings_in list)) (placed (shares_end (strings_in list)) (fresh_after (strings_in list) (strings_of command))) shares new_shares);
   recipes = subst (All (IsAt (image Recipes))) (sym (ap (placed 0) (recipes_more list command) ∙ placed-append 0 (recipes_in list) (recipes_of command)))
       (All-append (IsAt (image Recipes)) (placed 0 (recipes_in list)) (placed (recipes_end list) (recipes_of command)) recipes new_recipes);
+  undeleted = undeleted;
 }

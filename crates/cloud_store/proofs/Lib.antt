@@ -1,4 +1,5 @@
 pub mod Distinct
+pub mod Undeleted
 pub mod Lists
 pub mod Entries
 pub mod Laying

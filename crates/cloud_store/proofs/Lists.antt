@@ -13,7 +13,7 @@ use Rattle.cd_base.specs.declared.ids.UserId.{UserId}
 use Rattle.cd_base.specs.declared.ids.Version.{Version}
 use Rattle.record_body.specs.declared.body.PutItem.{PutItem}
 use Rattle.record_body.specs.Spelling.{item_bytes, placed_bytes, body_bytes}
-use Rattle.share_index.specs.declared.key.Place.{Place}
+use Rattle.cd_base.specs.declared.place.Place.{Place}
 use Rattle.user_dedup.specs.declared.command.Command.{Command}
 use Rattle.user_dedup.specs.declared.command.Command.TheVariants as commands
 use Rattle.user_dedup.specs.Cloud.{fingerprint, strings_of}

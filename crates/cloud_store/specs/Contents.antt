@@ -5,7 +5,7 @@ use Rattle.std.specs.Ordering.{eq_by_cmp}
 use Rattle.cd_base.specs.declared.ids.Fp.{Fp}
 use Rattle.container_log.specs.Places.{place_of, end_after, end_of_laid}
 use Rattle.container_log.specs.Laying.{lengths, Placed, placed}
-use Rattle.share_index.specs.declared.key.Place.{Place}
+use Rattle.cd_base.specs.declared.place.Place.{Place}
 use Rattle.file_index.specs.declared.key.FileKey.{FileKey}
 use Rattle.file_index.specs.declared.key.Entry.{Entry}
 use Rattle.file_index.specs.Files.{key_of}
@@ -49,6 +49,7 @@ place_in strings fp = option_map place_named (find (λ (b : Placed). has_fingerp
 abbrev pub recipes_of : Command → List (List ℕ)
 recipes_of (commands.Put user shares) = []
 recipes_of (commands.Commit user tag version recipe) = recipe ∷ []
+recipes_of (commands.Delete user tag version) = []
 
 -- the recipes of all Commits, in order; each is laid, equal ones too
 abbrev pub recipes_in : List Command → List (List ℕ)
@@ -68,7 +69,17 @@ entries_from end [] = []
 entries_from end (commands.Put user shares ∷ list) = entries_from end list
 entries_from end (commands.Commit user tag version recipe ∷ list) =
     (key_of user.0 tag.0 version.0, entry_behind end recipe) ∷ entries_from (end_after end (length recipe)) list
+entries_from end (commands.Delete user tag version ∷ list) = entries_from end list
 
 -- the entry of a version of a user's file
 abbrev pub entry_in : List Command → FileKey → Option Entry
 entry_in list key = option_map (λ (e : FileKey × Entry). e.1) (find (λ (e : FileKey × Entry). eq_by_cmp key_cmp key e.0) (entries_from 0 list))
+
+-- ---- deletions
+
+-- No command of the list is a deletion: these areas have no record of one.
+abbrev pub IsUndeleted : List Command → Type 0
+IsUndeleted [] = Unit {0}
+IsUndeleted (commands.Put user shares ∷ list) = IsUndeleted list
+IsUndeleted (commands.Commit user tag version recipe ∷ list) = IsUndeleted list
+IsUndeleted (commands.Delete user tag version ∷ list) = ⊥

@@ -11,7 +11,7 @@ use Rattle.file_index.specs.Files.{Files}
 use Rattle.user_dedup.specs.declared.command.Command.{Command}
 use Rattle.user_dedup.specs.Cloud.{user_view}
 use Rattle.user_dedup.specs.Owning.{is_among}
-use Rattle.cloud_store.specs.Contents.{strings_in, distinct, place_in, recipes_in, entry_in}
+use Rattle.cloud_store.specs.Contents.{strings_in, distinct, place_in, recipes_in, entry_in, IsUndeleted}
 
 -- each fingerprint that is laid has its place, and each user's own are those of the user's view
 pub record IndexesShares (shape : Shape) (list : List Command) (index : Shares) : Type 0 where
@@ -20,7 +20,8 @@ pub record IndexesShares (shape : Shape) (list : List Command) (index : Shares) 
   pub fps : len index.places ≡ length (distinct (strings_in list))
   pub owned : len index.owners ≡ length (strings_in list)
 
--- each version of a file has its entry
+-- each version of a file has its entry, and none was taken out
 pub record IndexesFiles (list : List Command) (index : Files) : Type 0 where
   pub files : (key : FileKey) → get index.files key ≡ entry_in list key
   pub count : len index.files ≡ length (recipes_in list)
+  pub undeleted : IsUndeleted list

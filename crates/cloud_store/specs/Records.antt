@@ -21,12 +21,13 @@ abbrev pub items_after : List (List ℕ) → List (List ℕ) → List PutItem
 items_after before [] = []
 items_after before (s ∷ ss) = item_after before s ∷ items_after (before ++ s ∷ []) ss
 
--- the record of a command behind these commands
+-- The record of a command behind these commands. A deletion has none: here it stands as an empty Put, and no areas have it.
 abbrev pub record_after : List Command → Command → Body
 record_after before (commands.Put user shares) = Put user (items_after (strings_in before) shares)
 record_after before (commands.Commit user tag version recipe) =
     let entry = entry_behind (recipes_end before) recipe in
     Commit (record { user = user; tag = tag; version = version; at = entry.at; len = entry.len; fp = entry.fp })
+record_after before (commands.Delete user tag version) = Put user []
 
 abbrev pub records_after : List Command → List Command → List Body
 records_after before [] = []

@@ -12,7 +12,7 @@ use Rattle.user_dedup.specs.declared.command.Command.{Command}
 use Rattle.user_dedup.specs.declared.command.Command.TheVariants as commands
 use Rattle.user_dedup.specs.Dedup.{Outcome, FullRoom}
 use Rattle.user_dedup.specs.Exec.{served}
-use Rattle.cloud_store.specs.Contents.{strings_in, distinct, shares_end, recipes_in, recipes_end}
+use Rattle.cloud_store.specs.Contents.{strings_in, distinct, shares_end, recipes_in, recipes_end, IsUndeleted}
 use Rattle.cloud_store.specs.Records.{journal_len}
 
 -- how much is used: the different fingerprints of the strings, the strings themselves, the files, and the ends of the three areas
@@ -43,8 +43,13 @@ end_past limit end (len ∷ lens) = if nat_lt limit (end_after end len) then end
 abbrev pub refusal : Room → ℕ → ℕ → ℕ → Option FullRoom
 refusal room used need limit = if nat_lt limit (used + need) then Some (record { room = room; used = used; need = need; limit = limit }) else None
 
+-- what a deletion is answered, for which no journal has room
+abbrev pub deletion_full : Rooms → List Command → FullRoom
+deletion_full rooms list = record { room = names.Journal; used = journal_len list; need = rooms.journal + 1; limit = rooms.journal }
+
 -- The first room, in this order, that the command would pass: what is used, how much the command needs, and the limit. Of shares
--- and recipes it needs as far as the end of the first one that passes the limit.
+-- and recipes it needs as far as the end of the first one that passes the limit. A deletion has no record, so it passes the journal
+-- whatever there is: it needs one byte more than the room.
 unfoldable pub full_for : Rooms → List Command → Command → Option FullRoom
 full_for rooms list (commands.Put user shares) =
     let used = use_of list in
@@ -59,12 +64,13 @@ full_for rooms list (commands.Commit user tag version recipe) =
     option_or (refusal names.Files used.files (grown.files - used.files) rooms.files)
     (option_or (refusal names.Recipes used.recipes (grown.recipes - used.recipes) rooms.recipes)
     (refusal names.Journal used.journal (grown.journal - used.journal) rooms.journal))
+full_for rooms list (commands.Delete user tag version) = Some (deletion_full rooms list)
 
 -- the reply of a server with these rooms, and the command that it adds
 abbrev pub served_by : Rooms → Shape → ℕ → List Command → Request → Outcome
 served_by rooms shape cloud = served shape cloud (full_for rooms)
 
--- The list uses no more of each room than there is.
+-- The list uses no more of each room than there is, and it has no deletion, for which there is none.
 pub record IsWithin (rooms : Rooms) (list : List Command) : Type 0 where
   pub fps : (use_of list).fps ≤ rooms.fps
   pub owners : (use_of list).owners ≤ rooms.owners
@@ -72,3 +78,4 @@ pub record IsWithin (rooms : Rooms) (list : List Command) : Type 0 where
   pub shares : (use_of list).shares ≤ rooms.shares
   pub recipes : (use_of list).recipes ≤ rooms.recipes
   pub journal : (use_of list).journal ≤ rooms.journal
+  pub undeleted : IsUndeleted list

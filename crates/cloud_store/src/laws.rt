@@ -20,14 +20,14 @@ ghost use Rattle.container_log.specs.Laying.{lengths, placed, IsAt};
 ghost use Rattle.file_index.specs.declared.key.Entry.{Entry};
 ghost use Rattle.file_index.specs.Files.{key_of};
 ghost use Rattle.record_body.specs.Spelling.{body_bytes};
-ghost use Rattle.share_index.specs.declared.key.Place.{Place};
+ghost use Rattle.cd_base.specs.declared.place.Place.{Place};
 ghost use Rattle.user_dedup.specs.declared.command.Command.{Command};
 ghost use Rattle.user_dedup.specs.declared.command.Command.TheVariants.{Put, Commit};
 ghost use Rattle.user_dedup.specs.declared.file_list.FileEntry.{FileEntry};
 ghost use Rattle.user_dedup.specs.Cloud.{fingerprint, user_view, strings_of, held_string};
 ghost use Rattle.user_dedup.specs.Dedup.{IsSound};
 ghost use Rattle.user_dedup.specs.Pages.{entry_at};
-ghost use Rattle.cloud_store.specs.Contents.{strings_in, fresh_after, shares_end, laid_shares, place_in, recipes_of, recipes_in, recipes_end, entry_in};
+ghost use Rattle.cloud_store.specs.Contents.{strings_in, fresh_after, shares_end, laid_shares, place_in, recipes_of, recipes_in, recipes_end, entry_in, IsUndeleted};
 ghost use Rattle.cloud_store.specs.Records.{record_after, bodies_in, record_len, journal_len};
 ghost use Rattle.cloud_store.specs.Space.{full_for, IsWithin};
 ghost use Rattle.cloud_store.specs.Store.{HasList, StandsFor};
@@ -64,14 +64,14 @@ pub fn law_of_places()
 {}
 
 /// The entry of a version of a user's file is the entry of the user's view: it has the recipe's fingerprint and length, and the
-/// recipe is laid at its place.
+/// recipe is laid at its place. It is so where none was taken out.
 pub fn law_of_entries()
     ensures some { (shape : Shape) (list : List Command) (user : UserId) (tag : Tag) (version : Version) (entry : Entry)
-        → entry_in list (key_of user.0 tag.0 version.0) ≡ Some entry
+        → IsUndeleted list → entry_in list (key_of user.0 tag.0 version.0) ≡ Some entry
         → (file : FileEntry) × (entry_at (user_view shape list user).files (tag, version) ≡ Some file)
         × (fingerprint file.recipe ≡ entry.fp) × (length file.recipe ≡ entry.len)
         × Contains (placed 0 (recipes_in list)) (record { place = entry.at; blob = file.recipe }) }
-    ensures none { (shape : Shape) (list : List Command) (user : UserId) (tag : Tag) (version : Version)
+    ensures none { (shape : Shape) (list : List Command) (user : UserId) (tag : Tag) (version : Version) → IsUndeleted list
         → (entry_in list (key_of user.0 tag.0 version.0) ≡ None) ↔ (entry_at (user_view shape list user).files (tag, version) ≡ None) }
 {}
 
@@ -89,14 +89,14 @@ pub fn law_of_laying()
 {}
 
 /// Areas have one command more once its record is in the journal, and what it lays stands behind what was laid before, which
-/// stands where it stood.
+/// stands where it stood. None of the commands is a deletion.
 pub fn law_of_adding()
     ensures { (image : Image) (header : Header) (list : List Command) (command : Command)
         → IsJournal ((header_bytes header ∷ bodies_in list) ++ body_bytes (record_after list command) ∷ []) (image Journal)
         → All (IsAt (image Shares)) (laid_shares (strings_in list))
         → All (IsAt (image Shares)) (placed (shares_end (strings_in list)) (fresh_after (strings_in list) (strings_of command)))
         → All (IsAt (image Recipes)) (placed 0 (recipes_in list))
-        → All (IsAt (image Recipes)) (placed (recipes_end list) (recipes_of command))
+        → All (IsAt (image Recipes)) (placed (recipes_end list) (recipes_of command)) → IsUndeleted (list ++ command ∷ [])
         → HasList image header (list ++ command ∷ []) }
 {}
 

@@ -22,6 +22,7 @@ use Rattle.cloud_store.specs.Standing.{StandsForSome}
 use Rattle.cloud_store.specs.Store.{HasList, StandsFor}
 use Rattle.cloud_store.proofs.Distinct.{distinct-append}
 use Rattle.cloud_store.proofs.Lists.{strings_more, recipes_more, bodies_more}
+use Rattle.cloud_store.proofs.Undeleted.{undeleted_more}
 use Rattle.command_log.specs.Held.{EndsAt, HoldBoth, IsHeld}
 use Rattle.command_log.specs.Logs.{Logs, IsOn, IsPrepared, IsWithOrWithout}
 use Rattle.command_log.proofs.Current.{current_as}
@@ -63,7 +64,7 @@ module _ (header : Header) (list : List Command) (command : Command) (log : Logs
 
   -- while the areas have what they had
   without : (image : Image) → IsJournal records (image Journal) → All (IsAt (image Shares)) (placed 0 strings) → All (IsAt (image Recipes)) (placed 0 (recipes_in list)) → Kept image
-  without image journal shares recipes = (list, inl refl, stands image header list p.on.sound (record { journal = journal; shares = shares; recipes = recipes }))
+  without image journal shares recipes = (list, inl refl, stands image header list p.on.sound (record { journal = journal; shares = shares; recipes = recipes; undeleted = p.on.has.undeleted }))
 
   has_next : (image : Image) → IsJournal (records ++ body ∷ []) (image Journal)
       → All (IsAt (image Shares)) (placed 0 (strings ++ fresh)) → All (IsAt (image Recipes)) (placed 0 (recipes_in list ++ recipes_of command)) → HasList image header next
@@ -71,6 +72,7 @@ module _ (header : Header) (list : List Command) (command : Command) (log : Logs
     journal = subst (λ (bodies : List (List ℕ)). IsJournal (header_bytes header ∷ bodies) (image Journal)) (ap (λ (b : List ℕ). bodies_in list ++ b ∷ []) p.body_is ∙ sym (bodies_more list command)) journal;
     shares = subst (λ (blobs : List (List ℕ)). All (IsAt (image Shares)) (placed 0 blobs)) (sym (shares_more list command)) shares;
     recipes = subst (λ (blobs : List (List ℕ)). All (IsAt (image Recipes)) (placed 0 blobs)) (sym (recipes_more list command)) recipes;
+    undeleted = undeleted_more list command p.on.has.undeleted p.undeleted;
   }
 
   pub held_image : (image : Image) → IsHeld (c0.now Journal).read strings (recipes_in list) image → Kept image

@@ -12,7 +12,7 @@ use Rattle.record_body.specs.Spelling.{body_bytes}
 use Rattle.user_dedup.specs.declared.command.Command.{Command}
 use Rattle.user_dedup.specs.Cloud.{strings_of}
 use Rattle.user_dedup.specs.Dedup.{IsSound}
-use Rattle.cloud_store.specs.Contents.{strings_in, fresh_after, shares_end, recipes_of, recipes_end}
+use Rattle.cloud_store.specs.Contents.{strings_in, fresh_after, shares_end, recipes_of, recipes_end, IsUndeleted}
 use Rattle.cloud_store.specs.Records.{record_after, bodies_in}
 use Rattle.cloud_store.specs.Store.{HasList}
 use Rattle.command_log.specs.Held.{EndsAt, IsCurrent}
@@ -36,14 +36,15 @@ pub record IsOn (header : Header) (list : List Command) (log : Logs) (cloud : Cl
   pub shares_current : IsCurrent log.shares cloud.now
   pub recipes_current : IsCurrent log.recipes cloud.now
 
--- The log stands for the list, and the list is sound with the command behind it too; staged is what the command lays, and the
--- body is that of its record.
+-- The log stands for the list, and the list is sound with the command behind it too, which is no deletion; staged is what the
+-- command lays, and the body is that of its record.
 pub record IsPrepared (header : Header) (list : List Command) (command : Command) (log : Logs) (body : List ℕ) (cloud : Cloud) : Type 0 where
   pub on : IsOn header list log cloud
   pub sound : IsSound header.shape header.cloud.0 (list ++ command ∷ [])
   pub shares : logs.HasStaged log.shares (fresh_after (strings_in list) (strings_of command))
   pub recipes : logs.HasStaged log.recipes (recipes_of command)
   pub body_is : body ≡ body_bytes (record_after list command)
+  pub undeleted : IsUndeleted (command ∷ [])
 
 -- the list, or the list with the command behind it
 abbrev pub IsWithOrWithout : List Command → Command → List Command → Type 0

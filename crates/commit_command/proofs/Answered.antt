@@ -33,7 +33,7 @@ use Rattle.user_dedup.specs.Owning.{fps_in, first_lacking}
 use Rattle.user_dedup.specs.Pages.{entry_at}
 use Rattle.user_dedup.specs.Requests.{fps_of, fps_read}
 use Rattle.user_dedup.specs.Dedup.{only, commit_outcome, answer_over, IsSound}
-use Rattle.cloud_store.specs.Contents.{recipes_in, entry_in}
+use Rattle.cloud_store.specs.Contents.{recipes_in, entry_in, IsUndeleted}
 use Rattle.cloud_store.specs.Store.{HasList}
 use Rattle.cloud_store.proofs.Entries.{entry_is, none_entered}
 use Rattle.read_replies.proofs.Held.{entry_range}
@@ -76,15 +76,15 @@ module _ (shape : Shape) (number : ℕ) (list : List Command) (user : UserId) (t
       → answer_over shape number list (requests.Commit user tag version (spelling r)) ≡ only (if bytes_eq file.recipe (spelling r) then replies.Committed else replies.Exists)
   answers_entry file lacks at = by_parts None (Some file) lacks at
 
-  pub answers_new : first_lacking (user_view shape list user).own (fps_in r.items) ≡ None → entry_in list (key_of user.0 tag.0 version.0) ≡ None
+  pub answers_new : IsUndeleted list → first_lacking (user_view shape list user).own (fps_in r.items) ≡ None → entry_in list (key_of user.0 tag.0 version.0) ≡ None
       → answer_over shape number list (requests.Commit user tag version (spelling r)) ≡ adding replies.Committed command
-  answers_new lacks none = by_parts None None lacks ((none_entered shape list user tag version).0 none)
+  answers_new undeleted lacks none = by_parts None None lacks ((none_entered shape list user tag version undeleted).0 none)
 
-pub answered_new : (header : Header) (list : List Command) (user : UserId) (tag : Tag) (version : Version) (r : Recipe) (bytes : List ℕ) → IsRecipe header.shape (spelling r) r → bytes ≡ spelling r
+pub answered_new : (header : Header) (list : List Command) (user : UserId) (tag : Tag) (version : Version) (r : Recipe) (bytes : List ℕ) → IsRecipe header.shape (spelling r) r → bytes ≡ spelling r → IsUndeleted list
     → first_lacking (user_view header.shape list user).own (fps_in r.items) ≡ None → entry_in list (key_of user.0 tag.0 version.0) ≡ None → IsAnsweredNew header list user tag version bytes
-answered_new header list user tag version r bytes is e lacks none = subst (IsAnsweredNew header list user tag version) (sym e) (record {
+answered_new header list user tag version r bytes is e undeleted lacks none = subst (IsAnsweredNew header list user tag version) (sym e) (record {
   has_recipe = (r, is);
-  answer = answers_new header.shape header.cloud.0 list user tag version r is lacks none;
+  answer = answers_new header.shape header.cloud.0 list user tag version r is undeleted lacks none;
 })
 
 -- ---- the entry's recipe where the area has it
@@ -120,8 +120,8 @@ pub record StoredAs (image : Image) (shape : Shape) (list : List Command) (user 
 pub stored_as : (image : Image) (header : Header) (list : List Command) (user : UserId) (tag : Tag) (version : Version) (entry : Entry) (recipe : List ℕ)
     → IsSound header.shape header.cloud.0 list → HasList image header list → entry_in list (key_of user.0 tag.0 version.0) ≡ Some entry → StoredAs image header.shape list user tag version entry recipe
 stored_as image header list user tag version entry recipe sound has e =
-    let p = entry_is header.shape list user tag version entry e in
-    let range = entry_range header.shape header.cloud.0 list user tag version entry sound e in
+    let p = entry_is header.shape list user tag version entry has.undeleted e in
+    let range = entry_range header.shape header.cloud.0 list user tag version entry sound has.undeleted e in
     let long : length p.0.recipe ≡ entry.len = p.3 in
     let at = All-contains (IsAt (image Recipes)) (placed 0 (recipes_in list)) (record { place = entry.at; blob = p.0.recipe }) has.recipes p.4 in
     record {

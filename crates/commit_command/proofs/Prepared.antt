@@ -25,6 +25,7 @@ prepared header list body recipe log new bytes cloud front staged shares recipes
   shares = subst (λ (l : Logs). logs.HasStaged l.shares []) (sym staged) shares;
   recipes = recipes;
   body_is = written ∙ ap (λ (b : bodies.Body). bodies.body_bytes b) front.record_is;
+  undeleted = tt;
 }
 
 pub ends_behind : (log staged new : Logs) (recipe bytes : List ℕ) → staged ≡ with_recipe log recipe → logs.HasStaged log.shares [] → logs.HasStaged staged.recipes (recipe ∷ [])

@@ -10,10 +10,10 @@ use Rattle.slot_pool.specs.Pool.{Pool, limit_of}
 use Rattle.pool_map.specs.declared.Entry.{Entry as Pair}
 use Rattle.pool_map.specs.Table.{contents, charged, value_at, with_value_at, rewritten, IsLeastAbove, HasNoneAbove}
 use Rattle.pool_map.specs.Shown.{shown, get-shown, shown-insert}
-use Rattle.index_base.specs.declared.Accounts.{Accounts}
-use Rattle.index_base.specs.declared.IndexErr.TheVariants.{Full}
-use Rattle.index_base.specs.Accounts.{limits_of, limit_for, account_for, IsKnown}
-use Rattle.index_base.specs.Charges.{IsCharged, charged-use, unknown-use, limit-account, charged-empty, charged-insert, charged-remove, charged-rewritten, got-insert, got-remove}
+use Rattle.pool_map.specs.declared.accounts.Accounts.{Accounts}
+use Rattle.pool_map.specs.declared.accounts.IndexErr.TheVariants.{Full}
+use Rattle.pool_map.specs.Accounts.{limits_of, limit_for, account_for, IsKnown}
+use Rattle.pool_map.specs.Charges.{IsCharged, charged-use, unknown-use, limit-account, charged-empty, charged-insert, charged-remove, charged-rewritten, got-insert, got-remove}
 use Rattle.cd_base.specs.declared.ids.Tag.{Tag}
 use Rattle.cd_base.specs.declared.ids.Version.{Version}
 use Rattle.file_index.specs.declared.key.FileKey.{FileKey}

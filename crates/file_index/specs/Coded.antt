@@ -2,8 +2,8 @@
 use Rattle.std.specs.Prelude.{List, Option, refl}
 use Rattle.std.specs.Coded.{Coded, code_by, coded×, coded_list, coded_option}
 use Rattle.std.specs.FinMap as map
-use Rattle.index_base.specs.declared.Accounts.{Accounts}
-use Rattle.index_base.specs.contracts.Accounts as accounts
+use Rattle.pool_map.specs.declared.accounts.Accounts.{Accounts}
+use Rattle.pool_map.specs.contracts.accounts.Accounts as accounts
 use Rattle.file_index.specs.declared.key.FileKey.{FileKey}
 use Rattle.file_index.specs.declared.key.Entry.{Entry}
 use Rattle.file_index.specs.contracts.key.FileKey as key

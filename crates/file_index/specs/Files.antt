@@ -5,8 +5,8 @@ use Rattle.std.specs.FinMap.{FinMap, get}
 use Rattle.cd_base.specs.declared.ids.Tag.{Tag}
 use Rattle.cd_base.specs.declared.ids.UserId.{UserId}
 use Rattle.cd_base.specs.declared.ids.Version.{Version}
-use Rattle.index_base.specs.declared.Accounts.{Accounts}
-use Rattle.index_base.specs.Accounts.{use_for}
+use Rattle.pool_map.specs.declared.accounts.Accounts.{Accounts}
+use Rattle.pool_map.specs.Accounts.{use_for}
 use Rattle.file_index.specs.declared.key.FileKey.{FileKey}
 use Rattle.file_index.specs.declared.key.Entry.{Entry}
 use Rattle.file_index.specs.Order.{key_cmp}

@@ -8,10 +8,10 @@ use Rattle.slot_pool.specs.Pool.{Pool}
 use Rattle.pool_map.specs.declared.Entry.{Entry as Pair}
 use Rattle.pool_map.specs.Table.{contents}
 use Rattle.pool_map.specs.Shown.{shown}
-use Rattle.index_base.specs.declared.Accounts.{Accounts}
-use Rattle.index_base.specs.Accounts.{limits_of}
-use Rattle.index_base.specs.Charges.{IsCharged}
-use Rattle.index_base.specs.Slots.{shown_slots}
+use Rattle.pool_map.specs.declared.accounts.Accounts.{Accounts}
+use Rattle.pool_map.specs.Accounts.{limits_of}
+use Rattle.pool_map.specs.Charges.{IsCharged}
+use Rattle.pool_map.specs.Slots.{shown_slots}
 use Rattle.file_index.specs.declared.key.FileKey.{FileKey}
 use Rattle.file_index.specs.declared.key.Entry.{Entry}
 use Rattle.file_index.specs.Order.{key_cmp}

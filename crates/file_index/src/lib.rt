@@ -6,18 +6,18 @@
 ghost use Rattle.std.specs.Prelude.{ℕ, ◌≡◌, ◌≤◌, ◌<◌, ◌*◌, ◌^◌, ◌↔◌, IfOk, IfErr, OnOk, OnErr, IsErr, IsSome};
 ghost use Rattle.std.specs.Prelude.{MatchOption, None, option_map, length};
 ghost use Rattle.std.specs.FinMap as map;
-ghost use Rattle.index_base.specs.declared.Accounts.TheVariants.{Shared, PerUser};
-ghost use Rattle.index_base.specs.declared.IndexErr.TheVariants.{Full};
-ghost use Rattle.index_base.specs.Accounts.{IsKnown, limit_for, slots_of};
-ghost use Rattle.index_base.specs.Slots.{slot_of, IsListed, IsRewritten};
+ghost use Rattle.pool_map.specs.declared.accounts.Accounts.TheVariants.{Shared, PerUser};
+ghost use Rattle.pool_map.specs.declared.accounts.IndexErr.TheVariants.{Full};
+ghost use Rattle.pool_map.specs.Accounts.{IsKnown, limit_for, slots_of};
+ghost use Rattle.pool_map.specs.Slots.{slot_of, IsListed, IsRewritten};
 ghost use Rattle.file_index.specs.Files.{key_of, used_by, IsNext, HasNoNext, entry_with};
 ghost use Rattle.file_index.specs.Kept.{IsLeastFrom, HasNoneFrom, HasTags, IsFound};
 
 mod key;
 
 use cd_base::{NoMemory, Tag, UserId, Version};
-pub use index_base::{Accounts, IndexErr};
 pub use key::{Entry, FileKey};
+pub use pool_map::{Accounts, IndexErr};
 use pool_map::{SortedTable, Table, TableFull};
 use std::alloc::Global;
 use std::marker::Model;

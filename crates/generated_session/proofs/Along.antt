@@ -7,7 +7,7 @@ use Rattle.std.proofs.lemmas.List.Elements.{All-from_recursion}
 use Rattle.generated_session.specs.Drawn.{file_of}
 use Rattle.generated_session.specs.Lines.{user_at, version_at, file_path, upload_lines}
 use Rattle.generated_session.proofs.Pieces.{file_len, file_bytes}
-use Rattle.lane_requests.specs.Reached.{IsReached, Begun}
+use Rattle.lane_steps.specs.Reached.{IsReached, Begun}
 use Rattle.cd_base.specs.Limits.{IsPath}
 use Rattle.cd_base.specs.declared.ids.UserId.{UserId}
 use Rattle.cd_base.specs.declared.ids.Version.{Version}
@@ -25,11 +25,11 @@ use Rattle.transcript.specs.declared.line.Line.{Line}
 use Rattle.transcript.specs.declared.line.Line.TheVariants as lines
 use Rattle.transcript.specs.declared.refusal.Refusal.{Refusal}
 use Rattle.session.specs.Scripts.{jobs_after}
-use Rattle.vault.specs.Vault.{Setting, Vault, lanes_of}
-use Rattle.vault.specs.Steps.{version_of, all_done, IsGetLine}
-use Rattle.vault.specs.Kept.{upload_of}
-use Rattle.vault.specs.Run.{Answered, script_of}
-use Rattle.vault.specs.Headline.{IsPartOf}
+use Rattle.session_model.specs.Vault.{Setting, Vault, lanes_of}
+use Rattle.session_model.specs.Steps.{version_of, all_done, IsGetLine}
+use Rattle.session_model.specs.Kept.{upload_of}
+use Rattle.session_model.specs.Run.{Answered, script_of}
+use Rattle.session_model.specs.Headline.{IsPartOf}
 use Rattle.script_lines.specs.At.{IsAt, Leaves}
 use Rattle.script_lines.specs.Does.{Goes, Cut}
 use Rattle.script_lines.specs.Finishing.{FinishedPart}

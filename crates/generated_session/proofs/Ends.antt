@@ -13,10 +13,10 @@ use Rattle.user_dedup.specs.Exec.{Peer}
 use Rattle.local_link.specs.declared.link.LocalLink.{LocalLink}
 use Rattle.local_link.specs.Calls.{no_commands}
 use Rattle.session.specs.declared.event.Event.{Event}
-use Rattle.vault.specs.Vault.{Setting, Vault, opening}
-use Rattle.vault.specs.Kept.{uploads}
-use Rattle.vault.specs.Run.{Answered, Turns, script_of}
-use Rattle.vault.specs.Headline.{Session, Begun, IsRun, IsPartOf, event_of}
+use Rattle.session_model.specs.Vault.{Setting, Vault, opening}
+use Rattle.session_model.specs.Kept.{uploads}
+use Rattle.session_model.specs.Run.{Answered, Turns, script_of}
+use Rattle.session_model.specs.Headline.{Session, Begun, IsRun, IsPartOf, event_of}
 use Rattle.replay_core.specs.declared.end.ReplayEnd.{ReplayEnd}
 use Rattle.replay_core.specs.declared.end.ReplayEnd.TheVariants as ends
 use Rattle.replay_core.specs.Endings.{IsEmptyAt}

@@ -16,10 +16,10 @@ use Rattle.session.specs.declared.event.Event.TheVariants as events
 use Rattle.transcript.specs.declared.line.Line.{Line}
 use Rattle.transcript.specs.declared.line.Line.TheVariants as lines
 use Rattle.transcript.specs.declared.refusal.Refusal.{Refusal}
-use Rattle.vault.specs.Vault.{Setting}
-use Rattle.restore_lines.specs.Refusals.{refusal_of}
-use Rattle.vault.specs.Steps.{version_of, IsGetLine}
-use Rattle.vault.specs.Headline.{IsPartOf}
+use Rattle.session_model.specs.Vault.{Setting}
+use Rattle.subset_restore.specs.Refusals.{refusal_of}
+use Rattle.session_model.specs.Steps.{version_of, IsGetLine}
+use Rattle.session_model.specs.Headline.{IsPartOf}
 use Rattle.script_lines.specs.At.{Leaves}
 use Rattle.script_lines.specs.Does.{Goes}
 use Rattle.script_lines.proofs.Others.{Read, get_goes, get_cut}

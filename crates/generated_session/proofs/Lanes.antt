@@ -5,14 +5,14 @@ use Rattle.cd_edges.specs.Disk.{Cloud}
 use Rattle.user_dedup.specs.Link.{Talk}
 use Rattle.upload_job.specs.declared.news.LaneNews.{LaneNews}
 use Rattle.upload_job.specs.Lanes.{LaneView, with_state}
-use Rattle.lane_requests.specs.Runs.{starting, lane_at}
+use Rattle.lane_steps.specs.Runs.{starting, lane_at}
 use Rattle.lane_steps.specs.Steps.{Heard, Finishes}
 use Rattle.local_link.specs.declared.link.LocalLink.{LocalLink}
 use Rattle.local_link.specs.Tells.{telling}
 use Rattle.session.specs.Spelling.{IsJob}
 use Rattle.transcript.specs.declared.line.Line.{Line}
-use Rattle.vault.specs.Vault.{Setting, Vault, Executes, lanes_of, with_lanes}
-use Rattle.vault.specs.Steps.{moment_of, step_line, all_done, stored_line}
+use Rattle.session_model.specs.Vault.{Setting, Vault, Executes, lanes_of, with_lanes}
+use Rattle.session_model.specs.Steps.{moment_of, step_line, all_done, stored_line}
 use Rattle.session.specs.Texts.{text_of}
 use Rattle.script_lines.specs.At.{IsAt}
 use Rattle.script_lines.specs.Jobs.{job_lanes, with_job}

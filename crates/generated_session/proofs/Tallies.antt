@@ -10,9 +10,9 @@ use Rattle.upload_job.specs.declared.news.LaneNews.TheVariants as lane_news
 use Rattle.session.specs.declared.event.Event.{Event}
 use Rattle.transcript.specs.declared.line.Line.{Line}
 use Rattle.transcript.specs.declared.line.Line.TheVariants as lines
-use Rattle.vault.specs.Steps.{step_line}
-use Rattle.vault.specs.Kept.{upload_of, uploads}
-use Rattle.vault.specs.Run.{Answered, script_of, answers_of}
+use Rattle.session_model.specs.Steps.{step_line}
+use Rattle.session_model.specs.Kept.{upload_of, uploads}
+use Rattle.session_model.specs.Run.{Answered, script_of, answers_of}
 use Rattle.script_lines.specs.Stepping.{stored_if}
 use Rattle.replay_core.proofs.Sessions.{script_more}
 use Rattle.generated_session.specs.declared.numbers.Numbers.{Numbers}

@@ -12,10 +12,10 @@ use Rattle.local_link.specs.declared.link.LocalLink.{LocalLink}
 use Rattle.session.specs.Spelling.{IsJob}
 use Rattle.session.specs.declared.event.Event.{Event}
 use Rattle.transcript.specs.declared.line.Line.{Line}
-use Rattle.vault.specs.Vault.{Setting, Vault}
-use Rattle.restore_lines.specs.Refusals.{refusal_of}
-use Rattle.vault.specs.Steps.{Moment, FinishLanes}
-use Rattle.vault.specs.Run.{script_of}
+use Rattle.session_model.specs.Vault.{Setting, Vault}
+use Rattle.subset_restore.specs.Refusals.{refusal_of}
+use Rattle.session_model.specs.Steps.{Moment, FinishLanes}
+use Rattle.session_model.specs.Run.{script_of}
 use Rattle.script_lines.specs.At.{IsAt, Leaves}
 use Rattle.script_lines.specs.Does.{Images, Cut}
 use Rattle.script_lines.specs.Finishing.{FinishedPart}

@@ -5,12 +5,12 @@ ghost use Rattle.std.specs.Prelude.{OnErr, IsTrue};
 ghost use Rattle.std.specs.List.{flat_map, range_with_len};
 ghost use Rattle.cd_edges.specs.Disk.{Cloud};
 ghost use Rattle.upload_job.specs.Upload.{FileVersion};
-ghost use Rattle.lane_requests.specs.Reached.{IsReached};
+ghost use Rattle.lane_steps.specs.Reached.{IsReached};
 ghost use Rattle.session.specs.declared.event.Event.{Event};
 ghost use Rattle.session.specs.declared.event.Event.TheVariants as events;
-ghost use Rattle.vault.specs.Vault.{Setting};
-ghost use Rattle.vault.specs.Steps.{version_of as file_version};
-ghost use Rattle.vault.specs.Kept.{uploads};
+ghost use Rattle.session_model.specs.Vault.{Setting};
+ghost use Rattle.session_model.specs.Steps.{version_of as file_version};
+ghost use Rattle.session_model.specs.Kept.{uploads};
 ghost use Rattle.script_lines.specs.At.{Leaves};
 ghost use Rattle.generated_session.specs.Drawn.{file_of};
 ghost use Rattle.generated_session.specs.Lines.{user_at, version_at, file_path, clouds_at, upload_lines, get_line};
@@ -26,10 +26,10 @@ use cd_edges::Shelf;
 use frames::ReplyBuf;
 use lane_steps::finish_lane;
 use local_link::LocalLink;
+use session_model::{law_of_moments, law_of_parts};
 use std::alloc::Global;
 use subset_restore::restore_any;
 use upload_job::{Job, LaneNews};
-use vault::{law_of_moments, law_of_parts};
 
 // The one path of all files.
 const PATH: &[u8] = b"file";

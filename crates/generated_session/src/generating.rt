@@ -6,7 +6,7 @@ ghost use Rattle.cd_edges.specs.Disk.{Cloud};
 ghost use Rattle.cloud_store.specs.Space.{IsWithin};
 ghost use Rattle.share_server.specs.declared.server.Server.{Server};
 ghost use Rattle.local_link.specs.Tells.{server_at};
-ghost use Rattle.vault.specs.Vault.{Setting};
+ghost use Rattle.session_model.specs.Vault.{Setting};
 ghost use Rattle.replay_core.specs.Opening.{IsEmpty, before_first};
 ghost use Rattle.replay_core.specs.Going.{IsReady};
 ghost use Rattle.generated_session.specs.Generates.{Generates, GoesWell, IsDone};
@@ -18,8 +18,8 @@ use cd_base::{Bytes, Rooms, Shape};
 use cd_edges::{Shelf, Sink};
 use local_link::{LocalLink, Servers};
 use replay_core::{ReplayEnd, empty_clouds, open_clouds};
+use session_model::{law_of_acknowledged, law_of_moments, law_of_own_replies};
 use std::alloc::Global;
-use vault::{law_of_acknowledged, law_of_moments, law_of_own_replies};
 
 // Opens the clouds, which read as nothing, carries the session out, and writes its summary.
 fn carry_session<K: Sink, V: Shelf>(

@@ -8,9 +8,9 @@ use Rattle.journal_start.specs.Spelling.{start_bytes, epoch_of}
 use Rattle.journal_halves.specs.Halves.{half_len, half_of, is_half_begun, HasStart, IsCurrent}
 use Rattle.journal_halves.specs.Journals.{Where, all_bodies, with_body, HasChain, IsEither}
 use Rattle.journal_halves.proofs.Laying.{starts}
-use Rattle.current_half.specs.Findings.{part_of}
-use Rattle.current_half.proofs.Looks.{begun_part, has_start}
-use Rattle.half_records.specs.States.{IsKept, IsAdded}
+use Rattle.journal_halves.specs.Findings.{part_of}
+use Rattle.journal_halves.proofs.Looks.{begun_part, has_start}
+use Rattle.journal_halves.specs.States.{IsKept, IsAdded}
 
 -- a half's first record lies in its places
 pub record_off : (xs body : List ℕ) → IsRecord xs body → IsRecord (take half_len xs) body

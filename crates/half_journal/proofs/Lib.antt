@@ -1,4 +1,6 @@
+pub mod Calls
 pub mod Kept
-pub mod Steps
 pub mod Opening
 pub mod Same
+pub mod Steps
+pub mod Turns

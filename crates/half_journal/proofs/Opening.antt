@@ -18,14 +18,16 @@ use Rattle.journal_halves.specs.Halves.{half_len, half_of, HasStart, IsCurrent}
 use Rattle.journal_halves.specs.Journals.{Where, all_bodies, HasChain}
 use Rattle.journal_halves.proofs.Current.{begun_half}
 use Rattle.journal_halves.proofs.Laying.{starts}
-use Rattle.current_half.specs.Findings.{part_of}
-use Rattle.half_records.specs.States.{begun_at, IsKept, IsAdded}
-use Rattle.half_records.specs.States as records
-use Rattle.half_journal.specs.States.{State, IsReading, new_of}
-use Rattle.current_half.specs.declared.found.Found.{Found}
+use Rattle.journal_halves.specs.Findings.{part_of}
+use Rattle.journal_halves.specs.States.{begun_at, IsKept, IsAdded}
+use Rattle.journal_halves.specs.States as records
+use Rattle.half_journal.specs.States.{State, IsReading}
+use Rattle.journal_halves.specs.Beginnings.{new_of}
+use Rattle.journal_halves.specs.declared.found.Found.{Found}
 use Rattle.half_journal.specs.declared.errors.OpenErr.{OpenErr}
 use Rattle.half_journal.specs.declared.errors.OpenErr.TheVariants.{Fault, NotBegun, Damaged, OtherStore}
-use Rattle.half_journal.specs.Openings.{IsUnbegun, IsNewOrUnbegun, MayBecome, OpensIs, IsOpened, IsOpening, HasHeader, TakenIs, IsFree, IsReady}
+use Rattle.half_journal.specs.Openings.{IsNewOrUnbegun, MayBecome, OpensIs, IsOpened, IsOpening, HasHeader, TakenIs, IsFree, IsReady}
+use Rattle.journal_halves.specs.Beginnings.{IsUnbegun}
 use Rattle.half_journal.proofs.Kept.{record_off, unbegun_stays}
 
 -- ---- a start is taken up

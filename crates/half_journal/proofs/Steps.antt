@@ -13,14 +13,14 @@ use Rattle.journal_start.specs.Ranges.{IsHeader, IsStart}
 use Rattle.journal_start.specs.Spelling.{epoch_of, records_of}
 use Rattle.journal_halves.specs.Halves.{half_len, half_of, IsCurrent}
 use Rattle.journal_halves.specs.Journals.{Where, all_bodies, with_body, used_by, HasChain, IsEither, Stands, MayFollow}
-use Rattle.checkpoint_writing.specs.States as writer
-use Rattle.checkpoint_writing.proofs.Steps.{used_is}
-use Rattle.current_half.specs.Findings.{part_of}
-use Rattle.half_records.specs.States.{IsKept, IsAdded, begun_at}
-use Rattle.half_records.specs.States as records
-use Rattle.half_records.specs.declared.errors.JournalErr.{JournalErr}
-use Rattle.half_records.specs.declared.errors.JournalErr.TheVariants.{Failed, Damaged}
-use Rattle.half_records.specs.Outcomes as steps
+use Rattle.half_journal.specs.Turning as writer
+use Rattle.half_journal.proofs.Turns.{used_is}
+use Rattle.journal_halves.specs.Findings.{part_of}
+use Rattle.journal_halves.specs.States.{IsKept, IsAdded, begun_at}
+use Rattle.journal_halves.specs.States as records
+use Rattle.journal_halves.specs.declared.errors.JournalErr.{JournalErr}
+use Rattle.journal_halves.specs.declared.errors.JournalErr.TheVariants.{Failed, Damaged}
+use Rattle.journal_halves.specs.Outcomes as steps
 use Rattle.half_journal.specs.States.{State, IsReading, IsEnded, IsLaying, next_start, next_of}
 use Rattle.half_journal.specs.Outcomes.{records_place, TookIs, NextIs}
 use Rattle.half_journal.proofs.Kept.{kept_chain, added_either}

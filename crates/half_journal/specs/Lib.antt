@@ -1,3 +1,5 @@
-pub mod States
-pub mod Outcomes
+pub mod Leaving
 pub mod Openings
+pub mod Outcomes
+pub mod States
+pub mod Turning

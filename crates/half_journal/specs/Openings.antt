@@ -9,18 +9,14 @@ use Rattle.journal_start.specs.declared.start.Start.{Start}
 use Rattle.journal_halves.specs.Halves.{half_len, is_half_begun, IsCurrent}
 use Rattle.journal_halves.specs.Journals.{Where, HasChain}
 use Rattle.commit_journal.specs.Records.{IsJournal}
-use Rattle.current_half.specs.declared.found.Found.{Found}
-use Rattle.current_half.specs.Findings.{IsFoundDamage}
+use Rattle.journal_halves.specs.declared.found.Found.{Found}
+use Rattle.journal_halves.specs.Findings.{IsFoundDamage}
 use Rattle.half_journal.specs.declared.errors.OpenErr.{OpenErr}
 use Rattle.half_journal.specs.declared.errors.OpenErr.TheVariants.{Fault, NotBegun, Damaged, OtherStore}
 use Rattle.half_journal.specs.declared.journal.Stage.{Stage}
 use Rattle.half_journal.specs.declared.journal.Stage.TheVariants.{Shut, Reading}
-use Rattle.half_journal.specs.States.{State, IsReading, new_of}
-
--- no half is begun
-pub record IsUnbegun (journal : List ℕ) : Type 0 where
-  pub first : is_half_begun 0 journal ≡ false
-  pub second : is_half_begun 1 journal ≡ false
+use Rattle.half_journal.specs.States.{State, IsReading}
+use Rattle.journal_halves.specs.Beginnings.{IsUnbegun, new_of}
 
 -- The current half begins with this header.
 pub record HasHeader (journal : List ℕ) (half : ℕ) (header : Header) : Type 0 where

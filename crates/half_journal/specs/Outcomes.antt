@@ -10,9 +10,9 @@ use Rattle.journal_start.specs.declared.start.Start.{Start}
 use Rattle.journal_start.specs.Spelling.{records_of}
 use Rattle.journal_halves.specs.Halves.{half_len}
 use Rattle.journal_halves.specs.Journals.{Where, HasChain, IsEither, with_body}
-use Rattle.half_records.specs.declared.errors.JournalErr.{JournalErr}
-use Rattle.half_records.specs.declared.errors.JournalErr.TheVariants.{Failed, Damaged}
-use Rattle.half_records.specs.Outcomes.{gate_at, rest_of}
+use Rattle.journal_halves.specs.declared.errors.JournalErr.{JournalErr}
+use Rattle.journal_halves.specs.declared.errors.JournalErr.TheVariants.{Failed, Damaged}
+use Rattle.journal_halves.specs.Outcomes.{gate_at, rest_of}
 use Rattle.half_journal.specs.declared.journal.Stage.{Stage}
 use Rattle.half_journal.specs.declared.journal.Stage.TheVariants.{Shut, Reading, AtEnd}
 use Rattle.half_journal.specs.States.{State, IsReading, IsEnded, IsLaying, next_of}

@@ -6,8 +6,8 @@ use Rattle.journal_start.specs.declared.start.Start.{Start}
 use Rattle.journal_start.specs.Spelling.{epoch_of, records_of}
 use Rattle.journal_halves.specs.Halves.{IsCurrent}
 use Rattle.journal_halves.specs.Journals.{Where, all_bodies}
-use Rattle.half_records.specs.States as records
-use Rattle.checkpoint_writing.specs.States as writer
+use Rattle.journal_halves.specs.States as records
+use Rattle.half_journal.specs.Turning as writer
 use Rattle.half_journal.specs.declared.journal.Journal.{Journal}
 use Rattle.half_journal.specs.declared.journal.Stage.{Stage}
 
@@ -64,7 +64,3 @@ next_start start header commands records region = record {
 -- a checkpoint in the other half that has no record yet
 abbrev pub next_of : Where → Header → ℕ → ℕ → ℕ → Where
 next_of w header commands records region = record { half = 1 - w.half; start = next_start w.start header commands records region; bodies = [] }
-
--- a chain that begins with no command
-abbrev pub new_of : Header → Where
-new_of header = record { half = 0; start = record { header = header; checkpoint = None }; bodies = [] }

@@ -4,15 +4,14 @@ ghost use Rattle.std.specs.Prelude.{◌≡◌, ◌≢◌, ◌⊎◌, ◌↔◌, 
 ghost use Rattle.cd_edges.specs.Shelf.{IsCall, HasFailed, KeepsCounts, Stays};
 ghost use Rattle.journal_halves.specs.Halves.{half_len};
 ghost use Rattle.journal_start.specs.Spelling.{commands_of, records_of, region_of};
-ghost use Rattle.checkpoint_writing.specs.Leaving.{OthersStay, IsLater};
-ghost use Rattle.half_records.specs.Outcomes.{StepIs, OnFailed, IsHandled};
+ghost use Rattle.half_journal.specs.Leaving.{OthersStay, IsLater};
+ghost use Rattle.journal_halves.specs.Outcomes.{StepIs, OnFailed, IsHandled};
 
+use crate::CheckpointWriter;
 use crate::starts::{no_start, records_place};
 use cd_base::{CloudNo, NoMemory};
 use cd_edges::{Failed, Shelf};
-use checkpoint_writing::CheckpointWriter;
-use half_records::{HalfRecords, JournalErr};
-use journal_halves::HALF_LEN;
+use journal_halves::{HALF_LEN, HalfRecords, JournalErr};
 use journal_start::Start;
 use std::alloc::Global;
 

@@ -4,12 +4,17 @@
 //! Only `Journal::make` takes memory.
 #![tactic(auto)]
 
+mod area;
 mod errors;
 mod journal;
 mod open;
+mod piece;
 mod starts;
+mod writer;
 mod writing;
 
 pub use errors::OpenErr;
-pub use half_records::JournalErr;
 pub use journal::{Journal, Stage};
+pub use journal_halves::JournalErr;
+pub use piece::PIECE;
+pub use writer::CheckpointWriter;

@@ -7,17 +7,16 @@ ghost use Rattle.cd_edges.specs.Shelf.{IsCall, HasFailed, KeepsCounts, Stays, st
 ghost use Rattle.journal_halves.specs.Halves.{IsCurrent};
 ghost use Rattle.journal_halves.specs.Journals.{HasChain};
 ghost use Rattle.journal_start.specs.Ranges.{IsHeader};
-ghost use Rattle.current_half.specs.Findings.{FindIs};
-ghost use Rattle.current_half.specs.Findings as findings;
-ghost use Rattle.checkpoint_writing.specs.Leaving.{OthersStay};
+ghost use Rattle.journal_halves.specs.Findings.{FindIs};
+ghost use Rattle.journal_halves.specs.Findings as findings;
+ghost use Rattle.half_journal.specs.Leaving.{OthersStay};
 ghost use Rattle.half_journal.specs.Openings.{LeavesFree, HasReady};
 
 use crate::starts::is_same;
 use crate::{Journal, OpenErr, Stage};
 use cd_base::CloudNo;
 use cd_edges::{Area, Failed, Shelf, write_synced};
-use current_half::{FindErr, Found};
-use journal_halves::HALF_LEN;
+use journal_halves::{FindErr, Found, HALF_LEN};
 use journal_start::{Header, Start};
 
 // Makes sure that the area has a first place, which is closed where no half is begun.
@@ -39,9 +38,11 @@ fn close<V: Shelf>(shelf: &mut V, cloud: CloudNo, len: u64) -> Result<(), Failed
 }
 
 impl Journal {
-    ghost use Rattle.half_journal.specs.States.{state_of, new_of};
+    ghost use Rattle.half_journal.specs.States.{state_of};
+    ghost use Rattle.journal_halves.specs.Beginnings.{new_of};
     ghost use Rattle.half_journal.specs.Outcomes.{stage_after};
-    ghost use Rattle.half_journal.specs.Openings.{IsUnbegun, IsOpening, IsSynced, TakenIs, IsAnswered, LeavesBegun, HasNew, OnFault};
+    ghost use Rattle.half_journal.specs.Openings.{IsOpening, IsSynced, TakenIs, IsAnswered, LeavesBegun, HasNew, OnFault};
+    ghost use Rattle.journal_halves.specs.Beginnings.{IsUnbegun};
 
     /// Finds the current half of the journal and its start, whatever its header: as `current_half`'s `find`. The journal is
     /// shut then.

@@ -4,8 +4,8 @@ ghost use Rattle.std.specs.Prelude.{◌≡◌, ◌≢◌, ◌⊎◌, ℕ, ◌+�
 ghost use Rattle.cd_edges.specs.Shelf.{IsCall, HasFailed, KeepsCounts, Stays};
 ghost use Rattle.journal_start.specs.Ranges.{IsHeader, IsStart};
 ghost use Rattle.journal_halves.specs.Halves.{half_len};
-ghost use Rattle.checkpoint_writing.specs.States.{used_of};
-ghost use Rattle.checkpoint_writing.specs.Leaving.{OthersStay, IsLater, IsSpared, IsLaterOpen};
+ghost use Rattle.half_journal.specs.Turning.{used_of};
+ghost use Rattle.half_journal.specs.Leaving.{OthersStay, IsLater, IsSpared, IsLaterOpen};
 
 use crate::starts::next_start;
 use crate::{Journal, Stage};

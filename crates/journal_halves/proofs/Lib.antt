@@ -1,5 +1,9 @@
+pub mod Adding
 pub mod Current
+pub mod Halving
 pub mod Laying
+pub mod Looks
 pub mod OneByte
+pub mod Reading
 pub mod Settling
 pub mod Turning

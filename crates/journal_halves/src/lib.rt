@@ -2,7 +2,17 @@
 //! other. Whatever a crash leaves meanwhile, the journal has the one chain or the other.
 #![tactic(auto)]
 
+mod choice;
+mod errors;
+mod finding;
+mod found;
 pub mod laws;
 mod limit;
+mod record;
+mod records;
 
+pub use errors::JournalErr;
+pub use finding::{WINDOW, find};
+pub use found::{FindErr, Found};
 pub use limit::{HALF_LEN, half_limit};
+pub use records::HalfRecords;

@@ -1,8 +1,7 @@
 -- What is kept is given.
-use Rattle.std.proofs.Common.{◌≡◌, ◌≢◌, ℕ, zero, suc, ◌+◌, ◌-◌, ◌*◌, ◌/◌, ◌<◌, ◌≤◌, ◌^◌, Bool, true, false, cond, List, [], ◌∷◌, ◌++◌, length, map, take, drop, get_or, slice_index, Option, Some, None, Result, Ok, Err, refl, sym, ap, ◌∙◌, subst, arith, eq-eqb, append-nil, append_assoc, length-append, bit_xor, eqb}
-use Rattle.std.specs.Prelude.{All, min, not, find, is_none, option_map, unwrap_or, slice_index_or}
+use Rattle.std.proofs.Common.{◌≡◌, ℕ, zero, suc, ◌+◌, ◌-◌, ◌*◌, ◌/◌, ◌<◌, ◌≤◌, Bool, cond, List, [], ◌∷◌, ◌++◌, length, map, take, drop, get_or, slice_index, Option, Some, None, Result, Ok, refl, sym, ap, ◌∙◌, subst, arith, eq-eqb, append_assoc, length-append, eqb}
+use Rattle.std.specs.Prelude.{min, not, find, is_none, option_map, unwrap_or}
 use Rattle.std.specs.List.{Contains, flat_map, concat, range_with_len}
-use Rattle.std.proofs.Math.Nat.{add-mul, one-mul}
 use Rattle.std.proofs.Math.Seq.{drop-append-add}
 use Rattle.std.proofs.lemmas.Nat.{xor_lt}
 use Rattle.std.proofs.lemmas.List.{get_or-map, length-map, take_at}
@@ -11,7 +10,6 @@ use Rattle.std.proofs.lemmas.List.Concat.{flat_map-cons}
 use Rattle.cd_base.specs.Lengths.{share_len_of}
 use Rattle.cd_base.specs.Limits.{IsPath}
 use Rattle.cd_base.specs.Reading.{AreBytes}
-use Rattle.cd_base.specs.declared.ids.Fp.{Fp}
 use Rattle.cd_base.specs.declared.ids.Tag.{Tag}
 use Rattle.cd_base.specs.declared.ids.UserId.{UserId}
 use Rattle.cd_base.specs.declared.ids.Version.{Version}

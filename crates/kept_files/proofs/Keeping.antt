@@ -3,7 +3,6 @@ use Rattle.std.proofs.Common.{◌≡◌, ◌⊎◌, ℕ, Bool, true, false, cond
 use Rattle.std.specs.Prelude.{All, ◌≤◌, ◌&&◌, ◌==◌, find, bytes_eq, option_map, option_to_list}
 use Rattle.std.specs.List.{Contains, flat_map}
 use Rattle.std.specs.Option.{option_or}
-use Rattle.std.proofs.lemmas.Bool.{cases_eq}
 use Rattle.std.proofs.lemmas.List.Elements.{All-nil, All-cons, All-head, All-tail}
 use Rattle.std.proofs.lemmas.List.Folds.{find-append}
 use Rattle.std.proofs.lemmas.Slice.Eq.{bytes_eq-Decides}
@@ -23,37 +22,28 @@ use Rattle.user_dedup.specs.declared.command.Command.{Command}
 use Rattle.user_dedup.specs.declared.command.Command.TheVariants as commands
 use Rattle.user_dedup.specs.declared.file_list.FileEntry.{FileEntry}
 use Rattle.user_dedup.specs.declared.view.View.{View}
-use Rattle.user_dedup.specs.Cloud.{fingerprint, user_of, view_after, user_view, strings_of, held_string}
+use Rattle.user_dedup.specs.Cloud.{fingerprint, user_view, strings_of, held_string}
 use Rattle.user_dedup.specs.Requests.{fps_read, fps_of}
 use Rattle.user_dedup.specs.Owning.{fps_in, first_lacking, FindsLacking}
 use Rattle.user_dedup.specs.Pages.{is_at, entry_at}
-use Rattle.user_dedup.specs.Dedup.{commit_outcome, answer_over}
+use Rattle.user_dedup.specs.Dedup.{commit_outcome, answer_over, Ends}
 use Rattle.user_dedup.proofs.Owned.{contains_here, contains_later, finds}
-use Rattle.user_dedup.proofs.Views.{own_adds, others_stay, held_is, owned_is_held, held_more}
-use Rattle.kept_files.specs.Kept.{Keeps, IsApart, key_of, Ends, AreHarmless}
+use Rattle.user_dedup.proofs.Deleting.{version_stays}
+use Rattle.user_dedup.proofs.Growing.{Each, IsNoDelete, ends_none}
+use Rattle.user_dedup.proofs.Views.{own_adds, held_is, owned_is_held, held_more}
+use Rattle.kept_files.specs.Kept.{Keeps, IsApart, key_of, AreHarmless}
 
 -- ---- more commands
 
-or_kept : (o other : Option FileEntry) (r : List ℕ) → option_map (λ entry. entry.recipe) o ≡ Some r → option_map (λ (entry : FileEntry). entry.recipe) (option_or o other) ≡ Some r
-or_kept None other r h = absurd (let f : None ≡ Some r = h in cc)
-or_kept (Some x) other r h = h
-
-entry_stays : (shape : Shape) (v : View) (key : Tag × Version) (r : List ℕ) (user : UserId) (c : Command) → ¬ Ends user key c
-    → option_map (λ entry. entry.recipe) (entry_at v.files key) ≡ Some r → option_map (λ entry. entry.recipe) (entry_at (view_after shape v c).files key) ≡ Some r
-entry_stays shape v key r user (commands.Put sender shares) harmless h = h
-entry_stays shape v key r user (commands.Commit sender tag version recipe) harmless h =
-    let entry : FileEntry = record { tag = tag; version = version; recipe = recipe } in
-    ap (option_map (λ (e : FileEntry). e.recipe)) (find-append (is_at key) v.files (entry ∷ []))
-    ∙ or_kept (entry_at v.files key) (find (is_at key) (entry ∷ [])) r h
+entry_next : (shape : Shape) (list : List Command) (c : Command) (user : UserId) (key : Tag × Version) (r : List ℕ) → ¬ Ends user key c → (o : Option FileEntry) → entry_at (user_view shape list user).files key ≡ o
+    → option_map (λ (e : FileEntry). e.recipe) o ≡ Some r → option_map (λ (e : FileEntry). e.recipe) (entry_at (user_view shape (list ++ c ∷ []) user).files key) ≡ Some r
+entry_next shape list c user key r harmless None at h = absurd (let f : None ≡ Some r = h in cc)
+entry_next shape list c user key r harmless (Some e) at h = ap (option_map (λ (e : FileEntry). e.recipe)) (version_stays shape list c user key e harmless at) ∙ h
 
 keeps_next : (shape : Shape) (cloud : ℕ) (list : List Command) (c : Command) (user : UserId) (path : List ℕ) (version : Version) (file : List ℕ)
     → ¬ Ends user (key_of shape path version) c → Keeps shape cloud list user path version file → Keeps shape cloud (list ++ c ∷ []) user path version file
 keeps_next shape cloud list c user path version file harmless k = record {
-  entry = elim (cases_eq (user_of c).0 user.0) [
-    | inl same ↦ subst (λ (v : View). option_map (λ entry. entry.recipe) (entry_at v.files (key_of shape path version)) ≡ Some (recipe_bytes shape cloud path file)) (sym (own_adds shape list c user same))
-        (entry_stays shape (user_view shape list user) (key_of shape path version) (recipe_bytes shape cloud path file) user c harmless k.entry)
-    | inr ne ↦ subst (λ (v : View). option_map (λ entry. entry.recipe) (entry_at v.files (key_of shape path version)) ≡ Some (recipe_bytes shape cloud path file)) (sym (others_stay shape list c user ne)) k.entry
-  ];
+  entry = entry_next shape list c user (key_of shape path version) (recipe_bytes shape cloud path file) harmless (entry_at (user_view shape list user).files (key_of shape path version)) refl k.entry;
   shares = λ i d h. held_more list (c ∷ []) _ _ (k.shares i d h);
 }
 
@@ -65,19 +55,10 @@ keeps_still shape cloud list (c ∷ more) user path version file harmless k =
     (keeps_still shape cloud (list ++ c ∷ []) more user path version file (All-tail (λ command. ¬ Ends user (key_of shape path version) command) c more harmless)
     (keeps_next shape cloud list c user path version file (All-head (λ command. ¬ Ends user (key_of shape path version) command) c more harmless) k))
 
-pub endless : (user : UserId) (key : Tag × Version) (command : Command) → Ends user key command → ⊥
-endless user key (commands.Put sender shares) ends = ends
-endless user key (commands.Commit sender tag version recipe) ends = ends
-
-all_harmless : (user : UserId) (key : Tag × Version) (list : List Command) → AreHarmless user key list
-all_harmless user key [] = All-nil (λ command. ¬ Ends user key command)
-all_harmless user key (c ∷ list) = All-cons (λ command. ¬ Ends user key command) c list (endless user key c) (all_harmless user key list)
-
--- whichever commands follow
-pub keeps_more : (shape : Shape) (cloud : ℕ) (list more : List Command) (user : UserId) (path : List ℕ) (version : Version) (file : List ℕ)
-    → Keeps shape cloud list user path version file → Keeps shape cloud (list ++ more) user path version file
-keeps_more shape cloud list more user path version file k =
-    keeps_still shape cloud list more user path version file (all_harmless user (key_of shape path version) more) k
+-- commands of which none is a Delete end no version
+pub harmless_all : (user : UserId) (key : Tag × Version) (more : List Command) → Each IsNoDelete more → AreHarmless user key more
+harmless_all user key [] each = All-nil (λ command. ¬ Ends user key command)
+harmless_all user key (c ∷ more) each = All-cons (λ command. ¬ Ends user key command) c more (ends_none user key c each.0) (harmless_all user key more each.1)
 
 -- ---- a Committed answer
 

@@ -7,21 +7,23 @@ use Rattle.cd_base.specs.declared.ids.Version.{Version}
 use Rattle.cd_base.specs.declared.shape.Shape.{Shape}
 use Rattle.caont_rs.specs.Package.{share, tag}
 use Rattle.file_recipe.specs.FileRecipe.{secrets, recipe_bytes}
+use Rattle.messages.specs.declared.request.Request.{Request}
+use Rattle.messages.specs.declared.request.Request.TheVariants as requests
 use Rattle.user_dedup.specs.Cloud.{fingerprint, user_view, strings_of, held_string}
+use Rattle.user_dedup.specs.Dedup.{Ends}
 use Rattle.user_dedup.specs.Pages.{entry_at}
 use Rattle.user_dedup.specs.declared.command.Command.{Command}
-use Rattle.user_dedup.specs.declared.command.Command.TheVariants as commands
 
 -- what names a version of a file: the tag of its path, and its number
 abbrev pub key_of : Shape → List ℕ → Version → Tag × Version
 key_of shape path version = (record { 0 = tag shape path }, version)
 
--- The command takes the version of the user's file out. A Put and a Commit take none out.
-abbrev pub Ends : UserId → Tag × Version → Command → Type 0
-Ends user key (commands.Put sender shares) = ⊥
-Ends user key (commands.Commit sender tag version recipe) = ⊥
+-- the Commit that enters the version at this cloud
+abbrev pub commit_of : Shape → ℕ → UserId → List ℕ → Version → List ℕ → Request
+commit_of shape cloud user path version file =
+    requests.Commit user (record { 0 = tag shape path }) version (recipe_bytes shape cloud path file)
 
--- none of the commands does
+-- none of the commands takes the version of the user's file out
 abbrev pub AreHarmless : UserId → Tag × Version → List Command → Type 0
 AreHarmless user key list = All (λ command. ¬ Ends user key command) list
 

@@ -12,31 +12,30 @@ ghost use Rattle.recipe.specs.Spelling.{file_limit};
 ghost use Rattle.reed_solomon.specs.Dispersal.{AreChoice};
 ghost use Rattle.user_dedup.specs.declared.command.Command.{Command};
 ghost use Rattle.restore_job.specs.Restored.{restored_file};
-ghost use Rattle.cd_base.specs.declared.ids.Tag.{Tag};
-ghost use Rattle.caont_rs.specs.Package.{tag};
-ghost use Rattle.file_recipe.specs.FileRecipe.{recipe_bytes};
-ghost use Rattle.messages.specs.declared.request.Request.TheVariants as requests;
 ghost use Rattle.messages.specs.declared.reply.Reply.TheVariants as replies;
 ghost use Rattle.user_dedup.specs.Dedup.{answer_over};
-ghost use Rattle.kept_files.specs.Kept.{Keeps, IsApart, key_of, Ends, AreHarmless};
+ghost use Rattle.kept_files.specs.Kept.{Keeps, IsApart, key_of, AreHarmless, commit_of};
 
 /// Where each of k clouds keeps a version of a file, what they give is the file. No premise on SHA-256 is needed.
 pub fn law_of_kept_files()
-    ensures { (shape : Shape) (lists : ℕ → List Command) (user : UserId) (path : List ℕ) (version : Version) (file clouds : List ℕ)
-        → IsPath path → ((i : ℕ) → slice_index file i < 256) → length file ≤ file_limit → AreChoice shape clouds
+    ensures { (shape : Shape) (lists : ℕ → List Command) (user : UserId) (path : List ℕ) (version : Version)
+        (file clouds : List ℕ) → IsPath path → ((i : ℕ) → slice_index file i < 256) → length file ≤ file_limit
+        → AreChoice shape clouds
         → ((cloud : ℕ) → Contains clouds cloud → Keeps shape cloud (lists cloud) user path version file)
         → restored_file shape lists user (key_of shape path version) clouds ≡ Ok file }
 {}
 
-/// What a cloud keeps it goes on keeping, until a command takes that version of the user's out, which no command does; and what a
-/// Commit of a version enters it keeps, where no other string that was put there has the SHA-256 of one of its shares.
+/// What a cloud keeps it goes on keeping, until a command takes that version of the user's out; and what a Commit of a version
+/// enters it keeps, where no other string that was put there has the SHA-256 of one of its shares.
 pub fn law_of_keeping()
-    ensures stays { (shape : Shape) (cloud : ℕ) (list more : List Command) (user : UserId) (path : List ℕ) (version : Version) (file : List ℕ)
-        → AreHarmless user (key_of shape path version) more
+    ensures stays { (shape : Shape) (cloud : ℕ) (list more : List Command) (user : UserId) (path : List ℕ)
+        (version : Version) (file : List ℕ) → AreHarmless user (key_of shape path version) more
         → Keeps shape cloud list user path version file → Keeps shape cloud (list ++ more) user path version file }
-    ensures endless { (user : UserId) (key : Tag × Version) (command : Command) → Ends user key command → ⊥ }
-    ensures committed { (shape : Shape) (cloud : ℕ) (list : List Command) (user : UserId) (path : List ℕ) (version : Version) (file : List ℕ)
+    ensures committed { (shape : Shape) (cloud : ℕ) (list : List Command) (user : UserId) (path : List ℕ)
+        (version : Version) (file : List ℕ)
         → IsPath path → length file ≤ file_limit → IsApart shape cloud list file
-        → (answer_over shape cloud list (requests.Commit user (record { 0 = tag shape path }) version (recipe_bytes shape cloud path file))).reply ≡ replies.Committed
-        → Keeps shape cloud (list ++ option_to_list (answer_over shape cloud list (requests.Commit user (record { 0 = tag shape path }) version (recipe_bytes shape cloud path file))).adds) user path version file }
+        → (answer_over shape cloud list (commit_of shape cloud user path version file)).reply ≡ replies.Committed
+        → Keeps shape cloud (list
+        ++ option_to_list (answer_over shape cloud list (commit_of shape cloud user path version file)).adds)
+        user path version file }
 {}

@@ -15,8 +15,8 @@ use Rattle.upload_job.specs.declared.news.LaneNews.{LaneNews}
 use Rattle.upload_job.specs.declared.news.LaneErr.TheVariants as lane_errors
 use Rattle.upload_job.specs.Lane.{IsAnswer}
 use Rattle.upload_job.specs.Lanes.{LaneView, with_state}
-use Rattle.lane_requests.specs.Reached.{IsReached, Answered, IsReachedAlone, AnsweredAlone, IsOnItsWay, ForAll, ForOne}
-use Rattle.lane_requests.specs.Runs.{lane_at}
+use Rattle.lane_steps.specs.Reached.{IsReached, Answered, IsReachedAlone, AnsweredAlone, IsOnItsWay, ForAll, ForOne}
+use Rattle.lane_steps.specs.Runs.{lane_at}
 use Rattle.lane_steps.specs.declared.error.StepErr.{StepErr}
 use Rattle.lane_steps.specs.declared.error.StepErr.TheVariants as errors
 use Rattle.lane_steps.specs.Steps.{Passed, Heard, LostAsk, TakesReply, AsksFor, LaneSteps}

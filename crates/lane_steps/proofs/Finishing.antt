@@ -8,9 +8,9 @@ use Rattle.user_dedup.specs.Link.{LinkTelling, Talk, LeavesOthers}
 use Rattle.upload_job.specs.declared.news.LaneNews.{LaneNews}
 use Rattle.upload_job.specs.Lane.{LaneState, news_of}
 use Rattle.upload_job.specs.Lanes.{LaneView, request_at, with_state}
-use Rattle.lane_requests.specs.Reached.{IsReached, IsOnItsWay}
-use Rattle.lane_requests.specs.Runs.{Turn, Progress, starting, moved, request_of, progress_after, LaneRun, LaneAlong, Tell, lane_at, left_of}
-use Rattle.lane_requests.proofs.Measure.{falls}
+use Rattle.lane_steps.specs.Reached.{IsReached, IsOnItsWay}
+use Rattle.lane_steps.specs.Runs.{Turn, Progress, starting, moved, request_of, progress_after, LaneRun, LaneAlong, Tell, lane_at, left_of}
+use Rattle.lane_steps.proofs.Measure.{falls}
 use Rattle.lane_steps.specs.declared.error.StepErr.{StepErr}
 use Rattle.lane_steps.specs.declared.error.StepErr.TheVariants as errors
 use Rattle.lane_steps.specs.Steps.{Heard, LaneSteps, Finishes, LosesBy, stops_by, tells_lack}

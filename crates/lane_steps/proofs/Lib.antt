@@ -1,6 +1,12 @@
-pub mod Views
-pub mod Telling
-pub mod Suits
+pub mod Alone
 pub mod Asking
-pub mod Runs
 pub mod Finishing
+pub mod Lanes
+pub mod Measure
+pub mod Reaching
+pub mod Runs
+pub mod Sent
+pub mod Suits
+pub mod Telling
+pub mod Views
+pub mod Works

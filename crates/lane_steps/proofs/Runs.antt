@@ -11,7 +11,7 @@ use Rattle.user_dedup.specs.Exec.{Peer, Exec, served}
 use Rattle.user_dedup.specs.Link.{LinkTelling, Talk, Does, LeavesOthers}
 use Rattle.upload_job.specs.declared.news.LaneNews.{LaneNews}
 use Rattle.upload_job.specs.Lane.{news_of}
-use Rattle.lane_requests.specs.Runs.{Turn, Progress, request_of, progress_after, LaneRun, LaneAlong, Tell}
+use Rattle.lane_steps.specs.Runs.{Turn, Progress, request_of, progress_after, LaneRun, LaneAlong, Tell}
 use Rattle.lane_steps.specs.Steps.{Heard, SayTheSame, TalksBy}
 
 -- ---- one turn more

@@ -5,7 +5,7 @@ use Rattle.messages.specs.declared.reply.Reply.TheVariants as replies
 use Rattle.upload_job.specs.declared.news.LaneNews.{LaneNews}
 use Rattle.upload_job.specs.Upload.{Work}
 use Rattle.upload_job.specs.Lane.{LaneState, Asking, Sending, Committing, Done, Refused, news_of, IsAnswer}
-use Rattle.lane_requests.specs.Runs.{is_lacking, stops_at}
+use Rattle.lane_steps.specs.Runs.{is_lacking, stops_at}
 use Rattle.lane_steps.specs.Steps.{stops_by, tells_lack}
 
 -- a reply that the lane's request may have tells something

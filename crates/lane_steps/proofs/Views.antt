@@ -4,7 +4,7 @@ use Rattle.upload_job.specs.declared.news.LaneNews.{LaneNews}
 use Rattle.upload_job.specs.declared.news.LaneErr.{LaneErr}
 use Rattle.upload_job.specs.Lane.{LaneState}
 use Rattle.upload_job.specs.Lanes.{LaneView, request_at, with_state, Answers, AnswersAt}
-use Rattle.lane_requests.specs.Runs.{request_of, lane_at}
+use Rattle.lane_steps.specs.Runs.{request_of, lane_at}
 
 pub request_here : (views : List LaneView) (i : ℕ) → request_at views i ≡ request_of (lane_at views i)
 request_here [] i = refl

@@ -13,7 +13,7 @@ use Rattle.upload_job.specs.declared.news.LaneNews.TheVariants as news
 use Rattle.upload_job.specs.declared.news.LaneErr.TheVariants as lane_errors
 use Rattle.upload_job.specs.Lane.{Refused, news_of, IsAnswer}
 use Rattle.upload_job.specs.Lanes.{LaneView, with_state, first_byte, Says, AnswersAt}
-use Rattle.lane_requests.specs.Runs.{Turn, Progress, starting, moved, request_of, LaneRun, LaneAlong, Tell, lane_at}
+use Rattle.lane_steps.specs.Runs.{Turn, Progress, starting, moved, request_of, LaneRun, LaneAlong, Tell, lane_at}
 use Rattle.lane_steps.specs.declared.error.StepErr.{StepErr}
 use Rattle.lane_steps.specs.declared.error.StepErr.TheVariants as errors
 

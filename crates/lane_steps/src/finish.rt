@@ -2,7 +2,7 @@
 
 ghost use Rattle.std.specs.Prelude.{◌≡◌, ◌<◌, ◌≤◌, length, IsTrue};
 ghost use Rattle.user_dedup.specs.Link.{LeavesOthers};
-ghost use Rattle.lane_requests.specs.Reached.{IsReached, IsOnItsWay};
+ghost use Rattle.lane_steps.specs.Reached.{IsReached, IsOnItsWay};
 ghost use Rattle.lane_steps.specs.Steps.{Finishes, IsFound, LosesBy};
 
 use crate::StepErr;

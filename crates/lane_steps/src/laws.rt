@@ -4,7 +4,7 @@
 ghost use Rattle.std.specs.Prelude.{ℕ, List};
 ghost use Rattle.user_dedup.specs.Exec.{Peer};
 ghost use Rattle.user_dedup.specs.Link.{Does, Talk};
-ghost use Rattle.lane_requests.specs.Runs.{Turn, Progress, LaneRun, LaneAlong};
+ghost use Rattle.lane_steps.specs.Runs.{Turn, Progress, LaneRun, LaneAlong};
 ghost use Rattle.lane_steps.specs.Steps.{Heard, SayTheSame, TalksBy};
 
 use user_dedup::Link;

@@ -5,8 +5,10 @@ mod error;
 mod finish;
 pub mod laws;
 mod news;
+mod reading;
 mod step;
 
 pub use error::StepErr;
 pub use finish::{finish_any, finish_lane};
+pub use reading::{law_of_any_requests, law_of_ends, law_of_lane_requests};
 pub use step::step_lane;

@@ -6,7 +6,7 @@ ghost use Rattle.messages.specs.declared.request.Request.{Request};
 ghost use Rattle.messages.specs.Requests.{request_bytes};
 ghost use Rattle.user_dedup.specs.Link.{LeavesOthers};
 ghost use Rattle.upload_job.specs.Lanes.{request_at};
-ghost use Rattle.lane_requests.specs.Reached.{IsReached, IsOnItsWay};
+ghost use Rattle.lane_steps.specs.Reached.{IsReached, IsOnItsWay};
 ghost use Rattle.lane_steps.specs.Steps.{AsksFor, LaneSteps, IsFound, Takes, TakesReply};
 
 use crate::StepErr;

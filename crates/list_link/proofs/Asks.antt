@@ -65,6 +65,7 @@ few_bytes content (requests.Commit user tag version recipe) e few =
 few_bytes content (requests.GetRecipe user tag version) e few = tt
 few_bytes content (requests.GetShares user fps) e few = tt
 few_bytes content (requests.List user after) e few = tt
+few_bytes content (requests.Delete user tag version) e few = tt
 
 read_err : (request : Request) (found : Result Recipe ℕ) (at : ℕ) → recipe_read request found ≡ Err at → (p : ℕ) × (found ≡ Err p) × (at ≡ 45 + p)
 read_err request (Ok recipe) at e = absurd (let f : Ok request ≡ bad at = e in cc)
@@ -82,6 +83,7 @@ whole_err shape (requests.Commit user tag version recipe) at few e =
 whole_err shape (requests.GetRecipe user tag version) at few e = absurd (let f : Ok (requests.GetRecipe user tag version) ≡ bad at = e in cc)
 whole_err shape (requests.GetShares user fps) at few e = absurd (let f : Ok (requests.GetShares user fps) ≡ bad at = e in cc)
 whole_err shape (requests.List user after) at few e = absurd (let f : Ok (requests.List user after) ≡ bad at = e in cc)
+whole_err shape (requests.Delete user tag version) at few e = absurd (let f : Ok (requests.Delete user tag version) ≡ bad at = e in cc)
 
 place_fits : (shape : Shape) (content : List ℕ) (at : ℕ) → AreBytes content → length content ≤ 4194304 → asked_at shape content ≡ Err at → at < 2 ^ 32
 place_fits shape content at known few e = go (request_at content) refl e

@@ -1,5 +1,5 @@
 -- Steps of the loops over lists of commands.
-use Rattle.std.proofs.Common.{◌≡◌, ℕ, zero, suc, ◌+◌, ◌<◌, ◌≤◌, Bool, true, false, cond, List, [], ◌∷◌, ◌++◌, length, get_or, take, drop, map, Some, None, refl, sym, ap, ◌∙◌, subst, arith, append_assoc}
+use Rattle.std.proofs.Common.{◌≡◌, ℕ, zero, suc, ◌+◌, ◌<◌, ◌≤◌, Bool, true, false, cond, List, [], ◌∷◌, ◌++◌, length, get_or, take, drop, map, Some, None, Result, Ok, Err, refl, sym, ap, ◌∙◌, subst, arith, append_assoc}
 use Rattle.std.specs.Prelude.{filter, find}
 use Rattle.std.specs.List.{flat_map}
 use Rattle.std.specs.Option.{option_or}
@@ -11,9 +11,18 @@ use Rattle.cd_base.specs.declared.ids.Version.{Version}
 use Rattle.cd_base.specs.declared.ids.Fp.{Fp}
 use Rattle.cd_base.specs.declared.ids.UserId.{UserId}
 use Rattle.cd_base.specs.declared.shape.Shape.{Shape}
+use Rattle.recipe.specs.declared.recipe.Recipe.{Recipe}
+use Rattle.recipe.specs.Reading.{recipe_at}
+use Rattle.recipe.proofs.Recipes.{recipe_law}
+use Rattle.recipe.proofs.Written.{longest}
 use Rattle.user_dedup.specs.declared.command.Command.{Command}
+use Rattle.user_dedup.specs.declared.file_list.FileEntry.{FileEntry}
+use Rattle.user_dedup.specs.declared.view.View.{View}
 use Rattle.user_dedup.specs.Cloud.{is_of, view_after, user_view, strings_of, has_fingerprint, held_string, fingerprint}
+use Rattle.user_dedup.specs.Cloud.{named_in, named_by, without_key, still_owned, without_entry}
 use Rattle.user_dedup.specs.Owning.{is_among, new_strings}
+use Rattle.user_dedup.specs.Pages.{entry_at}
+use Rattle.user_dedup.specs.Requests.{fps_of, fps_read}
 use Rattle.user_dedup.proofs.Views.{view_next}
 
 pub view_more : (shape : Shape) (list : List Command) (user : UserId) (i : ℕ) (d : Command) → i < length list
@@ -46,6 +55,37 @@ pub held_later : (list : List Command) (fp : Fp) (i : ℕ) (d : Command) → i <
 held_later list fp i d l e f =
     let rest = held_string (drop (i + 1) list) fp in
     held_more list fp i d l ∙ ap (λ (x : Command). option_or (find (has_fingerprint fp) (strings_of x)) rest) (sym e) ∙ ap (λ o. option_or o rest) (sym f)
+
+-- ---- what is left
+
+module _ {A : Type 0} (p : A → Bool) (xs : List A) (i : ℕ) (d : A) (ys : List A) (l : i < length xs) (was : ys ≡ filter p (take i xs)) where
+  pub kept : p (get_or xs i d) ≡ true → ys ++ get_or xs i d ∷ [] ≡ filter p (take (i + 1) xs)
+  kept passes = ap (λ (r : List A). r ++ get_or xs i d ∷ []) was ∙ ap (λ b. filter p (take i xs) ++ cond b (get_or xs i d ∷ []) []) (sym passes) ∙ sym (filter_more p xs i d l)
+
+  pub passed : p (get_or xs i d) ≡ false → ys ≡ filter p (take (i + 1) xs)
+  passed fails = was ∙ sym (append-nil (filter p (take i xs))) ∙ ap (λ b. filter p (take i xs) ++ cond b (get_or xs i d ∷ []) []) (sym fails) ∙ sym (filter_more p xs i d l)
+
+-- bytes that are too long for a recipe name no fingerprint
+pub long_names_none : (shape : Shape) (bytes : List ℕ) → ((i : ℕ) → get_or bytes i 0 < 256) → 1180190 < length bytes → fps_of shape bytes ≡ []
+long_names_none shape bytes known long = go (recipe_at shape bytes) refl
+  where
+    go : (r : Result Recipe ℕ) → recipe_at shape bytes ≡ r → fps_read r ≡ []
+    go (Err at) is = refl
+    go (Ok r) is =
+        let of = (recipe_law shape bytes r known).0 is in
+        let spelled = ap length of.spelled in
+        let most = longest shape r of.fits in
+        absurd (omega arith)
+
+pub without_parts : (shape : Shape) (key : Tag × Version) (v : View) (files : List FileEntry) (gone left own : List Fp) → files ≡ without_key key v.files
+    → gone ≡ named_by shape (entry_at v.files key) → left ≡ named_in shape files → own ≡ still_owned gone left v.own
+    → ◌≡◌ {A = View} (record { own = own; files = files }) (without_entry shape key v)
+without_parts shape key v files gone left own files_are gone_is left_is own_is =
+    let left_all : left ≡ named_in shape (without_key key v.files) = left_is ∙ ap (named_in shape) files_are in
+    let own_all : own ≡ still_owned (named_by shape (entry_at v.files key)) (named_in shape (without_key key v.files)) v.own
+    = own_is ∙ ap (λ (l : List Fp). still_owned l left v.own) gone_is ∙ ap (λ (l : List Fp). still_owned (named_by shape (entry_at v.files key)) l v.own) left_all in
+    ap (λ (o : List Fp). record { own = o; files = files }) own_all
+    ∙ ap (λ (l : List FileEntry). record { own = still_owned (named_by shape (entry_at v.files key)) (named_in shape (without_key key v.files)) v.own; files = l }) files_are
 
 -- ---- new strings
 

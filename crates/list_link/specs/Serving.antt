@@ -26,3 +26,4 @@ HasFewBytes (requests.Commit user tag version recipe) = length recipe ≤ frame_
 HasFewBytes (requests.GetRecipe user tag version) = Unit {0}
 HasFewBytes (requests.GetShares user fps) = Unit {0}
 HasFewBytes (requests.List user after) = Unit {0}
+HasFewBytes (requests.Delete user tag version) = Unit {0}

@@ -8,12 +8,12 @@ ghost use Rattle.messages.specs.declared.reply.Reply.TheVariants.{Known, Entries
 ghost use Rattle.messages.specs.declared.request.Request.TheVariants.{Commit as CommitRequest};
 ghost use Rattle.messages.specs.Requests.{FitsRequest};
 ghost use Rattle.recipe.specs.Reading.{recipe_at};
-ghost use Rattle.user_dedup.specs.declared.command.Command.TheVariants.{Commit as CommitCommand};
+ghost use Rattle.user_dedup.specs.declared.command.Command.TheVariants.{Commit as CommitCommand, Delete as DeleteCommand};
 ghost use Rattle.user_dedup.specs.Cloud.{held_string};
 ghost use Rattle.user_dedup.specs.Owning.{flags, first_lacking, new_strings, fps_in};
 ghost use Rattle.user_dedup.specs.Pages.{entry_at, page_of};
 ghost use Rattle.user_dedup.specs.Requests.{recipe_read, whole_read};
-ghost use Rattle.user_dedup.specs.Dedup.{only as only_reply, put_outcome, commit_outcome, recipe_reply, shares_reply};
+ghost use Rattle.user_dedup.specs.Dedup.{only as only_reply, put_outcome, commit_outcome, delete_outcome, recipe_reply, shares_reply};
 ghost use Rattle.list_link.specs.Serving.{outcome_of, IsAnswer, HasFewBytes};
 
 use crate::keys::{entry_of, page};
@@ -132,6 +132,19 @@ fn list_files(
     }))
 }
 
+fn delete(view: &View, user: UserId, tag: Tag, version: Version) -> Served
+    ensures { outcome_of result ≡ delete_outcome (entry_at view.now.files (tag, version)) (DeleteCommand user tag version) }
+{
+    let found = entry_of(view.files.as_slice(), &tag, version);
+    match found {
+        Some(_) => Served {
+            reply: Reply::Deleted,
+            adds: Some(Command::Delete { user, tag, version }),
+        },
+        None => only(Reply::Missing),
+    }
+}
+
 // The answer to a Commit, whose recipe is read first.
 fn commit_read(
     alloc: Global,
@@ -196,5 +209,11 @@ pub fn serve(
         Request::List { user, after } => {
             list_files(alloc, &view_of(alloc, shape, list, *user)?, after)
         }
+        Request::Delete { user, tag, version } => Ok(delete(
+            &view_of(alloc, shape, list, *user)?,
+            *user,
+            *tag,
+            *version,
+        )),
     }
 }

@@ -70,8 +70,8 @@ pub fn page(
     Ok(entries)
 }
 
-// Whether the entry has this key.
-fn is_entry_at(tag: &Tag, version: Version, entry: &FileEntry) -> bool
+/// Whether the entry has this key.
+pub fn is_entry_at(tag: &Tag, version: Version, entry: &FileEntry) -> bool
     ensures { result ≡ is_at (tag.now, version) entry.now }
 {
     entry.tag.0 == tag.0 && entry.version.0 == version.0

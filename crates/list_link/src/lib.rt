@@ -7,6 +7,7 @@ mod asking;
 mod command_list;
 mod keys;
 mod link;
+mod removing;
 mod shares;
 mod store;
 mod views;

@@ -11,8 +11,8 @@ use message_fields::ShareList;
 use std::alloc::Global;
 use user_dedup::Command;
 
-// Whether the fingerprint is one of these.
-fn owns(own: &[Fp], fp: &Fp) -> bool
+/// Whether the fingerprint is one of these.
+pub fn owns(own: &[Fp], fp: &Fp) -> bool
     ensures { result ≡ is_among own.now fp.now }
 {
     own.contains(fp)
@@ -101,6 +101,7 @@ fn held_by<'a>(command: &'a Command, fp: &Fp) -> Option<&'a Bytes>
     match command {
         Command::Put { user: _, shares } => held_in(shares.as_slice(), fp),
         Command::Commit { .. } => None,
+        Command::Delete { .. } => None,
     }
 }
 

@@ -4,6 +4,7 @@ ghost use Rattle.std.specs.Prelude.{◌≡◌, ◌++◌, map, OnOk, IfOk};
 ghost use Rattle.cd_base.specs.declared.shape.Shape.{Shape};
 ghost use Rattle.user_dedup.specs.Cloud.{fingerprint, is_of, view_after, user_view};
 
+use crate::removing::without;
 use cd_base::{Bytes, Fps, NoMemory, Shape, UserId, sha256};
 use std::alloc::Global;
 use user_dedup::{Command, FileEntry, FileList, View};
@@ -42,6 +43,11 @@ fn is_by(user: UserId, command: &Command) -> bool
             version: _,
             recipe: _,
         } => by.0 == user.0,
+        Command::Delete {
+            user: by,
+            tag: _,
+            version: _,
+        } => by.0 == user.0,
     }
 }
 
@@ -63,6 +69,14 @@ fn take_in(alloc: Global, shape: Shape, view: &mut View, command: &Command) -> R
                 version: *version,
                 recipe,
             })
+        }
+        Command::Delete {
+            user: _,
+            tag,
+            version,
+        } => {
+            *view = without(alloc, shape, view, tag, *version)?;
+            Ok(())
         }
     }
 }

@@ -37,6 +37,7 @@ adds_none shape cloud full list (requests.Commit user tag version recipe) none =
 adds_none shape cloud full list (requests.GetRecipe user tag version) none = refl
 adds_none shape cloud full list (requests.GetShares user fps) none = refl
 adds_none shape cloud full list (requests.List user after) none = refl
+adds_none shape cloud full list (requests.Delete user tag version) none = absurd none
 
 has_recipe : (shape : Shape) (r : Request) → AddsNothing r → HasRecipe shape r
 has_recipe shape requests.Hello none = tt
@@ -46,6 +47,7 @@ has_recipe shape (requests.Commit user tag version recipe) none = absurd none
 has_recipe shape (requests.GetRecipe user tag version) none = tt
 has_recipe shape (requests.GetShares user fps) none = tt
 has_recipe shape (requests.List user after) none = tt
+has_recipe shape (requests.Delete user tag version) none = absurd none
 
 module _ (shape : Shape) (cloud : ℕ) (full : List Command → Command → Option FullRoom) (r : Request) (none : AddsNothing r) where
   becomes : (p : Peer) (list : List Command) → MayBecome (served shape cloud full) p r list → MaySettleAs p list

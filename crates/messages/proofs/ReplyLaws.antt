@@ -172,7 +172,10 @@ plain_take kind fields r known e =
                             | inl h ↦ kind_takes malformed_laws FitsReply reply_bytes 0x90 kind (λ x fits. (fits, refl)) fields r known h.0 h.1
                             | inr t12 ↦ elim (picked (eqb kind 0x91) (done_at replies.NoMemory fields) _ (Ok r) t12.1) [
                               | inl h ↦ bare_takes 0x91 kind replies.NoMemory fields r tt refl known h.0 h.1
-                              | inr t13 ↦ absurd (let k = t13.1 in cc)
+                              | inr t13 ↦ elim (picked (eqb kind 0x92) (done_at replies.Deleted fields) _ (Ok r) t13.1) [
+                                | inl h ↦ bare_takes 0x92 kind replies.Deleted fields r tt refl known h.0 h.1
+                                | inr t14 ↦ absurd (let k = t14.1 in cc)
+                              ]
                             ]
                           ]
                         ]
@@ -228,6 +231,7 @@ again (replies.Damaged at byte) fits = damaged_laws.again (at, byte) fits
 again (replies.Rotten named found) fits = rotten_laws.again (named.0, found.0) fits
 again (replies.Malformed at) fits = malformed_laws.again at fits
 again replies.NoMemory fits = refl
+again replies.Deleted fits = refl
 
 -- bytes are a reply exactly where they are its spelling
 pub reply_law : (bytes : List ℕ) (r : Reply) → IsBytes bytes → (reply_at bytes ≡ Ok r → IsReply bytes r) × (IsReply bytes r → reply_at bytes ≡ Ok r)

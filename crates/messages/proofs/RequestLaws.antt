@@ -18,7 +18,7 @@ use Rattle.message_fields.proofs.KeyLaws.{lawful_key}
 use Rattle.messages.specs.declared.request.Request.{Request}
 use Rattle.messages.specs.declared.request.Request.TheVariants as requests
 use Rattle.messages.specs.Requests.{request_bytes, FitsRequest, IsRequest}
-use Rattle.messages.specs.RequestReading.{query_left, put_left, commit_left, get_recipe_left, get_shares_left, list_left, fields_left, request_left, request_at}
+use Rattle.messages.specs.RequestReading.{query_left, put_left, commit_left, get_recipe_left, get_shares_left, list_left, delete_left, fields_left, request_left, request_at}
 use Rattle.messages.specs.Parts.{after_bytes, placed}
 use Rattle.messages.proofs.ByKind.{picked, lawful_after, whole_done, whole_rest, kind_takes, placed_ok}
 
@@ -49,6 +49,10 @@ list_laws : Whole IsBytes {A = ℕ × Option (Tag × Version)} list_left (λ x. 
 unfolding list_left
 list_laws = lawful_whole IsBytes Anything tt (lawful_then IsBytes Anything lawful_u32 lawful_after) (λ x. requests.List (record { 0 = x.0 }) x.1)
 
+delete_laws : Whole IsBytes {A = ℕ × (Tag × Version)} delete_left (λ x. requests.Delete (record { 0 = x.0 }) x.1.0 x.1.1) (λ x. to_be_bytes w32 x.0 ++ key_bytes x.1) (λ x. (x.0 < 2 ^ 32) × IsKey x.1)
+unfolding delete_left
+delete_laws = lawful_whole IsBytes Anything tt (lawful_then IsBytes Anything lawful_u32 lawful_key) (λ x. requests.Delete (record { 0 = x.0 }) x.1.0 x.1.1)
+
 fields_take : (kind : ℕ) (fields : List ℕ) (r : Request) → IsBytes fields → fields_left kind fields ≡ Ok r → Took kind fields r
 unfolding fields_left
 fields_take kind fields r known e =
@@ -66,7 +70,10 @@ fields_take kind fields r known e =
                 | inl h ↦ kind_takes get_shares_laws FitsRequest request_bytes 6 kind (λ x fits. (fits, refl)) fields r known h.0 h.1
                 | inr t6 ↦ elim (picked (eqb kind 7) (list_left fields) _ (Ok r) t6.1) [
                   | inl h ↦ kind_takes list_laws FitsRequest request_bytes 7 kind (λ x fits. (fits, refl)) fields r known h.0 h.1
-                  | inr t7 ↦ absurd (let k = t7.1 in cc)
+                  | inr t7 ↦ elim (picked (eqb kind 8) (delete_left fields) _ (Ok r) t7.1) [
+                    | inl h ↦ kind_takes delete_laws FitsRequest request_bytes 8 kind (λ x fits. (fits, refl)) fields r known h.0 h.1
+                    | inr t8 ↦ absurd (let k = t8.1 in cc)
+                  ]
                 ]
               ]
             ]
@@ -89,6 +96,7 @@ again (requests.Commit user tag version recipe) fits = commit_laws.again ((user.
 again (requests.GetRecipe user tag version) fits = get_recipe_laws.again (user.0, (tag, version)) fits
 again (requests.GetShares user fps) fits = get_shares_laws.again (user.0, fps) fits
 again (requests.List user after) fits = list_laws.again (user.0, after) fits
+again (requests.Delete user tag version) fits = delete_laws.again (user.0, (tag, version)) fits
 
 -- bytes are a request exactly where they are its spelling
 pub request_law : (bytes : List ℕ) (r : Request) → IsBytes bytes → (request_at bytes ≡ Ok r → IsRequest bytes r) × (IsRequest bytes r → request_at bytes ≡ Ok r)

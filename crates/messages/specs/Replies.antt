@@ -39,6 +39,7 @@ reply_bytes (replies.Damaged at byte) = 0x8E ∷ (to_be_bytes w64 at ++ byte ∷
 reply_bytes (replies.Rotten named found) = 0x8F ∷ (named.0 ++ found.0)
 reply_bytes (replies.Malformed at) = 0x90 ∷ to_be_bytes w32 at
 reply_bytes replies.NoMemory = 0x91 ∷ []
+reply_bytes replies.Deleted = 0x92 ∷ []
 
 -- the lists are no longer than one message has them, and a recipe fits a frame with its kind
 abbrev pub IsWritableReply : Reply → Type 0
@@ -59,6 +60,7 @@ IsWritableReply (replies.Damaged at byte) = Unit {0}
 IsWritableReply (replies.Rotten named found) = Unit {0}
 IsWritableReply (replies.Malformed at) = Unit {0}
 IsWritableReply replies.NoMemory = Unit {0}
+IsWritableReply replies.Deleted = Unit {0}
 
 -- each field is in its range
 abbrev pub FitsReply : Reply → Type 0
@@ -79,6 +81,7 @@ FitsReply (replies.Damaged at byte) = (at < 2 ^ 64) × (byte < 256)
 FitsReply (replies.Rotten named found) = (length named.0 ≡ 32) × (length found.0 ≡ 32)
 FitsReply (replies.Malformed at) = at < 2 ^ 32
 FitsReply replies.NoMemory = Unit {0}
+FitsReply replies.Deleted = Unit {0}
 
 -- The bytes are this reply: its one spelling, and each field is in its range.
 pub record IsReply (bytes : List ℕ) (r : Reply) : Type 0 where

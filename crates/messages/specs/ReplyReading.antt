@@ -83,6 +83,7 @@ plain_left kind fields =
     else if kind == 0x8F then rotten_left fields
     else if kind == 0x90 then malformed_left fields
     else if kind == 0x91 then done_at replies.NoMemory fields
+    else if kind == 0x92 then done_at replies.Deleted fields
     else Err (length (kind ∷ fields))
 
 -- by the kind

@@ -28,6 +28,9 @@ get_shares_left = whole (λ x. requests.GetShares (record { 0 = x.0 }) x.1) (num
 unfoldable pub list_left : List ℕ → Result Request ℕ
 list_left = whole (λ x. requests.List (record { 0 = x.0 }) x.1) (number_at w32 ▷ after_at)
 
+unfoldable pub delete_left : List ℕ → Result Request ℕ
+delete_left = whole (λ x. requests.Delete (record { 0 = x.0 }) x.1.0 x.1.1) (number_at w32 ▷ key_at)
+
 -- by the kind; an unknown one is wrong at its place
 unfoldable pub fields_left : ℕ → List ℕ → Result Request ℕ
 fields_left kind fields =
@@ -38,6 +41,7 @@ fields_left kind fields =
     else if kind == 5 then get_recipe_left fields
     else if kind == 6 then get_shares_left fields
     else if kind == 7 then list_left fields
+    else if kind == 8 then delete_left fields
     else Err (length (kind ∷ fields))
 
 unfoldable pub request_left : List ℕ → Result Request ℕ

@@ -12,3 +12,4 @@ seen (views.Commit user tag version recipe) = requests.Commit user tag version r
 seen (views.GetRecipe user tag version) = requests.GetRecipe user tag version
 seen (views.GetShares user fps) = requests.GetShares user fps
 seen (views.List user after) = requests.List user after
+seen (views.Delete user tag version) = requests.Delete user tag version

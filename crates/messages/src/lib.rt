@@ -17,9 +17,10 @@ pub use message_fields::{Entries, FpsView, ShareList, SharesView};
 pub use reply::Reply;
 pub use reply_view::{ReplyView, kind_of};
 pub use reply_writing::{
-    append_share, begin_known, begin_shares, write_committed, write_damaged, write_entries,
-    write_exists, write_fault, write_full, write_hello, write_lacking, write_malformed,
-    write_missing, write_no_memory, write_not_yours, write_recipe, write_rotten, write_stored,
+    append_share, begin_known, begin_shares, write_committed, write_damaged, write_deleted,
+    write_entries, write_exists, write_fault, write_full, write_hello, write_lacking,
+    write_malformed, write_missing, write_no_memory, write_not_yours, write_recipe, write_rotten,
+    write_stored,
 };
 pub use request::Request;
 pub use view::RequestView;

@@ -33,7 +33,7 @@ pub enum Reply {
     Recipe {
         bytes: Bytes,
     },
-    /// To GetRecipe: the user has no such version.
+    /// To GetRecipe and Delete: the user has no such version.
     Missing,
     /// To GetShares: the shares, 1 to 256 of them, each of 1 to 8,208 bytes.
     Shares {
@@ -72,4 +72,6 @@ pub enum Reply {
     },
     /// The cloud's memory ran out.
     NoMemory,
+    /// To Delete: the version was taken out.
+    Deleted,
 }

@@ -233,6 +233,7 @@ fn plain_of(kind: u8, fields: &[u8]) -> Result<Reply, Left>
         0x8F => rotten_of(fields),
         0x90 => malformed_of(fields),
         0x91 => bare_of(fields, Reply::NoMemory),
+        0x92 => bare_of(fields, Reply::Deleted),
         _ => Err(Left(fields.len() + 1)),
     }
 }

@@ -235,6 +235,14 @@ pub fn write_no_memory(out: &mut ReplyBuf)
     out.put(&[0x91]);
 }
 
+/// Deleted: the version was taken out.
+pub fn write_deleted(out: &mut ReplyBuf)
+    ensures { IsReply out.new replies.Deleted }
+{
+    out.clear();
+    out.put(&[0x92]);
+}
+
 impl Reply {
     /// Whether no list is longer than one message has it, 256 items and shares of 8,208 bytes, and a recipe fits a frame with its
     /// kind.
@@ -259,6 +267,7 @@ impl Reply {
             Reply::Rotten { .. } => true,
             Reply::Malformed { .. } => true,
             Reply::NoMemory => true,
+            Reply::Deleted => true,
         }
     }
 
@@ -307,6 +316,7 @@ impl Reply {
             Reply::Rotten { named, found } => write_rotten(out, *named, *found),
             Reply::Malformed { at } => write_malformed(out, *at),
             Reply::NoMemory => write_no_memory(out),
+            Reply::Deleted => write_deleted(out),
         }
     }
 }

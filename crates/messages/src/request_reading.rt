@@ -57,6 +57,11 @@ impl<'a> RequestView<'a> {
                 user: *user,
                 after: *after,
             }),
+            RequestView::Delete { user, tag, version } => Ok(Request::Delete {
+                user: *user,
+                tag: *tag,
+                version: *version,
+            }),
         }
     }
 }

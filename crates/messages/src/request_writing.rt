@@ -143,6 +143,10 @@ fn put_request(out: &mut Bytes, request: &Request) -> Result<(), NoMemory>
             put_head(out, 7, *user)?;
             put_after(out, after)
         }
+        Request::Delete { user, tag, version } => {
+            put_head(out, 8, *user)?;
+            put_key(out, tag, *version)
+        }
     }
 }
 
@@ -159,6 +163,7 @@ impl Request {
             Request::Commit { .. } => true,
             Request::GetRecipe { .. } => true,
             Request::List { .. } => true,
+            Request::Delete { .. } => true,
         }
     }
 

@@ -5,7 +5,7 @@ ghost use Rattle.message_fields.specs.Readings.{IsReading};
 ghost use Rattle.messages.specs.Parts.{after_at};
 ghost use Rattle.messages.specs.declared.request.Request.{Request};
 ghost use Rattle.messages.specs.Requests.{IsRequest};
-ghost use Rattle.messages.specs.RequestReading.{query_left, put_left, commit_left, get_recipe_left, get_shares_left, list_left, fields_left, request_left, request_at};
+ghost use Rattle.messages.specs.RequestReading.{query_left, put_left, commit_left, delete_left, get_recipe_left, get_shares_left, list_left, fields_left, request_left, request_at};
 ghost use Rattle.messages.specs.Seen.{seen};
 
 use cd_base::{Tag, UserId, Version};
@@ -48,6 +48,12 @@ pub enum RequestView<'a> {
     List {
         user: UserId,
         after: Option<(Tag, Version)>,
+    },
+    /// Take this version of the user's file out.
+    Delete {
+        user: UserId,
+        tag: Tag,
+        version: Version,
     },
 }
 
@@ -134,6 +140,16 @@ fn list_of(fields: &[u8]) -> Result<RequestView<'_>, Left>
     Ok(RequestView::List { user, after })
 }
 
+#[tactic(auto, unfolding(crate::specs::RequestReading::delete_left))]
+fn delete_of(fields: &[u8]) -> Result<RequestView<'_>, Left>
+    ensures { IsReading seen result (delete_left fields.now) }
+{
+    let (user, rest) = user_of(fields)?;
+    let ((tag, version), rest) = key_of(rest)?;
+    ended(rest)?;
+    Ok(RequestView::Delete { user, tag, version })
+}
+
 // No fields.
 #[tactic(auto, unfolding(crate::specs::RequestReading::fields_left))]
 fn hello_of(fields: &[u8]) -> Result<RequestView<'_>, Left>
@@ -156,6 +172,7 @@ fn view_of(content: &[u8]) -> Result<RequestView<'_>, Left>
         [5, fields @ ..] => get_recipe_of(fields),
         [6, fields @ ..] => get_shares_of(fields),
         [7, fields @ ..] => list_of(fields),
+        [8, fields @ ..] => delete_of(fields),
         _ => Err(Left(content.len())),
     }
 }

@@ -16,15 +16,15 @@ use Rattle.file_index.specs.Files.{key_of}
 use Rattle.journal_start.specs.declared.start.Header.{Header}
 use Rattle.record_body.specs.declared.body.CommitBody.{CommitBody}
 use Rattle.record_bodies.specs.Spelling.{Body, Commit}
-use Rattle.share_index.specs.declared.key.Place.{Place}
+use Rattle.cd_base.specs.declared.place.Place.{Place}
 use Rattle.user_dedup.specs.declared.file_list.FileEntry.{FileEntry}
 use Rattle.user_dedup.specs.Pages.{entry_at}
 use Rattle.user_dedup.proofs.Owned.{contains_here}
-use Rattle.command_list.specs.declared.command.Command.{Command}
-use Rattle.command_list.specs.Commands.{counted, user_view, held_bytes}
-use Rattle.command_list.specs.Spending.{IsWithin}
-use Rattle.command_list.proofs.Filtered.{in_flat}
-use Rattle.command_list.proofs.Spending.{front_within}
+use Rattle.user_dedup.specs.declared.command.Command.{Command}
+use Rattle.user_dedup.specs.Cloud.{counted, user_view, held_bytes}
+use Rattle.user_dedup.specs.Spending.{IsWithin}
+use Rattle.user_dedup.proofs.Filtered.{in_flat}
+use Rattle.user_dedup.proofs.Spending.{front_within}
 use Rattle.cloud_areas.specs.Adding.{with_record}
 use Rattle.cloud_areas.specs.Chains.{IsRecord}
 use Rattle.cloud_areas.specs.Placing.{region_start, recipes_in, recipes_placed, shares_end, recipes_end}
@@ -38,7 +38,7 @@ use Rattle.cloud_memory.specs.Rooms.{memory_of}
 use Rattle.record_laws.specs.Leaving.{record_left, MayHold, RecipesLie}
 use Rattle.record_laws.proofs.Known.{few_files, known_user}
 use Rattle.record_laws.proofs.Next.{next_left}
-use Rattle.checkpoint_records.specs.Known.{HasCheckpoint, checkpoint_in}
+use Rattle.checkpoints.specs.Known.{HasCheckpoint, checkpoint_in}
 use Rattle.open_store.specs.Store.{ServesBy}
 
 -- ---- behind a checkpoint

@@ -1,5 +1,5 @@
 -- The fields of a command that a sound list has are in their ranges.
-use Rattle.std.proofs.Common.{◌≡◌, ℕ, ◌^◌, ◌<◌, ◌≤◌, List, [], ◌∷◌, ◌++◌, length, map, replicate, Some, refl, sym, ap, ◌∙◌, subst, arith}
+use Rattle.std.proofs.Common.{◌≡◌, ℕ, ◌^◌, ◌<◌, ◌≤◌, List, [], ◌∷◌, ◌++◌, length, map, replicate, Some, None, refl, sym, ap, ◌∙◌, subst, arith}
 use Rattle.std.specs.Prelude.{All}
 use Rattle.std.proofs.lemmas.List.Elements.{All-nil, All-cons}
 use Rattle.cd_base.specs.declared.ids.Fp.{Fp}
@@ -13,18 +13,18 @@ use Rattle.record_bodies.specs.Spelling as bodies
 use Rattle.record_bodies.specs.Spelling.{FitsBody}
 use Rattle.sha2.proofs.Facts256.{length-sha256}
 use Rattle.user_dedup.specs.Cloud.{fingerprint}
-use Rattle.user_dedup.specs.declared.command.Command.{Command as RequestCommand}
-use Rattle.user_dedup.specs.declared.command.Command.TheVariants as of_requests
-use Rattle.user_dedup.specs.Dedup.{answer_by_view as answer_request}
 use Rattle.user_dedup.specs.Pages.{entry_at}
-use Rattle.user_dedup.specs.Requests.{asker}
-use Rattle.command_list.specs.declared.command.Command.{Command}
-use Rattle.command_list.specs.declared.command.Command.TheVariants as asked
-use Rattle.command_list.specs.Asking as asking
-use Rattle.command_list.specs.Asking.{Ask, answer_over, of_request, added_by, FitsAsk, IsSound}
-use Rattle.command_list.specs.Commands.{user_of, user_view, held_string}
-use Rattle.command_list.proofs.CompactSound.{all_fit, FitsAll}
-use Rattle.command_list.proofs.Sound.{sound_before, added_from, deletes_from}
+use Rattle.user_dedup.specs.declared.command.Command.{Command}
+use Rattle.user_dedup.specs.declared.command.Command.TheVariants as asked
+use Rattle.messages.specs.declared.request.Request.{Request}
+use Rattle.messages.specs.declared.request.Request.TheVariants as requests
+use Rattle.messages.specs.Requests.{FitsRequest}
+use Rattle.user_dedup.specs.Owning.{first_lacking, new_strings}
+use Rattle.user_dedup.specs.Requests.{fps_of}
+use Rattle.user_dedup.specs.Dedup.{answer_over, IsSound}
+use Rattle.user_dedup.specs.Cloud.{user_of, user_view}
+use Rattle.user_dedup.proofs.CompactSound.{all_fit, FitsAll}
+use Rattle.user_dedup.proofs.Sound.{sound_before, deletes_from, put_adds, commit_adds}
 use Rattle.user_dedup.proofs.Owned.{contains_here}
 use Rattle.std.proofs.lemmas.List.Elements.{Contains-append_right}
 use Rattle.cloud_memory.specs.declared.rooms.New.{New}
@@ -65,20 +65,25 @@ key_or other (asked.Delete user tag version) = (user, tag, version)
 pub delete_fits : (shape : Shape) (cloud : ℕ) (list : List Command) (user : UserId) (tag : Tag) (version : Version) → IsSound shape cloud (list ++ asked.Delete user tag version ∷ [])
     → FitsBody (bodies.Delete (record { user = user; tag = tag; version = version }))
 delete_fits shape cloud list user tag version sound =
-    let a = sound_before shape cloud list (asked.Delete user tag version) sound in by_ask a.ask a.fits a.adds
+    let a = sound_before shape cloud list (asked.Delete user tag version) sound in by_request a.request a.fits a.adds
   where
-    never : (r : RequestCommand) → asked.Delete user tag version ≡ of_request r → ⊥
-    never (of_requests.Put u shares) e = let no : asked.Delete user tag version ≡ asked.Put u shares = e in cc
-    never (of_requests.Commit u t v recipe) e = let no : asked.Delete user tag version ≡ asked.Commit u t v recipe = e in cc
-
-    by_ask : (ask : Ask) → FitsAsk ask → (answer_over shape cloud list ask).adds ≡ Some (asked.Delete user tag version)
+    by_request : (request : Request) → FitsRequest request → (answer_over shape cloud list request).adds ≡ Some (asked.Delete user tag version)
         → FitsBody (bodies.Delete (record { user = user; tag = tag; version = version }))
-    by_ask (asking.Of request) f e = let a = added_from (answer_request shape cloud (user_view shape list (asker request)) (held_string list) request).adds (asked.Delete user tag version) e in absurd (never a.0 a.2)
-    by_ask (asking.Delete u t v) f e =
+    by_request requests.Hello f e = absurd (let no : None ≡ Some (asked.Delete user tag version) = e in cc)
+    by_request (requests.Query u fps) f e = absurd (let no : None ≡ Some (asked.Delete user tag version) = e in cc)
+    by_request (requests.Put u shares) f e =
+        absurd (let no : asked.Delete user tag version ≡ asked.Put u (new_strings (user_view shape list u).own shares) = put_adds u (new_strings (user_view shape list u).own shares) (asked.Delete user tag version) e in cc)
+    by_request (requests.Commit u t v recipe) f e =
+        let c = commit_adds (first_lacking (user_view shape list u).own (fps_of shape recipe)) (entry_at (user_view shape list u).files (t, v)) (asked.Commit u t v recipe) recipe (asked.Delete user tag version) e in
+        absurd (let no : asked.Delete user tag version ≡ asked.Commit u t v recipe = c.2 in cc)
+    by_request (requests.GetRecipe u t v) f e = absurd (let no : None ≡ Some (asked.Delete user tag version) = e in cc)
+    by_request (requests.GetShares u fps) f e = absurd (let no : None ≡ Some (asked.Delete user tag version) = e in cc)
+    by_request (requests.List u after) f e = absurd (let no : None ≡ Some (asked.Delete user tag version) = e in cc)
+    by_request (requests.Delete u t v) f e =
         let d = deletes_from (entry_at (user_view shape list u).files (t, v)) (asked.Delete u t v) (asked.Delete user tag version) e in
         let same : (user, tag, version) ≡ (u, t, v) = ap (key_or (user, tag, version)) d.1 in
         subst (λ (k : UserId × Tag × Version). FitsBody (bodies.Delete (record { user = k.0; tag = k.1; version = k.2 }))) (sym same)
-        (record { user = f.0; tag = f.1; version = f.2 })
+        (record { user = f.0; tag = f.1.0; version = f.1.1 })
 
 -- ---- the fingerprints of a Put's shares
 

@@ -13,10 +13,10 @@ use Rattle.record_bodies.specs.Spelling as bodies
 use Rattle.user_dedup.specs.declared.file_list.FileEntry.{FileEntry}
 use Rattle.user_dedup.specs.Pages.{entry_at}
 use Rattle.user_dedup.specs.Requests.{fps_of}
-use Rattle.command_list.specs.declared.command.Command.{Command}
-use Rattle.command_list.specs.declared.command.Command.TheVariants as asked
-use Rattle.command_list.specs.Asking.{IsSound}
-use Rattle.command_list.specs.Commands.{user_view}
+use Rattle.user_dedup.specs.declared.command.Command.{Command}
+use Rattle.user_dedup.specs.declared.command.Command.TheVariants as asked
+use Rattle.user_dedup.specs.Dedup.{IsSound}
+use Rattle.user_dedup.specs.Cloud.{user_view}
 use Rattle.cloud_areas.specs.Standing.{Chain}
 use Rattle.cloud_disk.specs.Disk.{Stages, shares_laid}
 use Rattle.cloud_memory.specs.declared.cloud.CloudMemory.{CloudMemory}

@@ -20,12 +20,12 @@ use Rattle.file_index.specs.Order.{key_cmp}
 use Rattle.journal_start.specs.declared.start.Header.{Header}
 use Rattle.journal_start.specs.Ranges.{AreRooms}
 use Rattle.record_bodies.specs.Spelling.{Body, FitsBody, IsBody}
-use Rattle.share_index.specs.declared.key.Place.{Place}
-use Rattle.command_list.specs.declared.command.Command.{Command}
-use Rattle.command_list.specs.Asking.{IsSound}
-use Rattle.command_list.specs.Commands.{counted, held_bytes}
-use Rattle.command_list.specs.Spending.{full_for, IsWithin}
-use Rattle.command_list.proofs.Within.{next_within}
+use Rattle.cd_base.specs.declared.place.Place.{Place}
+use Rattle.user_dedup.specs.declared.command.Command.{Command}
+use Rattle.user_dedup.specs.Dedup.{IsSound}
+use Rattle.user_dedup.specs.Cloud.{counted, held_bytes}
+use Rattle.user_dedup.specs.Spending.{full_for, IsWithin}
+use Rattle.user_dedup.proofs.Within.{next_within}
 use Rattle.cloud_areas.specs.Adding.{with_record}
 use Rattle.cloud_areas.specs.Chains.{IsRecord, AreLong, BothHaveRoom, laid_shares}
 use Rattle.cloud_areas.specs.Laid.{IsLaidBehind, HaveEnds, end_behind, place_by}
@@ -37,7 +37,7 @@ use Rattle.cloud_disk.proofs.Blobs.{all_right}
 use Rattle.cloud_memory.specs.declared.cloud.CloudMemory.{CloudMemory}
 use Rattle.cloud_memory.specs.Memory.{Memory, Remembers, IsPlacedBy, HasEnds}
 use Rattle.cloud_memory.specs.Rooms.{memory_of}
-use Rattle.checkpoint_laying.specs.Settling.{KeepsList}
+use Rattle.checkpoints.specs.Settling.{KeepsList}
 use Rattle.record_laws.specs.Leaving.{record_left, MayHold, RecipesLie}
 use Rattle.open_store.specs.Store.{ServesBy}
 use Rattle.open_store.proofs.Carrying.{ended_by, lie_after, serves_more}

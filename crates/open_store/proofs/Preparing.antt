@@ -5,8 +5,8 @@ use Rattle.container_log.specs.Laying.{Placed}
 use Rattle.journal_start.specs.declared.start.Header.{Header}
 use Rattle.journal_start.specs.Ranges.{AreRooms}
 use Rattle.record_bodies.specs.Spelling.{Body, IsBody}
-use Rattle.command_list.specs.declared.command.Command.{Command}
-use Rattle.command_list.specs.Asking.{IsSound}
+use Rattle.user_dedup.specs.declared.command.Command.{Command}
+use Rattle.user_dedup.specs.Dedup.{IsSound}
 use Rattle.cloud_areas.specs.Chains.{IsRecord, BothHaveRoom}
 use Rattle.cloud_areas.specs.Laid.{IsLaidBehind, HaveEnds}
 use Rattle.cloud_areas.specs.Standing.{Chain, region_in}

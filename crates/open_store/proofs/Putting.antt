@@ -8,7 +8,7 @@ use Rattle.container_log.specs.Places.{container_len, place_of}
 use Rattle.record_body.specs.declared.body.PutItem.{PutItem}
 use Rattle.record_body.specs.Spelling.{FitsItem, FitsPlaced}
 use Rattle.record_bodies.specs.Spelling.{Put, FitsBody}
-use Rattle.share_index.specs.declared.key.Place.{Place}
+use Rattle.cd_base.specs.declared.place.Place.{Place}
 use Rattle.cloud_areas.specs.Laid.{AreSmall, IsLaidBehind}
 use Rattle.cloud_areas.specs.Placing.{places_given, places_of}
 use Rattle.cloud_memory.specs.declared.rooms.New.{New}

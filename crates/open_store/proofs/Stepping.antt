@@ -20,13 +20,13 @@ use Rattle.record_body.specs.declared.body.PutItem.{PutItem}
 use Rattle.record_bodies.specs.declared.body.DeleteBody.{DeleteBody}
 use Rattle.record_bodies.specs.Spelling as bodies
 use Rattle.record_bodies.specs.Spelling.{Body, FitsBody}
-use Rattle.share_index.specs.declared.key.Place.{Place}
+use Rattle.cd_base.specs.declared.place.Place.{Place}
 use Rattle.user_dedup.specs.Cloud.{fingerprint}
-use Rattle.command_list.specs.declared.command.Command.{Command}
-use Rattle.command_list.specs.declared.command.Command.TheVariants as asked
-use Rattle.command_list.specs.Asking.{IsSound}
-use Rattle.command_list.specs.Spending.{full_for}
-use Rattle.command_list.proofs.Spending.{never_full}
+use Rattle.user_dedup.specs.declared.command.Command.{Command}
+use Rattle.user_dedup.specs.declared.command.Command.TheVariants as asked
+use Rattle.user_dedup.specs.Dedup.{IsSound}
+use Rattle.user_dedup.specs.Spending.{full_for}
+use Rattle.user_dedup.proofs.Spending.{never_full}
 use Rattle.cloud_areas.specs.Chains.{IsRecord, commit_of}
 use Rattle.cloud_areas.specs.Laid.{AreLaid, end_behind}
 use Rattle.cloud_areas.specs.Placing.{end_of, places_given, places_of}

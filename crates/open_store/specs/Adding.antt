@@ -18,10 +18,10 @@ use Rattle.user_dedup.specs.declared.file_list.FileEntry.{FileEntry}
 use Rattle.user_dedup.specs.Cloud.{fingerprint}
 use Rattle.user_dedup.specs.Pages.{entry_at}
 use Rattle.user_dedup.specs.Requests.{fps_of}
-use Rattle.command_list.specs.declared.command.Command.{Command}
-use Rattle.command_list.specs.declared.command.Command.TheVariants as commands
-use Rattle.command_list.specs.Asking.{IsSound}
-use Rattle.command_list.specs.Commands.{user_view}
+use Rattle.user_dedup.specs.declared.command.Command.{Command}
+use Rattle.user_dedup.specs.declared.command.Command.TheVariants as commands
+use Rattle.user_dedup.specs.Dedup.{IsSound}
+use Rattle.user_dedup.specs.Cloud.{user_view}
 use Rattle.cloud_areas.specs.Adding.{with_record}
 use Rattle.cloud_areas.specs.Standing.{Chain}
 use Rattle.cloud_disk.specs.Disk.{Disk, IsOn, KeepsOrAdds, Stages, shares_laid, regions_end}
@@ -33,10 +33,10 @@ use Rattle.cloud_memory.specs.Steps.{parts_of}
 use Rattle.open_store.specs.declared.store.OpenStore.{OpenStore}
 use Rattle.open_store.specs.declared.store.Unadded.{Unadded}
 use Rattle.open_store.specs.declared.store.Unadded.TheVariants as why
-use Rattle.checkpoint_laying.specs.Laying.{records_len}
-use Rattle.checkpoint_laying.specs.Settling.{KeepsOthers}
-use Rattle.checkpoint_records.specs.Records.{records_of}
-use Rattle.checkpoint_records.specs.Known.{checkpoint_in}
+use Rattle.checkpoints.specs.Laying.{records_len}
+use Rattle.checkpoints.specs.Settling.{KeepsOthers}
+use Rattle.checkpoints.specs.Records.{records_of}
+use Rattle.checkpoints.specs.Known.{checkpoint_in}
 use Rattle.open_store.specs.Store.{Serves, chain_with_room}
 
 -- ---- answers

@@ -4,7 +4,7 @@ use Rattle.cd_edges.specs.Disk.{Cloud}
 use Rattle.half_journal.specs.declared.journal.Stage.TheVariants.{AtEnd}
 use Rattle.journal_start.specs.declared.start.Header.{Header}
 use Rattle.journal_start.specs.Ranges.{IsHeader}
-use Rattle.command_list.specs.declared.command.Command.{Command}
+use Rattle.user_dedup.specs.declared.command.Command.{Command}
 use Rattle.cloud_areas.specs.Standing.{Chain}
 use Rattle.cloud_disk.specs.Disk.{Disk}
 use Rattle.cloud_memory.specs.declared.cloud.CloudMemory.{CloudMemory}
@@ -12,7 +12,7 @@ use Rattle.cloud_memory.specs.Fitting.{FitsRecords}
 use Rattle.cloud_memory.specs.Memory.{HasEnds}
 use Rattle.cloud_memory.specs.Rooms.{memory_of, HasRooms}
 use Rattle.store_opening.specs.Spared.{IsFor}
-use Rattle.checkpoint_records.specs.Known.{IsKnown, checkpoint_in}
+use Rattle.checkpoints.specs.Known.{IsKnown, checkpoint_in}
 use Rattle.open_store.specs.declared.store.OpenStore.{OpenStore}
 
 -- Commands may be added: the journal was read to its end.

@@ -10,7 +10,7 @@ ghost use Rattle.half_journal.specs.Openings.{OnFault};
 ghost use Rattle.half_journal.specs.Outcomes.{stage_after};
 ghost use Rattle.half_journal.specs.States.{state_of};
 ghost use Rattle.journal_start.specs.Spelling.{region_of};
-ghost use Rattle.command_list.specs.declared.command.Command.{Command};
+ghost use Rattle.user_dedup.specs.declared.command.Command.{Command};
 ghost use Rattle.cloud_areas.specs.Standing.{StandsFor};
 ghost use Rattle.cloud_memory.specs.Rooms.{memory_of};
 ghost use Rattle.record_laws.specs.Leaving.{MayHold};

@@ -3,20 +3,20 @@
 ghost use Rattle.std.specs.Prelude.{◌≡◌, ◌<◌, ◌≤◌, ◌+◌, ℕ, List, length, IsOk, OnOk, OnErr};
 ghost use Rattle.cd_edges.specs.Shelf.{IsCall, HasFailed, KeepsCounts};
 ghost use Rattle.record_bodies.specs.Spelling.{Body, FitsBody, body_bytes};
-ghost use Rattle.command_list.specs.declared.command.Command.{Command};
+ghost use Rattle.user_dedup.specs.declared.command.Command.{Command};
 ghost use Rattle.cloud_areas.specs.Standing.{Chain};
 ghost use Rattle.cloud_memory.specs.Rooms.{memory_of};
-ghost use Rattle.checkpoint_laying.specs.Laying.{records_len};
-ghost use Rattle.checkpoint_laying.specs.Settling.{KeepsList, KeepsOthers};
-ghost use Rattle.checkpoint_records.specs.Records.{records_of};
-ghost use Rattle.checkpoint_records.specs.Known.{stage_behind, IfFailed, UnlessFailed, IfLong};
+ghost use Rattle.checkpoints.specs.Laying.{records_len};
+ghost use Rattle.checkpoints.specs.Settling.{KeepsList, KeepsOthers};
+ghost use Rattle.checkpoints.specs.Records.{records_of};
+ghost use Rattle.checkpoints.specs.Known.{stage_behind, IfFailed, UnlessFailed, IfLong};
 ghost use Rattle.cloud_disk.specs.Disk.{regions_end};
 ghost use Rattle.open_store.specs.Adding.{NoneStaged, IsTooLong};
 ghost use Rattle.open_store.specs.Store.{IsOpen, IsSettled, Serves, Fits, chain_with_room, KeepsServing};
 
 use crate::OpenStore;
 use cd_edges::Shelf;
-use checkpoint_records::{Unsettled, checkpoint_of_memory};
+use checkpoints::{Unsettled, checkpoint_of_memory};
 
 /// Makes room for a record whose body has so many bytes: where it doesn't fit the journal's current half, and only there, a
 /// checkpoint of the memory takes the place of the journal's chain. Where it fits nothing changes, and no device call is made.

@@ -7,13 +7,13 @@ ghost use Rattle.container_log.specs.Places.{container_len, place_of};
 ghost use Rattle.container_log.specs.States.{staged_end, need_of, with_blob};
 ghost use Rattle.journal_start.specs.Ranges.{IsHeader};
 ghost use Rattle.half_journal.specs.declared.journal.Stage.TheVariants.{Shut};
-ghost use Rattle.command_list.specs.declared.command.Command.{Command};
+ghost use Rattle.user_dedup.specs.declared.command.Command.{Command};
 ghost use Rattle.cloud_areas.specs.Standing.{Chain};
 ghost use Rattle.cloud_disk.specs.Disk.{Stages};
 ghost use Rattle.open_store.specs.Store.{IsOpen, IsSettled, Serves};
 
 use cd_base::NoMemory;
-use checkpoint_records::Marks;
+use checkpoints::Marks;
 use cloud_disk::CloudDisk;
 use cloud_memory::{CloudMemory, Full};
 use container_log::LogFull;

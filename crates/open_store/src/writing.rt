@@ -5,7 +5,7 @@ ghost use Rattle.cd_edges.specs.Shelf.{IsCall, HasFailed, KeepsCounts};
 ghost use Rattle.container_log.specs.Laying.{Placed};
 ghost use Rattle.record_body.specs.Spelling.{item_bytes};
 ghost use Rattle.record_bodies.specs.Spelling.{Body, Put, body_bytes};
-ghost use Rattle.command_list.specs.declared.command.Command.{Command};
+ghost use Rattle.user_dedup.specs.declared.command.Command.{Command};
 ghost use Rattle.cloud_areas.specs.Adding.{with_record};
 ghost use Rattle.cloud_areas.specs.Standing.{Chain};
 ghost use Rattle.cloud_disk.specs.Disk.{IsOn, IsPrepared, KeepsOrAdds, KeepsFronts, EndsBehind, SameRooms};

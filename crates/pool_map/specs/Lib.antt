@@ -1,6 +1,9 @@
-pub mod Table
-pub mod Index
+pub mod Accounts
 pub mod Chains
+pub mod Charges
+pub mod Index
 pub mod MapSums
 pub mod Shown
+pub mod Slots
+pub mod Table
 pub mod Word

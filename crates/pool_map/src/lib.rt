@@ -102,12 +102,14 @@ pub trait Table<K: Key, W> {
         ensures limits { (pool self.new).limits ≡ (pool self.old).limits };
 }
 
+mod accounts;
 mod chains;
 mod hashed;
 mod number;
 mod sorted;
 mod tree;
 
+pub use accounts::{Accounts, IndexErr};
 pub use hashed::HashTable;
 pub use number::Number;
 pub use sorted::SortedTable;

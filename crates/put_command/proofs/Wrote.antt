@@ -32,6 +32,7 @@ prepared header list user strings items old staged body cloud may only has none 
   shares = subst (HasStaged staged.shares) (ap (laid_of strings) may.parts ∙ laid_after (strings_in list) strings) has;
   recipes = subst (λ (s : State). HasStaged s []) (sym only.recipes) none;
   body_is = body_is ∙ ap (λ (l : List PutItem). body_bytes (Put user l)) may.parts;
+  undeleted = tt;
 }
 
 -- the record has room in the journal

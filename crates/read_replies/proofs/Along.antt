@@ -22,7 +22,7 @@ use Rattle.messages.specs.declared.reply.Reply.TheVariants as replies
 use Rattle.messages.specs.Replies.{reply_bytes}
 use Rattle.user_dedup.specs.Owning.{first_lacking, FindsLacking}
 use Rattle.user_dedup.proofs.Owned.{finds}
-use Rattle.share_index.specs.declared.key.Place.{Place}
+use Rattle.cd_base.specs.declared.place.Place.{Place}
 use Rattle.user_dedup.specs.declared.command.Command.{Command}
 use Rattle.user_dedup.specs.Cloud.{fingerprint, user_view, held_string}
 use Rattle.cd_base.specs.declared.shape.Shape.{Shape}

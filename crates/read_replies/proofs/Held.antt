@@ -15,14 +15,14 @@ use Rattle.file_index.specs.declared.key.Entry.{Entry}
 use Rattle.file_index.specs.Files.{key_of}
 use Rattle.message_fields.specs.Shares.{IsShare}
 use Rattle.messages.specs.declared.reply.Reply.TheVariants as replies
-use Rattle.share_index.specs.declared.key.Place.{Place}
+use Rattle.cd_base.specs.declared.place.Place.{Place}
 use Rattle.user_dedup.specs.declared.command.Command.{Command}
 use Rattle.user_dedup.specs.Cloud.{fingerprint, user_view, strings_of, held_string}
 use Rattle.user_dedup.specs.Pages.{entry_at}
 use Rattle.user_dedup.specs.Dedup.{IsSound, recipe_reply}
 use Rattle.user_dedup.proofs.Views.{held_is, owned_is_held}
 use Rattle.user_dedup.proofs.Sound.{found_entry}
-use Rattle.cloud_store.specs.Contents.{strings_in, laid_shares, place_in, recipes_in, entry_in}
+use Rattle.cloud_store.specs.Contents.{strings_in, laid_shares, place_in, recipes_in, entry_in, IsUndeleted}
 use Rattle.cloud_store.proofs.Distinct.{string_placed, none-placed}
 use Rattle.cloud_store.proofs.Entries.{entry_is, none_entered}
 use Rattle.cloud_index.specs.declared.index.CloudIndex.{CloudIndex}
@@ -92,10 +92,10 @@ pub record RecipeAt (image : Image) (shape : Shape) (list : List Command) (user 
   pub named : fingerprint recipe ≡ entry.fp
   pub lies : IsAt (image Recipes) (record { place = entry.at; blob = recipe })
 
-pub entry_range : (shape : Shape) (number : ℕ) (list : List Command) (user : UserId) (tag : Tag) (version : Version) (entry : Entry) → IsSound shape number list
+pub entry_range : (shape : Shape) (number : ℕ) (list : List Command) (user : UserId) (tag : Tag) (version : Version) (entry : Entry) → IsSound shape number list → IsUndeleted list
     → entry_in list (key_of user.0 tag.0 version.0) ≡ Some entry → IsRange entry.len 1180190
-entry_range shape number list user tag version entry sound e =
-    let p = entry_is shape list user tag version entry e in
+entry_range shape number list user tag version entry sound none e =
+    let p = entry_is shape list user tag version entry none e in
     let files = (user_view shape list user).files in
     let small = recipes_fit shape number list sound user p.0 (found_entry files (tag, version) p.0 p.1).1 in
     let long : length p.0.recipe ≡ entry.len = p.3 in
@@ -106,7 +106,7 @@ entry_range shape number list user tag version entry sound e =
 pub recipe_at : (image : Image) (header : Header) (list : List Command) (index : CloudIndex) (user : UserId) (tag : Tag) (version : Version) (entry : Entry)
     → Keeps image header list index → entry_in list (key_of user.0 tag.0 version.0) ≡ Some entry → RecipeAt image header.shape list user tag version entry
 recipe_at image header list index user tag version entry k e =
-    let p = entry_is header.shape list user tag version entry e in
+    let p = entry_is header.shape list user tag version entry k.has.undeleted e in
     record {
       recipe = p.0.recipe;
       reply = ap recipe_reply p.1;
@@ -115,6 +115,6 @@ recipe_at image header list index user tag version entry k e =
       lies = All-contains (IsAt (image Recipes)) (placed 0 (recipes_in list)) (record { place = entry.at; blob = p.0.recipe }) k.has.recipes p.4;
     }
 
-pub recipe_missing : (shape : Shape) (list : List Command) (user : UserId) (tag : Tag) (version : Version) → entry_in list (key_of user.0 tag.0 version.0) ≡ None
+pub recipe_missing : (shape : Shape) (list : List Command) (user : UserId) (tag : Tag) (version : Version) → IsUndeleted list → entry_in list (key_of user.0 tag.0 version.0) ≡ None
     → recipe_reply (entry_at (user_view shape list user).files (tag, version)) ≡ replies.Missing
-recipe_missing shape list user tag version e = ap recipe_reply ((none_entered shape list user tag version).0 e)
+recipe_missing shape list user tag version none e = ap recipe_reply ((none_entered shape list user tag version none).0 e)

@@ -20,6 +20,7 @@ known_plain user fps replies.Exists r = absurd r
 known_plain user fps (replies.Lacking place) r = absurd r
 known_plain user fps (replies.Recipe bytes) r = absurd r
 known_plain user fps replies.Missing r = absurd r
+known_plain user fps replies.Deleted r = absurd r
 known_plain user fps (replies.Shares shares) r = absurd r
 known_plain user fps (replies.NotYours place) r = absurd r
 known_plain user fps (replies.Entries keys) r = absurd r
@@ -39,6 +40,7 @@ entries_plain user last replies.Exists r = absurd r
 entries_plain user last (replies.Lacking place) r = absurd r
 entries_plain user last (replies.Recipe bytes) r = absurd r
 entries_plain user last replies.Missing r = absurd r
+entries_plain user last replies.Deleted r = absurd r
 entries_plain user last (replies.Shares shares) r = absurd r
 entries_plain user last (replies.NotYours place) r = absurd r
 entries_plain user last (replies.Entries keys) r = record { kind = λ items. r; memory = λ e. let no : replies.Entries keys ≡ replies.NoMemory = e in cc; fault = λ e. let no : replies.Entries keys ≡ replies.Fault = e in cc; damaged = λ at byte e. let no : replies.Entries keys ≡ replies.Damaged at byte = e in cc }
@@ -58,6 +60,7 @@ shares_plain user fps Found replies.Exists r = absurd r
 shares_plain user fps Found (replies.Lacking place) r = absurd r
 shares_plain user fps Found (replies.Recipe bytes) r = absurd r
 shares_plain user fps Found replies.Missing r = absurd r
+shares_plain user fps Found replies.Deleted r = absurd r
 shares_plain user fps Found (replies.Shares shares) r = record { kind = λ items. sym (length-map shares fingerprint) ∙ ap length r; memory = λ e. let no : replies.Shares shares ≡ replies.NoMemory = e in cc; fault = λ e. let no : replies.Shares shares ≡ replies.Fault = e in cc; damaged = λ at byte e. let no : replies.Shares shares ≡ replies.Damaged at byte = e in cc }
 shares_plain user fps Found (replies.NotYours place) r = record { kind = λ items. r; memory = λ e. let no : replies.NotYours place ≡ replies.NoMemory = e in cc; fault = λ e. let no : replies.NotYours place ≡ replies.Fault = e in cc; damaged = λ at byte e. let no : replies.NotYours place ≡ replies.Damaged at byte = e in cc }
 shares_plain user fps Found (replies.Entries keys) r = absurd r
@@ -78,6 +81,7 @@ recipe_plain user tag version Is Absent Found replies.Exists r = absurd r
 recipe_plain user tag version Is Absent Found (replies.Lacking place) r = absurd r
 recipe_plain user tag version Is Absent Found (replies.Recipe bytes) r = record { kind = λ items. tt; memory = λ e. let no : replies.Recipe bytes ≡ replies.NoMemory = e in cc; fault = λ e. let no : replies.Recipe bytes ≡ replies.Fault = e in cc; damaged = λ at byte e. let no : replies.Recipe bytes ≡ replies.Damaged at byte = e in cc }
 recipe_plain user tag version Is Absent Found replies.Missing r = record { kind = λ items. tt; memory = λ e. let no : replies.Missing ≡ replies.NoMemory = e in cc; fault = λ e. let no : replies.Missing ≡ replies.Fault = e in cc; damaged = λ at byte e. let no : replies.Missing ≡ replies.Damaged at byte = e in cc }
+recipe_plain user tag version Is Absent Found replies.Deleted r = absurd r
 recipe_plain user tag version Is Absent Found (replies.Shares shares) r = absurd r
 recipe_plain user tag version Is Absent Found (replies.NotYours place) r = absurd r
 recipe_plain user tag version Is Absent Found (replies.Entries keys) r = absurd r

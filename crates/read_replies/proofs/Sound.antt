@@ -25,7 +25,8 @@ use Rattle.user_dedup.specs.Dedup.{answer_over, IsSound, Begun, Added}
 use Rattle.user_dedup.proofs.Owned.{contains_nothing}
 use Rattle.user_dedup.proofs.New.{are_new}
 use Rattle.user_dedup.proofs.Views.{own_adds, others_stay}
-use Rattle.user_dedup.proofs.Sound.{put_adds, commit_adds}
+use Rattle.user_dedup.proofs.Deleting.{entries_left}
+use Rattle.user_dedup.proofs.Sound.{put_adds, commit_adds, deletes_from}
 
 all_from : {A : Type 0} (P : A → Type 0) (xs : List A) → ((x : A) → Contains xs x → P x) → All P xs
 all_from P xs f k d l = f (get_or xs k d) (Contains-get_or xs k d l)
@@ -37,6 +38,7 @@ IsSmall recipe = (1 ≤ length recipe) × (length recipe ≤ 1180190)
 abbrev Brings : Command → Type 0
 Brings (commands.Put user shares) = All IsShare shares
 Brings (commands.Commit user tag version recipe) = IsSmall recipe
+Brings (commands.Delete user tag version) = Unit {0}
 
 small : (shape : Shape) (recipe : List ℕ) (r : Recipe) → IsRecipe shape recipe r → length recipe ≤ 1180190
 small shape recipe r is = let long = ap length is.spelled in let most = longest shape r is.fits in omega arith
@@ -56,10 +58,13 @@ brings shape cloud list (requests.Commit user tag version recipe) command fits h
 brings shape cloud list (requests.GetRecipe user tag version) command fits has e = absurd (let f : None ≡ Some command = e in cc)
 brings shape cloud list (requests.GetShares user fps) command fits has e = absurd (let f : None ≡ Some command = e in cc)
 brings shape cloud list (requests.List user after) command fits has e = absurd (let f : None ≡ Some command = e in cc)
+brings shape cloud list (requests.Delete user tag version) command fits has e =
+    subst Brings (sym (deletes_from (entry_at (user_view shape list user).files (tag, version)) (commands.Delete user tag version) command e).1) tt
 
 strings_brought : (command : Command) → Brings command → All IsShare (strings_of command ++ [])
 strings_brought (commands.Put user shares) b = subst (All IsShare) (sym (append-nil shares)) b
 strings_brought (commands.Commit user tag version recipe) b = All-nil IsShare
+strings_brought (commands.Delete user tag version) b = All-nil IsShare
 
 -- each string of a sound list is a share
 pub strings_fit : (shape : Shape) (cloud : ℕ) (list : List Command) → IsSound shape cloud list → All IsShare (flat_map strings_of list)
@@ -79,6 +84,7 @@ files_step shape list (commands.Commit u tag version recipe) user b k entry c =
       | inl old ↦ k entry old
       | inr same ↦ subst (λ (x : FileEntry). IsSmall x.recipe) same b
     ]
+files_step shape list (commands.Delete u tag version) user b k entry c = k entry (entries_left (tag, version) (user_view shape list user).files entry c).0
 
 -- each recipe of a sound list has from one byte to the most
 pub recipes_fit : (shape : Shape) (cloud : ℕ) (list : List Command) → IsSound shape cloud list → (user : UserId) → AreSmall (user_view shape list user).files

@@ -18,7 +18,7 @@ ghost use Rattle.message_fields.specs.Shares.{IsShare, share_bytes, share_limit}
 ghost use Rattle.messages.specs.declared.request.Request.TheVariants as requests;
 ghost use Rattle.messages.specs.declared.reply.Reply.TheVariants as replies;
 ghost use Rattle.messages.specs.Replies.{reply_bytes, IsReply};
-ghost use Rattle.share_index.specs.declared.key.Place.{Place};
+ghost use Rattle.cd_base.specs.declared.place.Place.{Place};
 ghost use Rattle.user_dedup.specs.declared.command.Command.{Command};
 ghost use Rattle.user_dedup.specs.Cloud.{fingerprint, user_view, held_string};
 ghost use Rattle.user_dedup.specs.Dedup.{answer_over};
@@ -29,14 +29,13 @@ ghost use Rattle.read_replies.specs.Steps.{HasRead, IfRotten, SentOne, Sent, Sen
 
 use crate::blobs::{Stop, nothing_at, read_blob};
 use crate::owning::{first_foreign, fp_at};
-use cd_base::{CloudNo, Fp, UserId};
+use cd_base::{CloudNo, Fp, Place, UserId};
 use cd_edges::{Failed, Shelf};
 use cloud_index::CloudIndex;
 use container_log::Log;
 use frames::ReplyBuf;
 use message_fields::{FpsView, SHARE_LIMIT};
 use messages::{append_share, begin_shares, write_not_yours, write_rotten};
-use share_index::Place;
 
 // Puts the share of this length and fingerprint that lies at a place. Rotten comes where another lies there.
 fn put_from<V: Shelf>(

@@ -25,13 +25,12 @@ use Rattle.rebuild.specs.declared.error.SkipWhy.{SkipWhy}
 use Rattle.rebuild.specs.declared.error.SkipWhy.TheVariants as whys
 use Rattle.rebuild.specs.declared.skips.Skip.{Skip}
 use Rattle.rebuild.specs.declared.skips.Rebuilt.{Rebuilt}
-use Rattle.rebuild.specs.Standing.{Later}
 use Rattle.rebuild.specs.Found.{Finding, finding_under, findings, first_of, keys_in, version_under}
-use Rattle.lane_requests.specs.Runs.{Turn, Progress}
+use Rattle.lane_steps.specs.Runs.{Turn, Progress}
 use Rattle.rebuild.specs.Rebuilding.{Progressed, nothing_yet, lane_ended, BringsOne, BringsAll, Rebuilds}
 use Rattle.rebuild.specs.Kept.{HasVersion, HasAnother, RefillsKept, SkipCaused, SkipsCaused}
 use Rattle.rebuild.proofs.Finding.{kept_is_found}
-use Rattle.rebuild.proofs.Lanes.{later_same, later_then, has_later, other_later, run_later, run_exists, lane_done}
+use Rattle.rebuild.proofs.Lanes.{IsQuiet, Later, later_same, later_then, has_later, other_later, run_later, run_exists, lane_done}
 use Rattle.rebuild.proofs.Sorted.{sorted_has}
 
 abbrev pub skip_for : Tag × Version → SkipWhy → Skip
@@ -55,6 +54,7 @@ ended_by key Refused replies.Missing r e = absurd cc
 ended_by key Refused (replies.Shares shares) r e = absurd cc
 ended_by key Refused (replies.NotYours place) r e = absurd cc
 ended_by key Refused (replies.Entries entries) r e = absurd cc
+ended_by key Refused replies.Deleted r e = absurd cc
 ended_by key Refused (replies.Full room used need limit) r e = absurd cc
 ended_by key Refused replies.Fault r e = absurd cc
 ended_by key Refused (replies.Damaged at byte) r e = absurd cc
@@ -73,25 +73,32 @@ module _ (shape : Shape) (target : ℕ) (full : List Command → Command → Opt
   Comes key (Ok v) skip list = (skip ≡ skip_for key whys.TargetExists) × HasAnother shape target list v
   Comes key (Err why) skip list = skip ≡ skip_for key why
 
-  became_later : (key : Tag × Version) (found : Result FileVersion SkipWhy) (a b : List Skip) (old new : List Command) → ((skip : Skip) → Contains a skip → Contains b skip) → Later old new
-      → Became key found a old → Became key found b new
-  became_later key (Ok v) a b old new more later h =
+  -- where a version was found
+  abbrev WhereOk : Result FileVersion SkipWhy → Type 0 → Type 0
+  WhereOk (Ok v) Fact = Fact
+  WhereOk (Err why) Fact = Unit {0}
+
+  became_later : (key : Tag × Version) (found : Result FileVersion SkipWhy) (a b : List Skip) (old new : Peer) → ((skip : Skip) → Contains a skip → Contains b skip) → WhereOk found (IsQuiet old) → Later old new
+      → Became key found a old.list → Became key found b new.list
+  became_later key (Ok v) a b old new more quiet later h =
+      let grew = (later quiet).0 in
       elim h [
-        | inl has ↦ inl (has_later shape old new v.user (key_of shape v.path v.number) _ later has)
-        | inr other ↦ inr (other_later shape old new v.user (key_of shape v.path v.number) _ later other.0, more (skip_for key whys.TargetExists) other.1)
+        | inl has ↦ inl (has_later shape old.list new.list v.user (key_of shape v.path v.number) _ grew has)
+        | inr other ↦ inr (other_later shape old.list new.list v.user (key_of shape v.path v.number) _ grew other.0, more (skip_for key whys.TargetExists) other.1)
       ]
-  became_later key (Err why) a b old new more later h = more (skip_for key why) h
+  became_later key (Err why) a b old new more quiet later h = more (skip_for key why) h
 
-  comes_later : (key : Tag × Version) (found : Result FileVersion SkipWhy) (skip : Skip) (old new : List Command) → Later old new → Comes key found skip old → Comes key found skip new
-  comes_later key (Ok v) skip old new later h = (h.0, other_later shape old new v.user (key_of shape v.path v.number) _ later h.1)
-  comes_later key (Err why) skip old new later h = h
+  comes_later : (key : Tag × Version) (found : Result FileVersion SkipWhy) (skip : Skip) (old new : Peer) → WhereOk found (IsQuiet old) → Later old new → Comes key found skip old.list → Comes key found skip new.list
+  comes_later key (Ok v) skip old new quiet later h = (h.0, other_later shape old.list new.list v.user (key_of shape v.path v.number) _ (later quiet).0 h.1)
+  comes_later key (Err why) skip old new quiet later h = h
 
-  -- one finding
-  record Brought (key : Tag × Version) (found : Result FileVersion SkipWhy) (before after : List Skip) (old new : List Command) : Type 0 where
+  -- One finding. Behind a version that was found nothing that is pending is a Delete.
+  record Brought (key : Tag × Version) (found : Result FileVersion SkipWhy) (before after : List Skip) (old new : Peer) : Type 0 where
     later : Later old new
+    quiet : WhereOk found (IsQuiet new)
     kept : (skip : Skip) → Contains before skip → Contains after skip
-    became : Became key found after new
-    only : (skip : Skip) → Contains after skip → Contains before skip ⊎ Comes key found skip new
+    became : Became key found after new.list
+    only : (skip : Skip) → Contains after skip → Contains before skip ⊎ Comes key found skip new.list
 
   skipped_more : (before after : List Skip) (one : Skip) → after ≡ before ++ one ∷ [] → (skip : Skip) → Contains before skip → Contains after skip
   skipped_more before after one e skip h = subst (λ (l : List Skip). Contains l skip) (sym e) (Contains-append_left before (one ∷ []) skip h)
@@ -107,9 +114,9 @@ module _ (shape : Shape) (target : ℕ) (full : List Command → Command → Opt
       ]
 
   by_lane : (key : Tag × Version) (v : FileVersion) (last : Progress) (said : Reply) (r next : Progressed) (old mid : Peer)
-      → next ≡ lane_ended key last.lane.state said r → next.stop ≡ None → Later old.list mid.list
-      → (last.lane.state ≡ Done → HasVersion shape target mid.list v) → (said ≡ replies.Exists → HasAnother shape target mid.list v)
-      → Brought key (Ok v) r.skips next.skips old.list mid.list
+      → next ≡ lane_ended key last.lane.state said r → next.stop ≡ None → Later old mid
+      → (last.lane.state ≡ Done → HasVersion shape target mid.list v × IsQuiet mid) → (said ≡ replies.Exists → HasAnother shape target mid.list v × IsQuiet mid)
+      → Brought key (Ok v) r.skips next.skips old mid
   by_lane key v last said r next old mid is goes later done other =
       let skips : next.skips ≡ (lane_ended key last.lane.state said r).skips = ap (λ (p : Progressed). p.skips) is in
       elim (ended_by key last.lane.state said r (sym (ap (λ (p : Progressed). p.stop) is) ∙ goes)) [
@@ -117,8 +124,9 @@ module _ (shape : Shape) (target : ℕ) (full : List Command → Command → Opt
             let same : next.skips ≡ r.skips = skips ∙ d.1 in
             record {
               later = later;
+              quiet = (done d.0).1;
               kept = λ skip h. subst (λ (l : List Skip). Contains l skip) (sym same) h;
-              became = inl (done d.0);
+              became = inl (done d.0).0;
               only = λ skip h. inl (subst (λ (l : List Skip). Contains l skip) same h);
             }
         | inr x ↦
@@ -126,51 +134,53 @@ module _ (shape : Shape) (target : ℕ) (full : List Command → Command → Opt
             let more : next.skips ≡ r.skips ++ one ∷ [] = skips ∙ x.1 in
             record {
               later = later;
+              quiet = (other x.0).1;
               kept = skipped_more r.skips next.skips one more;
-              became = inr (other x.0, skipped_here r.skips next.skips one more);
+              became = inr ((other x.0).0, skipped_here r.skips next.skips one more);
               only = λ skip h. elim (skipped_only r.skips next.skips one more skip h) [
                 | inl was ↦ inl was
-                | inr same ↦ inr (same, other x.0)
+                | inr same ↦ inr (same, (other x.0).0)
               ];
             }
       ]
 
   brought_one : (key : Tag × Version) (found : Result FileVersion SkipWhy) (r next : Progressed) (old mid : Peer) (turns : List (Turn Peer))
-      → BringsOne shape target (served shape target full) key found r old turns next mid → next.stop ≡ None → Brought key found r.skips next.skips old.list mid.list
+      → BringsOne shape target (served shape target full) key found r old turns next mid → next.stop ≡ None → Brought key found r.skips next.skips old mid
   brought_one key (Err why) r next old mid turns b goes =
       let one : Skip = skip_for key why in
       let more : next.skips ≡ r.skips ++ one ∷ [] = ap (λ (p : Progressed). p.skips) b.0 in
       record {
-        later = later_same old.list mid.list (ap (λ (p : Peer). p.list) b.2);
+        later = later_same old mid b.2;
+        quiet = tt;
         kept = skipped_more r.skips next.skips one more;
         became = skipped_here r.skips next.skips one more;
         only = skipped_only r.skips next.skips one more;
       }
   brought_one key (Ok v) r next old mid turns b goes =
       by_lane key v b.0 b.1 r next old mid b.4 goes
-      (run_later shape (served shape target full) _ b.0 old mid turns b.2)
+      (run_later shape target full _ b.0 old mid turns b.2)
       (lane_done shape target full (work_of shape v target) b.0 old mid turns b.2)
       (λ exists. run_exists shape target full _ b.0 old mid turns b.2 (b.3 ∙ ap (λ (x : Reply). Some x) exists))
 
   -- all of some findings
-  pub record AllBrought (fs : List Finding) (before after : List Skip) (old new : List Command) : Type 0 where
+  pub record AllBrought (fs : List Finding) (before after : List Skip) (old new : Peer) : Type 0 where
     pub later : Later old new
     pub kept : (skip : Skip) → Contains before skip → Contains after skip
-    pub each : (f : Finding) → Contains fs f → Became f.key f.found after new
-    pub only : (skip : Skip) → Contains after skip → Contains before skip ⊎ ((f : Finding) × Contains fs f × Comes f.key f.found skip new)
+    pub each : (f : Finding) → Contains fs f → Became f.key f.found after new.list
+    pub only : (skip : Skip) → Contains after skip → Contains before skip ⊎ ((f : Finding) × Contains fs f × Comes f.key f.found skip new.list)
 
-  brought_then : (f : Finding) (fs : List Finding) (a b c : List Skip) (old mid new : List Command) → Brought f.key f.found a b old mid → AllBrought fs b c mid new → AllBrought (f ∷ fs) a c old new
+  brought_then : (f : Finding) (fs : List Finding) (a b c : List Skip) (old mid new : Peer) → Brought f.key f.found a b old mid → AllBrought fs b c mid new → AllBrought (f ∷ fs) a c old new
   brought_then f fs a b c old mid new one rest = record {
     later = later_then old mid new one.later rest.later;
     kept = λ skip h. rest.kept skip (one.kept skip h);
     each = λ g h. elim (contains_cases f fs g h) [
-      | inl same ↦ subst (λ (x : Finding). Became x.key x.found c new) same (became_later f.key f.found b c mid new rest.kept rest.later one.became)
+      | inl same ↦ subst (λ (x : Finding). Became x.key x.found c new.list) same (became_later f.key f.found b c mid new rest.kept one.quiet rest.later one.became)
       | inr more ↦ rest.each g more
     ];
     only = λ skip h. elim (rest.only skip h) [
       | inl was ↦ elim (one.only skip was) [
         | inl before ↦ inl before
-        | inr comes ↦ inr (f, contains_here f fs, comes_later f.key f.found skip mid new rest.later comes)
+        | inr comes ↦ inr (f, contains_here f fs, comes_later f.key f.found skip mid new one.quiet rest.later comes)
       ]
       | inr later ↦ inr (later.0, contains_later f fs later.0 later.1, later.2)
     ];
@@ -186,11 +196,11 @@ module _ (shape : Shape) (target : ℕ) (full : List Command → Command → Opt
   not_stopped fs next after mid new rest (Some said) e goes m = absurd (stopped said next after e m.1 goes)
 
   pub brought_all : (fs : List Finding) (r after : Progressed) (old new : Peer) (turns : List (Turn Peer)) → BringsAll shape target (served shape target full) fs r old turns after new → after.stop ≡ None
-      → AllBrought fs r.skips after.skips old.list new.list
+      → AllBrought fs r.skips after.skips old new
   brought_all [] r after old new turns b goes =
       let same : after.skips ≡ r.skips = ap (λ (p : Progressed). p.skips) b.0 in
       record {
-        later = later_same old.list new.list (ap (λ (p : Peer). p.list) b.2);
+        later = later_same old new b.2;
         kept = λ skip h. subst (λ (l : List Skip). Contains l skip) (sym same) h;
         each = λ f h. absurd (contains_nothing f h);
         only = λ skip h. inl (subst (λ (l : List Skip). Contains l skip) same h);
@@ -201,7 +211,7 @@ module _ (shape : Shape) (target : ℕ) (full : List Command → Command → Opt
       let first : List (Turn Peer) = b.2 in
       let rest : List (Turn Peer) = b.3 in
       let m = not_stopped fs next after mid new rest next.stop refl goes b.6 in
-      brought_then f fs r.skips next.skips after.skips old.list mid.list new.list (brought_one f.key f.found r next old mid first b.4 m.0) (brought_all fs next after mid new rest m.1 goes)
+      brought_then f fs r.skips next.skips after.skips old mid new (brought_one f.key f.found r next old mid first b.4 m.0) (brought_all fs next after mid new rest m.1 goes)
 
 -- ---- from the keys of the first cloud
 
@@ -269,10 +279,10 @@ refills shape user target full from turns rebuilt before after choice r = (
     version_ok : FileVersion → Result FileVersion SkipWhy
     version_ok v = Ok v
 
-    brought : AllBrought shape target full r.found [] r.last.skips (before target).list (after target).list
+    brought : AllBrought shape target full r.found [] r.last.skips (before target) (after target)
     brought = brought_all shape target full r.found nothing_yet r.last (before target) (after target) turns r.brings (ap (λ (p : Progressed). p.stop) r.ends.1)
 
-    all : AllBrought shape target full (findings shape lists from user) [] rebuilt.skipped (before target).list (after target).list
+    all : AllBrought shape target full (findings shape lists from user) [] rebuilt.skipped (before target) (after target)
     all =
-        subst (λ (skips : List Skip). AllBrought shape target full (findings shape lists from user) [] skips (before target).list (after target).list) (ap (λ (p : Progressed). p.skips) r.ends.1)
-        (subst (λ (fs : List Finding). AllBrought shape target full fs [] r.last.skips (before target).list (after target).list) r.ends.0 brought)
+        subst (λ (skips : List Skip). AllBrought shape target full (findings shape lists from user) [] skips (before target) (after target)) (ap (λ (p : Progressed). p.skips) r.ends.1)
+        (subst (λ (fs : List Finding). AllBrought shape target full fs [] r.last.skips (before target) (after target)) r.ends.0 brought)

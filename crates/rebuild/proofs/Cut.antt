@@ -13,7 +13,7 @@ use Rattle.user_dedup.specs.Dedup.{Outcome}
 use Rattle.user_dedup.specs.Exec.{Peer, CountsOn, Stays, Settles}
 use Rattle.user_dedup.proofs.Owned.{contains_here, contains_later, contains_nothing, contains_cases}
 use Rattle.upload_job.specs.Upload.{FileVersion}
-use Rattle.lane_requests.specs.Runs.{Turn}
+use Rattle.lane_steps.specs.Runs.{Turn}
 use Rattle.restore_job.specs.Asking.{MayRead, Reads, AreRead}
 use Rattle.restore_job.proofs.Leading.{counts_on}
 use Rattle.rebuild.specs.declared.error.SkipWhy.{SkipWhy}

@@ -13,7 +13,7 @@ use Rattle.user_dedup.specs.Dedup.{Outcome}
 use Rattle.user_dedup.specs.Exec.{Peer, Exec, CountsOn}
 use Rattle.upload_job.specs.Upload.{FileVersion, Work, work_of}
 use Rattle.upload_job.specs.Lane.{LaneState, Asking, Sending, Committing, Done, Refused, onward, beginning, lane_request, lane_after}
-use Rattle.lane_requests.specs.Runs.{Turn, Progress, request_of, progress_after, LaneRun, LaneAlong}
+use Rattle.lane_steps.specs.Runs.{Turn, Progress, request_of, progress_after, LaneRun, LaneAlong}
 use Rattle.lane_steps.proofs.Runs.{along_more, run_of}
 use Rattle.rebuild.specs.declared.error.SkipWhy.{SkipWhy}
 use Rattle.rebuild.specs.Found.{Finding}

@@ -15,7 +15,7 @@ use Rattle.user_dedup.specs.Exec.{Peer}
 use Rattle.user_dedup.specs.Link.{LinkTelling, Talk, serves}
 use Rattle.user_dedup.proofs.Owned.{contains_cases, contains_here, contains_nothing}
 use Rattle.upload_job.specs.Upload.{FileVersion}
-use Rattle.lane_requests.specs.Runs.{Turn}
+use Rattle.lane_steps.specs.Runs.{Turn}
 use Rattle.restore_job.specs.declared.error.RestoreErr.{RestoreErr}
 use Rattle.restore_job.specs.declared.error.RestoreErr.TheVariants as refusals
 use Rattle.restore_job.proofs.Leading.{counts_on, may_on, may_stay, rose_on}

@@ -13,7 +13,7 @@ use Rattle.user_dedup.specs.declared.command.Command.{Command}
 use Rattle.user_dedup.specs.Dedup.{Outcome}
 use Rattle.user_dedup.specs.Exec.{Peer, CountsOn}
 use Rattle.user_dedup.specs.Link.{LinkTelling, Talk, Does}
-use Rattle.lane_requests.specs.Runs.{Turn}
+use Rattle.lane_steps.specs.Runs.{Turn}
 use Rattle.user_dedup.proofs.Owned.{contains_cases, contains_later, contains_nothing}
 use Rattle.restore_job.specs.Asking.{OnlyRead}
 use Rattle.restore_job.specs.Asking.{Leads as ReadLeads}

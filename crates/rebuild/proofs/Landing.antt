@@ -21,7 +21,7 @@ use Rattle.upload_job.specs.declared.news.LaneNews.TheVariants as news
 use Rattle.upload_job.specs.Upload.{FileVersion, Work, work_of}
 use Rattle.upload_job.specs.Lane.{LaneState, Asking, Sending, Committing, Done, Refused, lane_request, news_of, unflagged}
 use Rattle.upload_job.specs.Lanes.{LaneView, begun, idle, lane_begun, with_state}
-use Rattle.lane_requests.specs.Runs.{Turn, Progress, starting, request_of, progress_after, LaneRun, LaneAlong, Tell, lane_at}
+use Rattle.lane_steps.specs.Runs.{Turn, Progress, starting, request_of, progress_after, LaneRun, LaneAlong, Tell, lane_at}
 use Rattle.lane_steps.specs.declared.error.StepErr.{StepErr}
 use Rattle.lane_steps.specs.declared.error.StepErr.TheVariants as step_errors
 use Rattle.lane_steps.specs.Steps.{Heard, LaneSteps, LostAsk}
@@ -271,6 +271,7 @@ news_tells (Asking batch rest) replies.Missing told e = absurd (none_told told e
 news_tells (Asking batch rest) (replies.Shares shares) told e = absurd (none_told told e)
 news_tells (Asking batch rest) (replies.NotYours place) told e = absurd (none_told told e)
 news_tells (Asking batch rest) (replies.Entries entries) told e = absurd (none_told told e)
+news_tells (Asking batch rest) replies.Deleted told e = absurd (none_told told e)
 news_tells (Asking batch rest) (replies.Full room used need limit) told e = tells_as (news.Full room used need limit) told (replies.Full room used need limit) e refl
 news_tells (Asking batch rest) replies.Fault told e = tells_as news.Fault told replies.Fault e refl
 news_tells (Asking batch rest) (replies.Damaged at byte) told e = tells_as (news.Damaged at byte) told (replies.Damaged at byte) e refl
@@ -288,6 +289,7 @@ news_tells (Sending batch marks rest) replies.Missing told e = absurd (none_told
 news_tells (Sending batch marks rest) (replies.Shares shares) told e = absurd (none_told told e)
 news_tells (Sending batch marks rest) (replies.NotYours place) told e = absurd (none_told told e)
 news_tells (Sending batch marks rest) (replies.Entries entries) told e = absurd (none_told told e)
+news_tells (Sending batch marks rest) replies.Deleted told e = absurd (none_told told e)
 news_tells (Sending batch marks rest) (replies.Full room used need limit) told e = tells_as (news.Full room used need limit) told (replies.Full room used need limit) e refl
 news_tells (Sending batch marks rest) replies.Fault told e = tells_as news.Fault told replies.Fault e refl
 news_tells (Sending batch marks rest) (replies.Damaged at byte) told e = tells_as (news.Damaged at byte) told (replies.Damaged at byte) e refl
@@ -305,6 +307,7 @@ news_tells Committing replies.Missing told e = absurd (none_told told e)
 news_tells Committing (replies.Shares shares) told e = absurd (none_told told e)
 news_tells Committing (replies.NotYours place) told e = absurd (none_told told e)
 news_tells Committing (replies.Entries entries) told e = absurd (none_told told e)
+news_tells Committing replies.Deleted told e = absurd (none_told told e)
 news_tells Committing (replies.Full room used need limit) told e = tells_as (news.Full room used need limit) told (replies.Full room used need limit) e refl
 news_tells Committing replies.Fault told e = tells_as news.Fault told replies.Fault e refl
 news_tells Committing (replies.Damaged at byte) told e = tells_as (news.Damaged at byte) told (replies.Damaged at byte) e refl
@@ -322,6 +325,7 @@ news_tells Done replies.Missing told e = absurd (none_told told e)
 news_tells Done (replies.Shares shares) told e = absurd (none_told told e)
 news_tells Done (replies.NotYours place) told e = absurd (none_told told e)
 news_tells Done (replies.Entries entries) told e = absurd (none_told told e)
+news_tells Done replies.Deleted told e = absurd (none_told told e)
 news_tells Done (replies.Full room used need limit) told e = tells_as (news.Full room used need limit) told (replies.Full room used need limit) e refl
 news_tells Done replies.Fault told e = tells_as news.Fault told replies.Fault e refl
 news_tells Done (replies.Damaged at byte) told e = tells_as (news.Damaged at byte) told (replies.Damaged at byte) e refl
@@ -339,6 +343,7 @@ news_tells Refused replies.Missing told e = absurd (none_told told e)
 news_tells Refused (replies.Shares shares) told e = absurd (none_told told e)
 news_tells Refused (replies.NotYours place) told e = absurd (none_told told e)
 news_tells Refused (replies.Entries entries) told e = absurd (none_told told e)
+news_tells Refused replies.Deleted told e = absurd (none_told told e)
 news_tells Refused (replies.Full room used need limit) told e = tells_as (news.Full room used need limit) told (replies.Full room used need limit) e refl
 news_tells Refused replies.Fault told e = tells_as news.Fault told replies.Fault e refl
 news_tells Refused (replies.Damaged at byte) told e = tells_as (news.Damaged at byte) told (replies.Damaged at byte) e refl

@@ -1,6 +1,6 @@
 -- What a lane that was run at a told cloud leaves there.
-use Rattle.std.proofs.Common.{◌≡◌, ◌≢◌, ℕ, Bool, true, false, cond, List, [], ◌∷◌, ◌++◌, Option, Some, None, refl, sym, ap, ◌∙◌, subst, inl, inr, ◌⊎◌, append-nil, append_assoc, eq-eqb, ◌==◌}
-use Rattle.std.specs.Prelude.{find, bytes_eq, option_to_list, IsSomeAnd, Decides}
+use Rattle.std.proofs.Common.{◌≡◌, ◌≢◌, ℕ, Bool, true, false, cond, List, [], ◌∷◌, ◌++◌, map, Option, Some, None, refl, sym, ap, ◌∙◌, subst, inl, inr, ◌⊎◌, append-nil, eq-eqb, ◌==◌}
+use Rattle.std.specs.Prelude.{find, bytes_eq, option_to_list, Decides}
 use Rattle.std.specs.List.{list_all}
 use Rattle.std.specs.Option.{option_or}
 use Rattle.std.proofs.lemmas.Bool.{and_from}
@@ -19,89 +19,73 @@ use Rattle.user_dedup.specs.declared.command.Command.{Command}
 use Rattle.user_dedup.specs.declared.command.Command.TheVariants as commands
 use Rattle.user_dedup.specs.declared.file_list.FileEntry.{FileEntry}
 use Rattle.user_dedup.specs.declared.view.View.{View}
-use Rattle.user_dedup.specs.Cloud.{is_of, view_after, user_view}
+use Rattle.user_dedup.specs.Cloud.{fingerprint, user_view}
 use Rattle.user_dedup.specs.Owning.{first_lacking, new_strings}
 use Rattle.user_dedup.specs.Pages.{is_at, entry_at}
 use Rattle.user_dedup.specs.Requests.{fps_of}
-use Rattle.user_dedup.specs.Dedup.{Outcome, FullRoom, put_outcome, commit_outcome, by_room, unless_full}
-use Rattle.user_dedup.specs.Exec.{Peer, MaySettleAs, Exec, ExecTold, served}
-use Rattle.user_dedup.proofs.Views.{view_next, own_adds}
+use Rattle.user_dedup.specs.Dedup.{Outcome, FullRoom, Ends, put_outcome, commit_outcome, by_room, unless_full}
+use Rattle.user_dedup.specs.Exec.{Peer, Exec, ExecTold, served}
+use Rattle.user_dedup.proofs.Growing.{Each, GrowsBy, IfCommand, grows_same, grows_then, exec_grows, answered_quiet, version_more, AsksNoDelete, IsNoDelete, adds_no_delete, ends_none}
+use Rattle.user_dedup.proofs.Views.{own_adds}
 use Rattle.upload_job.specs.Upload.{Work}
-use Rattle.upload_job.specs.Lane.{LaneState, Asking, Sending, Committing, Done, Refused, onward, lane_request, past_known}
-use Rattle.rebuild.specs.Standing.{entry_in, HasEntry, HasOther, Later}
+use Rattle.upload_job.specs.Lane.{LaneState, Asking, Sending, Committing, Done, Refused, onward, lane_request, past_known, unflagged}
+use Rattle.rebuild.specs.Standing.{entry_in, HasEntry, HasOther}
 use Rattle.upload_job.specs.Lane.{lane_after}
 use Rattle.upload_job.specs.Lanes.{begun}
-use Rattle.lane_requests.specs.Runs.{Turn, Progress, starting, progress_after, LaneRun}
+use Rattle.lane_steps.specs.Runs.{Turn, Progress, starting, progress_after, LaneRun}
 use Rattle.rebuild.specs.Rebuilding.{last_said}
 
--- ---- entries stay
+-- ---- lists grow by commands that are no Deletes
 
-files_more : (files more : List FileEntry) (key : Tag × Version) (entry : FileEntry) → entry_at files key ≡ Some entry → entry_at (files ++ more) key ≡ Some entry
-files_more files more key entry h = find-append (is_at key) files more ∙ ap (λ (o : Option FileEntry). option_or o (find (is_at key) more)) h
+-- what is pending is no Delete
+abbrev pub IsQuiet : Peer → Type 0
+IsQuiet p = IfCommand IsNoDelete p.pending
 
-view_step : (shape : Shape) (v : View) (command : Command) (b : Bool) (key : Tag × Version) (entry : FileEntry) → entry_at v.files key ≡ Some entry
-    → entry_at (cond b (view_after shape v command) v).files key ≡ Some entry
-view_step shape v command false key entry h = h
-view_step shape v (commands.Put user shares) true key entry h = h
-view_step shape v (commands.Commit user tag version recipe) true key entry h = files_more v.files (record { tag = tag; version = version; recipe = recipe } ∷ []) key entry h
+-- from where nothing pending is a Delete the list grew by none, and none is pending then
+abbrev pub Later : Peer → Peer → Type 0
+Later old new = IsQuiet old → GrowsBy IsNoDelete old.list new.list × IsQuiet new
 
-entry_next : (shape : Shape) (list : List Command) (command : Command) (user : UserId) (key : Tag × Version) (entry : FileEntry) → entry_in shape list user key ≡ Some entry
-    → entry_in shape (list ++ command ∷ []) user key ≡ Some entry
-entry_next shape list command user key entry h =
-    ap (λ (v : View). entry_at v.files key) (view_next shape list command user) ∙ view_step shape (user_view shape list user) command (is_of user command) key entry h
+pub later_same : (old new : Peer) → new ≡ old → Later old new
+later_same old new e = λ quiet. (grows_same IsNoDelete old.list new.list (ap (λ (p : Peer). p.list) e), subst IsQuiet (sym e) quiet)
 
-pub entry_more : (shape : Shape) (list more : List Command) (user : UserId) (key : Tag × Version) (entry : FileEntry) → entry_in shape list user key ≡ Some entry
-    → entry_in shape (list ++ more) user key ≡ Some entry
-entry_more shape list [] user key entry h = subst (λ (l : List Command). entry_in shape l user key ≡ Some entry) (sym (append-nil list)) h
-entry_more shape list (command ∷ more) user key entry h =
-    subst (λ (l : List Command). entry_in shape l user key ≡ Some entry) (append_assoc list (command ∷ []) more)
-    (entry_more shape (list ++ command ∷ []) more user key entry (entry_next shape list command user key entry h))
+pub later_then : (a b c : Peer) → Later a b → Later b c → Later a c
+later_then a b c p q = λ quiet.
+    let one = p quiet in
+    let two = q one.1 in
+    (grows_then IsNoDelete a.list b.list c.list one.0 two.0, two.1)
 
--- ---- lists grow
+-- a lane asks no Delete
+pub lane_asks_no_delete : (w : Work) (state : LaneState) (request : Request) → lane_request w state ≡ Some request → AsksNoDelete request
+lane_asks_no_delete w (Asking batch rest) request e = subst AsksNoDelete (same_Some (requests.Query w.user (map fingerprint batch)) request e) tt
+lane_asks_no_delete w (Sending batch flags rest) request e = subst AsksNoDelete (same_Some (requests.Put w.user (unflagged batch flags)) request e) tt
+lane_asks_no_delete w Committing request e = subst AsksNoDelete (same_Some (requests.Commit w.user w.tag w.version w.recipe) request e) tt
+lane_asks_no_delete w Done request e = absurd cc
+lane_asks_no_delete w Refused request e = absurd cc
 
-pub later_same : (old new : List Command) → new ≡ old → Later old new
-later_same old new e = ([], e ∙ sym (append-nil old))
-
-pub later_then : (a b c : List Command) → Later a b → Later b c → Later a c
-later_then a b c p q = (p.0 ++ q.0, q.1 ∙ ap (λ (l : List Command). l ++ q.0) p.1 ∙ append_assoc a p.0 q.0)
-
-settled_by : (pending : Option Command) (old new : List Command) → IsSomeAnd pending (λ command. new ≡ old ++ command ∷ []) → Later old new
-settled_by None old new h = absurd h
-settled_by (Some command) old new h = (command ∷ [], h)
-
-settled : (p : Peer) (list : List Command) → MaySettleAs p list → Later p.list list
-settled p list may =
-    elim may [
-      | inl e ↦ later_same p.list list e
-      | inr h ↦ settled_by p.pending p.list list h
-    ]
-
-exec_later : (shape : Shape) (serve : List Command → Request → Outcome) (old new : Peer) (request : Request) (reply : Reply) → Exec shape true serve old request reply new → Later old.list new.list
-exec_later shape serve old new request reply x =
-    let does : ExecTold serve old request reply new = x.does in
-    elim does [
-      | inl a ↦ later_then old.list a.before new.list (settled old a.before a.settled) (option_to_list (serve a.before request).adds, a.list)
-      | inr f ↦ elim f.left [
-        | inl stays ↦ later_same old.list new.list stays.list
-        | inr cut ↦ settled old new.list cut.list
-      ]
-    ]
-
-pub run_later : (shape : Shape) (serve : List Command → Request → Outcome) (p last : Progress) (old new : Peer) (turns : List (Turn Peer)) → LaneRun (Exec shape true serve) p old turns last new → Later old.list new.list
-run_later shape serve p last old new [] run = later_same old.list new.list (ap (λ (q : Peer). q.list) run.2)
-run_later shape serve p last old new (t ∷ turns) run =
-    let mid : Peer = run.3.0 in
-    later_then old.list mid.list new.list (exec_later shape serve old mid t.request t.reply run.3.1) (run_later shape serve (progress_after p t.reply) last mid new turns run.3.2)
+module _ (shape : Shape) (cloud : ℕ) (full : List Command → Command → Option FullRoom) where
+  pub run_later : (p last : Progress) (old new : Peer) (turns : List (Turn Peer)) → LaneRun (Exec shape true (served shape cloud full)) p old turns last new → Later old new
+  run_later p last old new [] run = later_same old new run.2
+  run_later p last old new (t ∷ turns) run =
+      let mid : Peer = run.3.0 in
+      let asks = lane_asks_no_delete p.lane.work p.lane.state t.request run.2 in
+      later_then old mid new (λ quiet. exec_grows IsNoDelete shape (served shape cloud full) old mid t.request t.reply (adds_no_delete shape cloud full t.request asks) quiet run.3.1)
+      (run_later (progress_after p t.reply) last mid new turns run.3.2)
 
 -- ---- what a Commit leaves
 
-pub has_later : (shape : Shape) (old new : List Command) (user : UserId) (key : Tag × Version) (recipe : List ℕ) → Later old new → HasEntry shape old user key recipe → HasEntry shape new user key recipe
-has_later shape old new user key recipe later h =
-    (h.0, subst (λ (l : List Command). entry_in shape l user key ≡ Some h.0) (sym later.1) (entry_more shape old later.0 user key h.0 h.1), h.2)
+no_ends : (user : UserId) (key : Tag × Version) (more : List Command) → Each IsNoDelete more → Each (λ c. ¬ (Ends user key c)) more
+no_ends user key [] each = tt
+no_ends user key (c ∷ more) each = (ends_none user key c each.0, no_ends user key more each.1)
 
-pub other_later : (shape : Shape) (old new : List Command) (user : UserId) (key : Tag × Version) (recipe : List ℕ) → Later old new → HasOther shape old user key recipe → HasOther shape new user key recipe
-other_later shape old new user key recipe later h =
-    (h.0, subst (λ (l : List Command). entry_in shape l user key ≡ Some h.0) (sym later.1) (entry_more shape old later.0 user key h.0 h.1), h.2)
+entry_later : (shape : Shape) (old new : List Command) (user : UserId) (key : Tag × Version) (entry : FileEntry) → GrowsBy IsNoDelete old new → entry_in shape old user key ≡ Some entry → entry_in shape new user key ≡ Some entry
+entry_later shape old new user key entry grew h =
+    subst (λ (l : List Command). entry_in shape l user key ≡ Some entry) (sym grew.1) (version_more shape old grew.0 user key entry (no_ends user key grew.0 grew.2) h)
+
+pub has_later : (shape : Shape) (old new : List Command) (user : UserId) (key : Tag × Version) (recipe : List ℕ) → GrowsBy IsNoDelete old new → HasEntry shape old user key recipe → HasEntry shape new user key recipe
+has_later shape old new user key recipe grew h = (h.0, entry_later shape old new user key h.0 grew h.1, h.2)
+
+pub other_later : (shape : Shape) (old new : List Command) (user : UserId) (key : Tag × Version) (recipe : List ℕ) → GrowsBy IsNoDelete old new → HasOther shape old user key recipe → HasOther shape new user key recipe
+other_later shape old new user key recipe grew h = (h.0, entry_later shape old new user key h.0 grew h.1, h.2)
 
 abbrev with_recipe : Tag → Version → List ℕ → FileEntry
 with_recipe tag version recipe = record { tag = tag; version = version; recipe = recipe }
@@ -231,6 +215,7 @@ done_by w (Asking batch rest) replies.Missing request asked e = absurd cc
 done_by w (Asking batch rest) (replies.Shares shares) request asked e = absurd cc
 done_by w (Asking batch rest) (replies.NotYours place) request asked e = absurd cc
 done_by w (Asking batch rest) (replies.Entries entries) request asked e = absurd cc
+done_by w (Asking batch rest) replies.Deleted request asked e = absurd cc
 done_by w (Asking batch rest) (replies.Full room used need limit) request asked e = absurd cc
 done_by w (Asking batch rest) replies.Fault request asked e = absurd cc
 done_by w (Asking batch rest) (replies.Damaged at byte) request asked e = absurd cc
@@ -248,6 +233,7 @@ done_by w (Sending batch flags rest) replies.Missing request asked e = absurd cc
 done_by w (Sending batch flags rest) (replies.Shares shares) request asked e = absurd cc
 done_by w (Sending batch flags rest) (replies.NotYours place) request asked e = absurd cc
 done_by w (Sending batch flags rest) (replies.Entries entries) request asked e = absurd cc
+done_by w (Sending batch flags rest) replies.Deleted request asked e = absurd cc
 done_by w (Sending batch flags rest) (replies.Full room used need limit) request asked e = absurd cc
 done_by w (Sending batch flags rest) replies.Fault request asked e = absurd cc
 done_by w (Sending batch flags rest) (replies.Damaged at byte) request asked e = absurd cc
@@ -265,6 +251,7 @@ done_by w Committing replies.Missing request asked e = absurd cc
 done_by w Committing (replies.Shares shares) request asked e = absurd cc
 done_by w Committing (replies.NotYours place) request asked e = absurd cc
 done_by w Committing (replies.Entries entries) request asked e = absurd cc
+done_by w Committing replies.Deleted request asked e = absurd cc
 done_by w Committing (replies.Full room used need limit) request asked e = absurd cc
 done_by w Committing replies.Fault request asked e = absurd cc
 done_by w Committing (replies.Damaged at byte) request asked e = absurd cc
@@ -303,31 +290,40 @@ module _ (shape : Shape) (cloud : ℕ) (full : List Command → Command → Opti
       let x : Exec shape true (served shape cloud full) old request replies.Committed new = subst (λ (o : Reply). Exec shape true (served shape cloud full) old request o new) heard does in
       committed_leaves shape cloud full old new w.user w.tag w.version w.recipe (subst (λ (r : Request). Exec shape true (served shape cloud full) old r replies.Committed new) (sym (same_Some _ request commit)) x)
 
-  -- a lane that is run to Done leaves its entry, unless it was there from the start
+  -- A reply that brings a lane to its end, or finds another version, is an answer: nothing is pending behind it.
+  answered_mid : (old mid : Peer) (request : Request) (said reply : Reply) → said ≡ reply → reply ≢ replies.Fault → Exec shape true (served shape cloud full) old request said mid → IsQuiet mid
+  answered_mid old mid request said reply same answers x =
+      subst (IfCommand IsNoDelete) (sym (answered_quiet shape (served shape cloud full) old mid request said (λ e. answers (sym same ∙ e)) x)) tt
+
+  -- a lane that is run to Done leaves its entry, and nothing pending that is a Delete, unless it was there from the start
   pub run_done : (p last : Progress) (old new : Peer) (turns : List (Turn Peer)) → LaneRun (Exec shape true (served shape cloud full)) p old turns last new → last.lane.state ≡ Done
-      → (p.lane.state ≡ Done) ⊎ HasEntry shape new.list p.lane.work.user (p.lane.work.tag, p.lane.work.version) p.lane.work.recipe
+      → (p.lane.state ≡ Done) ⊎ (HasEntry shape new.list p.lane.work.user (p.lane.work.tag, p.lane.work.version) p.lane.work.recipe × IsQuiet new)
   run_done p last old new [] run done = inl (sym (ap (λ (q : Progress). q.lane.state) run.1) ∙ done)
   run_done p last old new (t ∷ turns) run done =
       let mid : Peer = run.3.0 in
       let w : Work = p.lane.work in
-      let later = run_later shape (served shape cloud full) (progress_after p t.reply) last mid new turns run.3.2 in
+      let later = run_later shape cloud full (progress_after p t.reply) last mid new turns run.3.2 in
       elim (run_done (progress_after p t.reply) last mid new turns run.3.2 done) [
         | inr has ↦ inr has
         | inl heard ↦ elim (done_by w p.lane.state t.reply t.request run.2 heard) [
           | inl was ↦ inl was
-          | inr c ↦ inr (has_later shape mid.list new.list w.user (w.tag, w.version) w.recipe later (committed_ended w p.lane.state t.reply t.request old mid run.2 c.0 c.1 run.3.1))
+          | inr c ↦ inr (
+              let grew = later (answered_mid old mid t.request t.reply replies.Committed c.1 (λ e. let f : replies.Committed ≡ replies.Fault = e in cc) run.3.1) in
+              (has_later shape mid.list new.list w.user (w.tag, w.version) w.recipe grew.0 (committed_ended w p.lane.state t.reply t.request old mid run.2 c.0 c.1 run.3.1), grew.1)
+              )
         ]
       ]
 
   -- a lane whose last reply is Exists found another version
   pub run_exists : (p last : Progress) (old new : Peer) (turns : List (Turn Peer)) → LaneRun (Exec shape true (served shape cloud full)) p old turns last new → last_said turns ≡ Some replies.Exists
-      → HasOther shape new.list p.lane.work.user (p.lane.work.tag, p.lane.work.version) p.lane.work.recipe
+      → HasOther shape new.list p.lane.work.user (p.lane.work.tag, p.lane.work.version) p.lane.work.recipe × IsQuiet new
   run_exists p last old new [] run said = absurd cc
   run_exists p last old new (t ∷ []) run said =
       let mid : Peer = run.3.0 in
       let w : Work = p.lane.work in
       let x : Exec shape true (served shape cloud full) old t.request replies.Exists mid = subst (λ (o : Reply). Exec shape true (served shape cloud full) old t.request o mid) (same_Some _ replies.Exists said) run.3.1 in
-      subst (λ (q : Peer). HasOther shape q.list w.user (w.tag, w.version) w.recipe) (sym run.3.2.2) (exists_ended w p.lane.state t.request old mid run.2 x)
+      subst (λ (q : Peer). HasOther shape q.list w.user (w.tag, w.version) w.recipe × IsQuiet q) (sym run.3.2.2)
+      (exists_ended w p.lane.state t.request old mid run.2 x, answered_mid old mid t.request replies.Exists replies.Exists refl (λ e. let f : replies.Exists ≡ replies.Fault = e in cc) x)
   run_exists p last old new (t ∷ u ∷ turns) run said = run_exists (progress_after p t.reply) last run.3.0 new (u ∷ turns) run.3.2 said
 
 begun_not_done : (w : Work) → onward w.batches ≡ Done → ⊥
@@ -335,7 +331,7 @@ begun_not_done w e = goes_on w.batches e
 
 module _ (shape : Shape) (cloud : ℕ) (full : List Command → Command → Option FullRoom) where
   pub lane_done : (w : Work) (last : Progress) (old new : Peer) (turns : List (Turn Peer)) → LaneRun (Exec shape true (served shape cloud full)) (starting (begun w)) old turns last new → last.lane.state ≡ Done
-      → HasEntry shape new.list w.user (w.tag, w.version) w.recipe
+      → HasEntry shape new.list w.user (w.tag, w.version) w.recipe × IsQuiet new
   lane_done w last old new turns run done =
       elim (run_done shape cloud full (starting (begun w)) last old new turns run done) [
         | inl was ↦ absurd (begun_not_done w was)

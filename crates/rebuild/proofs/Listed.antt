@@ -51,6 +51,7 @@ refuses_names cloud replies.Missing e is = subst (Names (λ c. c ≡ cloud.0)) (
 refuses_names cloud (replies.Shares shares) e is = subst (Names (λ c. c ≡ cloud.0)) (sym is.1) refl
 refuses_names cloud (replies.NotYours place) e is = subst (Names (λ c. c ≡ cloud.0)) (sym is.1) refl
 refuses_names cloud (replies.Entries entries) e is = subst (Names (λ c. c ≡ cloud.0)) (sym is.1) refl
+refuses_names cloud replies.Deleted e is = subst (Names (λ c. c ≡ cloud.0)) (sym is.1) refl
 refuses_names cloud (replies.Full room used need limit) e is = subst (Names (λ c. c ≡ cloud.0)) (sym is.1) refl
 refuses_names cloud (replies.Malformed at) e is = subst (Names (λ c. c ≡ cloud.0)) (sym is.1) refl
 
@@ -81,6 +82,7 @@ is_names cloud (Ok (replies.Recipe bytes)) result is = none_names cloud (replies
 is_names cloud (Ok replies.Missing) result is = none_names cloud replies.Missing result is
 is_names cloud (Ok (replies.Shares shares)) result is = none_names cloud (replies.Shares shares) result is
 is_names cloud (Ok (replies.NotYours place)) result is = none_names cloud (replies.NotYours place) result is
+is_names cloud (Ok replies.Deleted) result is = none_names cloud replies.Deleted result is
 is_names cloud (Ok (replies.Full room used need limit)) result is = none_names cloud (replies.Full room used need limit) result is
 is_names cloud (Ok (replies.Malformed at)) result is = none_names cloud (replies.Malformed at) result is
 
@@ -136,6 +138,7 @@ is_faults cloud (Ok (replies.Recipe bytes)) result is = none_faults cloud (Ok (r
 is_faults cloud (Ok replies.Missing) result is = none_faults cloud (Ok replies.Missing) replies.Missing result (inr (strange_faults _ cloud)) is
 is_faults cloud (Ok (replies.Shares shares)) result is = none_faults cloud (Ok (replies.Shares shares)) (replies.Shares shares) result (inr (strange_faults _ cloud)) is
 is_faults cloud (Ok (replies.NotYours place)) result is = none_faults cloud (Ok (replies.NotYours place)) (replies.NotYours place) result (inr (strange_faults _ cloud)) is
+is_faults cloud (Ok replies.Deleted) result is = none_faults cloud (Ok replies.Deleted) replies.Deleted result (inr (strange_faults _ cloud)) is
 is_faults cloud (Ok (replies.Full room used need limit)) result is = none_faults cloud (Ok (replies.Full room used need limit)) (replies.Full room used need limit) result (inr (strange_faults _ cloud)) is
 is_faults cloud (Ok (replies.Malformed at)) result is = none_faults cloud (Ok (replies.Malformed at)) (replies.Malformed at) result (inr (strange_faults _ cloud)) is
 

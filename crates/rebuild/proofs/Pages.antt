@@ -16,7 +16,7 @@ use Rattle.user_dedup.specs.Exec.{Peer, CountsOn}
 use Rattle.user_dedup.specs.Link.{LinkTelling, Talk, serves}
 use Rattle.user_dedup.specs.Pages.{page_of}
 use Rattle.user_dedup.proofs.Owned.{contains_nothing}
-use Rattle.lane_requests.specs.Runs.{Turn}
+use Rattle.lane_steps.specs.Runs.{Turn}
 use Rattle.restore_job.specs.Asking.{MayRead, OnlyRead, Reads}
 use Rattle.restore_job.specs.Asking.{Asked as ReadAsked, Leads as ReadLeads}
 use Rattle.restore_job.specs.declared.error.RestoreErr.{RestoreErr}

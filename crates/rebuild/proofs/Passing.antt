@@ -12,7 +12,7 @@ use Rattle.user_dedup.proofs.Owned.{contains_here, contains_later, contains_noth
 use Rattle.upload_job.specs.declared.news.LaneNews.{LaneNews}
 use Rattle.upload_job.specs.Lanes.{LaneView, with_state}
 use Rattle.upload_job.specs.Upload.{FileVersion, Work, work_of}
-use Rattle.lane_requests.specs.Runs.{Turn, Progress, starting, request_of, progress_after, LaneAlong, lane_at}
+use Rattle.lane_steps.specs.Runs.{Turn, Progress, starting, request_of, progress_after, LaneAlong, lane_at}
 use Rattle.lane_steps.specs.declared.error.StepErr.{StepErr}
 use Rattle.lane_steps.specs.declared.error.StepErr.TheVariants as step_errors
 use Rattle.lane_steps.specs.Steps.{Finishes, Heard, LaneSteps, LosesBy}

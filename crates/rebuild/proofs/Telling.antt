@@ -11,10 +11,11 @@ use Rattle.messages.specs.declared.reply.Reply.{Reply}
 use Rattle.user_dedup.specs.Exec.{Peer}
 use Rattle.user_dedup.specs.Cloud.{fingerprint}
 use Rattle.user_dedup.specs.Requests.{asker}
+use Rattle.user_dedup.proofs.Growing.{AsksNoDelete}
 use Rattle.user_dedup.proofs.Owned.{contains_cases, contains_nothing}
 use Rattle.upload_job.specs.Upload.{FileVersion, Work, work_of}
 use Rattle.upload_job.specs.Lane.{LaneState, Asking, Sending, Committing, Done, Refused, lane_request, unflagged}
-use Rattle.lane_requests.specs.Runs.{Turn, Progress, progress_after, LaneAlong}
+use Rattle.lane_steps.specs.Runs.{Turn, Progress, progress_after, LaneAlong}
 use Rattle.restore_job.specs.declared.error.RestoreErr.{RestoreErr}
 use Rattle.restore_job.specs.declared.error.RestoreErr.TheVariants as refusals
 use Rattle.rebuild.specs.declared.error.RebuildErr.{RebuildErr}
@@ -23,6 +24,7 @@ use Rattle.rebuild.specs.Entering.{stopped_as}
 use Rattle.rebuild.specs.Over.{IsOfLane}
 use Rattle.rebuild.specs.Rebuilding.{lane_of, last_said}
 use Rattle.rebuild.specs.Turns.{LaneGoes, LanesGo, OwnLanes, SaidLast}
+use Rattle.rebuild.proofs.Lanes.{lane_asks_no_delete}
 
 -- ---- whose lanes
 
@@ -73,6 +75,15 @@ own_turn shape user target (v ∷ versions) turns t go has =
     elim (Contains-append_cases go.0 go.1 t (subst (λ (l : List (Turn Peer)). Contains l t) go.2 has)) [
       | inl here ↦ (let x = turn_asks (work_of shape v target) (lane_of shape target v) go.0 t refl go.4 here in (asked_for (work_of shape v target) x.0 t.request x.1 ∙ go.3, (v, x.0, t.request, go.3, x.1, refl)))
       | inr later ↦ own_turn shape user target versions go.1 t go.5 later
+    ]
+
+-- no turn asks a Delete
+pub own_no_delete : (shape : Shape) (user : UserId) (target : ℕ) (versions : List FileVersion) (turns : List (Turn Peer)) (t : Turn Peer) → LanesGo shape user target versions turns → Contains turns t → AsksNoDelete t.request
+own_no_delete shape user target [] turns t go has = absurd (contains_nothing t (subst (λ (l : List (Turn Peer)). Contains l t) go has))
+own_no_delete shape user target (v ∷ versions) turns t go has =
+    elim (Contains-append_cases go.0 go.1 t (subst (λ (l : List (Turn Peer)). Contains l t) go.2 has)) [
+      | inl here ↦ (let x = turn_asks (work_of shape v target) (lane_of shape target v) go.0 t refl go.4 here in lane_asks_no_delete (work_of shape v target) x.0 t.request x.1)
+      | inr later ↦ own_no_delete shape user target versions go.1 t go.5 later
     ]
 
 -- ---- the last reply

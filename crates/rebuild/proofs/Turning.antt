@@ -30,7 +30,7 @@ use Rattle.upload_job.specs.declared.news.LaneNews.{LaneNews}
 use Rattle.upload_job.specs.declared.news.LaneNews.TheVariants as news
 use Rattle.upload_job.specs.Upload.{Work}
 use Rattle.upload_job.specs.Lane.{LaneState, Asking, Sending, Committing, Done, Refused, onward, lane_request, news_of, unflagged}
-use Rattle.lane_requests.specs.Runs.{Turn, Progress, request_of, progress_after, LaneAlong, Tell}
+use Rattle.lane_steps.specs.Runs.{Turn, Progress, request_of, progress_after, LaneAlong, Tell}
 use Rattle.lane_steps.specs.Steps.{Heard}
 use Rattle.rebuild.specs.declared.error.RebuildErr.{RebuildErr}
 use Rattle.rebuild.specs.declared.error.RebuildErr.TheVariants as errors
@@ -223,6 +223,7 @@ follows_answered w (Asking batch rest) lacked replies.Missing is = absurd is
 follows_answered w (Asking batch rest) lacked (replies.Shares shares) is = absurd is
 follows_answered w (Asking batch rest) lacked (replies.NotYours place) is = absurd is
 follows_answered w (Asking batch rest) lacked (replies.Entries entries) is = absurd is
+follows_answered w (Asking batch rest) lacked replies.Deleted is = absurd is
 follows_answered w (Asking batch rest) lacked (replies.Full room used need limit) is = absurd is
 follows_answered w (Asking batch rest) lacked replies.Fault is = absurd is
 follows_answered w (Asking batch rest) lacked (replies.Damaged at byte) is = absurd is
@@ -240,6 +241,7 @@ follows_answered w (Sending batch marks rest) lacked replies.Missing is = absurd
 follows_answered w (Sending batch marks rest) lacked (replies.Shares shares) is = absurd is
 follows_answered w (Sending batch marks rest) lacked (replies.NotYours place) is = absurd is
 follows_answered w (Sending batch marks rest) lacked (replies.Entries entries) is = absurd is
+follows_answered w (Sending batch marks rest) lacked replies.Deleted is = absurd is
 follows_answered w (Sending batch marks rest) lacked (replies.Full room used need limit) is = inr (inr refl, full_ends (Sending batch marks rest) room used need limit refl)
 follows_answered w (Sending batch marks rest) lacked replies.Fault is = absurd is
 follows_answered w (Sending batch marks rest) lacked (replies.Damaged at byte) is = absurd is
@@ -257,6 +259,7 @@ follows_answered w Committing lacked replies.Missing is = absurd is
 follows_answered w Committing lacked (replies.Shares shares) is = absurd is
 follows_answered w Committing lacked (replies.NotYours place) is = absurd is
 follows_answered w Committing lacked (replies.Entries entries) is = absurd is
+follows_answered w Committing lacked replies.Deleted is = absurd is
 follows_answered w Committing lacked (replies.Full room used need limit) is = inr (inr refl, full_ends Committing room used need limit refl)
 follows_answered w Committing lacked replies.Fault is = absurd is
 follows_answered w Committing lacked (replies.Damaged at byte) is = absurd is

@@ -15,7 +15,7 @@ use Rattle.user_dedup.specs.Dedup.{Outcome}
 use Rattle.user_dedup.specs.Exec.{Peer, CountsOn}
 use Rattle.user_dedup.proofs.Owned.{contains_cases, contains_here, contains_later, contains_nothing}
 use Rattle.upload_job.specs.Upload.{FileVersion}
-use Rattle.lane_requests.specs.Runs.{Turn}
+use Rattle.lane_steps.specs.Runs.{Turn}
 use Rattle.restore_job.specs.Asking.{AreRead, Reads}
 use Rattle.restore_job.specs.Restored
 use Rattle.restore_job.specs.Restored.{Unrestored, given_by, missing, restored_file}

@@ -14,7 +14,7 @@ use Rattle.upload_job.specs.declared.news.LaneNews.{LaneNews}
 use Rattle.upload_job.specs.declared.news.LaneNews.TheVariants as news
 use Rattle.upload_job.specs.Upload.{FileVersion}
 use Rattle.upload_job.specs.Lane.{LaneState, Done, Refused}
-use Rattle.lane_requests.specs.Runs.{Turn, Progress, LaneRun}
+use Rattle.lane_steps.specs.Runs.{Turn, Progress, LaneRun}
 use Rattle.lane_steps.specs.declared.error.StepErr.{StepErr}
 use Rattle.lane_steps.specs.declared.error.StepErr.TheVariants as step_errors
 use Rattle.rebuild.specs.declared.error.RebuildErr.{RebuildErr}

@@ -10,7 +10,7 @@ use Rattle.messages.specs.declared.request.Request.{Request}
 use Rattle.user_dedup.specs.Link.{LinkTelling, Exchange, Passes, ReadsFrom, Does, LosesAsk}
 use Rattle.upload_job.specs.Lane.{LaneState}
 use Rattle.upload_job.specs.Upload.{FileVersion, work_of}
-use Rattle.lane_requests.specs.Runs.{Turn, request_of}
+use Rattle.lane_steps.specs.Runs.{Turn, request_of}
 use Rattle.lane_steps.specs.Steps.{Talks, Heard, LostAsk}
 use Rattle.restore_job.specs.Asking.{PeersOf, TellsAll, is_loss}
 use Rattle.restore_job.specs.Refusals.{Names}

@@ -10,7 +10,7 @@ use Rattle.messages.specs.declared.reply.Reply.{Reply}
 use Rattle.user_dedup.specs.declared.command.Command.{Command}
 use Rattle.user_dedup.specs.Dedup.{Outcome}
 use Rattle.user_dedup.specs.Exec.{Peer}
-use Rattle.lane_requests.specs.Runs.{Turn}
+use Rattle.lane_steps.specs.Runs.{Turn}
 use Rattle.rebuild.specs.declared.error.RebuildErr.{RebuildErr}
 use Rattle.rebuild.specs.declared.error.RebuildErr.TheVariants as errors
 use Rattle.rebuild.specs.declared.skips.Rebuilt.{Rebuilt}

@@ -17,7 +17,7 @@ ghost use Rattle.user_dedup.specs.declared.file_list.FileEntry.{FileEntry};
 ghost use Rattle.user_dedup.specs.Pages.{key_of as key_of_entry, sorted_keys, page_of};
 ghost use Rattle.user_dedup.specs.Dedup.{FullRoom};
 ghost use Rattle.user_dedup.specs.Exec.{Peer, served};
-ghost use Rattle.lane_requests.specs.Runs.{Turn};
+ghost use Rattle.lane_steps.specs.Runs.{Turn};
 ghost use Rattle.rebuild.specs.Found.{keys_above, version_under};
 ghost use Rattle.messages.specs.Requests.{request_bytes};
 ghost use Rattle.user_dedup.specs.Requests.{asker};

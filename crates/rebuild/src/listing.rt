@@ -95,6 +95,7 @@ fn refusal_of(cloud: CloudNo, reply: &Reply, kind: u8) -> RestoreErr
         Reply::Shares { .. } => RestoreErr::Strange { cloud, kind },
         Reply::NotYours { .. } => RestoreErr::Strange { cloud, kind },
         Reply::Entries { .. } => RestoreErr::Strange { cloud, kind },
+        Reply::Deleted => RestoreErr::Strange { cloud, kind },
         Reply::Full { .. } => RestoreErr::Strange { cloud, kind },
         Reply::Malformed { .. } => RestoreErr::Strange { cloud, kind },
     }

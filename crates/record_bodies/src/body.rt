@@ -1,7 +1,6 @@
 //! The values of the bodies of a Delete, a Kept and a Spent.
 
-use cd_base::{Fp, Tag, UserId, Version};
-use share_index::Place;
+use cd_base::{Fp, Place, Tag, UserId, Version};
 
 /// A Delete: the version of a user's file that is taken out.
 #[derive(Clone, Copy, Debug, PartialEq, Eq)]

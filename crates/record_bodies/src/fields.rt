@@ -7,9 +7,8 @@ ghost use Rattle.record_bodies.specs.Reading.{item_at, delete_at, spent_at};
 ghost use Rattle.record_bodies.specs.Spelling.{Delete, Spent};
 
 use crate::{DeleteBody, KeptItem, SpentBody};
-use cd_base::{Tag, Version};
+use cd_base::{Place, Tag, Version};
 use message_fields::{Left, array_of, fp_of, share_len_of, u32_of, u64_of, user_of};
-use share_index::Place;
 
 #[tactic(auto, unfolding(record_body::specs::Reading::place_at))]
 fn place_of(bytes: &[u8]) -> Result<(Place, &[u8]), Left>

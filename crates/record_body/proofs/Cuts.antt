@@ -7,7 +7,7 @@ use Rattle.std.proofs.lemmas.Bool.{lt-ltb}
 use Rattle.std.proofs.lemmas.List.{length-append}
 use Rattle.std.proofs.lemmas.List.Concat.{flat_map-cons}
 use Rattle.std.proofs.lemmas.List.Elements.{All-head, All-tail}
-use Rattle.share_index.specs.declared.key.Place.{Place}
+use Rattle.cd_base.specs.declared.place.Place.{Place}
 use Rattle.grammar.specs.Readers.{◌▷◌, ◌▷▷◌}
 use Rattle.grammar.specs.Fields.{number_at, bytes_at, checked}
 use Rattle.grammar.proofs.FieldLaws.{LawfulBytes, IsWide, lawful_bytes, lawful_checked, wide16, wide32, wide64}

@@ -12,7 +12,7 @@ use Rattle.message_fields.specs.Parts.{times, behind}
 use Rattle.message_fields.specs.Fingerprints.{is_batch}
 use Rattle.message_fields.proofs.PartLaws.{bytes_drop}
 use Rattle.message_fields.proofs.Loops.{behind_ok}
-use Rattle.share_index.specs.declared.key.Place.{Place}
+use Rattle.cd_base.specs.declared.place.Place.{Place}
 use Rattle.record_body.specs.declared.body.PutItem.{PutItem}
 use Rattle.record_body.specs.declared.body.FoundItem.{FoundItem}
 use Rattle.record_body.specs.Spelling.{placed_bytes, item_bytes, FitsItem}

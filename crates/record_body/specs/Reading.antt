@@ -2,7 +2,7 @@
 -- on, and so 0 where a field lacks bytes.
 use Rattle.std.specs.Prelude.{ℕ, zero, suc, ◌-◌, ◌<◌, Bool, List, [], ◌∷◌, length, Option, Some, None, Result, Ok, Err, ◌==◌, nat_le, if◌then◌else◌}
 use Rattle.std.specs.Int.{w16, w32, w64}
-use Rattle.share_index.specs.declared.key.Place.{Place}
+use Rattle.cd_base.specs.declared.place.Place.{Place}
 use Rattle.grammar.specs.Readers.{◌▷◌, ◌▷▷◌}
 use Rattle.grammar.specs.Fields.{number_at, bytes_at, checked}
 use Rattle.message_fields.specs.Parts.{made, times}

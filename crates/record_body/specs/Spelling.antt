@@ -3,7 +3,7 @@ use Rattle.std.specs.Prelude.{◌≡◌, ℕ, ◌<◌, ◌≤◌, ◌^◌, List,
 use Rattle.std.specs.List.{flat_map}
 use Rattle.std.specs.Int.{w16, w32, w64, to_be_bytes}
 use Rattle.cd_base.specs.declared.ids.UserId.{UserId}
-use Rattle.share_index.specs.declared.key.Place.{Place}
+use Rattle.cd_base.specs.declared.place.Place.{Place}
 use Rattle.message_fields.specs.Fingerprints.{IsBatch}
 use Rattle.message_fields.specs.Shares.{share_limit}
 use Rattle.record_body.specs.declared.body.PutItem.{PutItem}

@@ -8,9 +8,8 @@ ghost use Rattle.record_body.specs.Reading.{place_at, placed_at, item_at, commit
 ghost use Rattle.record_body.specs.Spelling.{Commit};
 
 use crate::{CommitBody, PutItem};
-use cd_base::{Tag, Version};
+use cd_base::{Place, Tag, Version};
 use message_fields::{Left, array_of, fp_of, share_len_of, u32_of, u64_of, user_of};
-use share_index::Place;
 
 // The length of a recipe, at least 1.
 fn recipe_len_of(bytes: &[u8]) -> Result<(u32, &[u8]), Left>

@@ -4,8 +4,7 @@ ghost use Rattle.std.specs.Prelude.{◌≡◌, ◌+◌, ◌≤◌, ◌++◌, [],
 ghost use Rattle.record_body.specs.Spelling.{Commit, put_front, placed_bytes, item_bytes, body_bytes};
 
 use crate::{CommitBody, PutItem};
-use cd_base::{NoMemory, UserId};
-use share_index::Place;
+use cd_base::{NoMemory, Place, UserId};
 use std::alloc::Global;
 use std::marker::Model;
 

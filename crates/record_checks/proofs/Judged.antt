@@ -6,10 +6,10 @@ use Rattle.cd_base.specs.declared.ids.Fp.{Fp}
 use Rattle.cd_base.specs.declared.ids.UserId.{UserId}
 use Rattle.file_index.specs.declared.key.FileKey.{FileKey}
 use Rattle.file_index.specs.Files.{used_by as files_used}
-use Rattle.index_base.specs.declared.Accounts.{Accounts}
-use Rattle.index_base.specs.Accounts.{use_for, limit_for, keys_of}
+use Rattle.pool_map.specs.declared.accounts.Accounts.{Accounts}
+use Rattle.pool_map.specs.Accounts.{use_for, limit_for, keys_of}
 use Rattle.journal_start.specs.declared.rooms.Rooms.{Rooms}
-use Rattle.command_list.specs.Spending.{files_limit}
+use Rattle.user_dedup.specs.Spending.{files_limit}
 use Rattle.record_bodies.specs.declared.body.KeptItem.{KeptItem}
 use Rattle.record_bodies.specs.Spelling.{Put, Commit, Kept}
 use Rattle.record_body.specs.declared.body.CommitBody.{CommitBody}

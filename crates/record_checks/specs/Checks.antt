@@ -9,7 +9,7 @@ use Rattle.cd_base.specs.declared.shape.Shape.{Shape}
 use Rattle.container_log.specs.Places.{LiesInOne}
 use Rattle.file_index.specs.declared.key.Entry.{Entry}
 use Rattle.file_index.specs.Files.{key_of}
-use Rattle.index_base.specs.Accounts.{keys_of}
+use Rattle.pool_map.specs.Accounts.{keys_of}
 use Rattle.recipe.specs.declared.recipe.Recipe.{Recipe}
 use Rattle.recipe.specs.Spelling.{IsRecipe}
 use Rattle.record_bodies.specs.Reading.{body_at}
@@ -22,12 +22,12 @@ use Rattle.record_body.specs.declared.body.BodyErr.TheVariants as errors
 use Rattle.record_body.specs.declared.body.CommitBody.{CommitBody}
 use Rattle.record_body.specs.declared.body.PutItem.{PutItem}
 use Rattle.record_body.specs.Spelling.{item_bytes}
-use Rattle.share_index.specs.declared.key.Place.{Place}
+use Rattle.cd_base.specs.declared.place.Place.{Place}
 use Rattle.share_index.specs.Order.{owner_of}
 use Rattle.spent_table.specs.Spending.{spent_by}
 use Rattle.user_dedup.specs.Cloud.{fingerprint}
 use Rattle.user_dedup.specs.Requests.{fps_of}
-use Rattle.command_list.specs.Spending.{limits_of, files_limit}
+use Rattle.user_dedup.specs.Spending.{limits_of, files_limit}
 use Rattle.cloud_areas.specs.Placing.{region_start, end_of}
 use Rattle.cloud_memory.specs.Memory.{Memory}
 use Rattle.cloud_memory.specs.Sharing.{AreOwned}

@@ -5,7 +5,7 @@ use Rattle.record_bodies.specs.Reading.{body_at}
 use Rattle.record_bodies.specs.Spelling.{Body, Put, Commit, Delete, Kept, Spent}
 use Rattle.record_body.specs.declared.body.PutItem.{PutItem}
 use Rattle.record_body.specs.Spelling.{item_bytes}
-use Rattle.share_index.specs.declared.key.Place.{Place}
+use Rattle.cd_base.specs.declared.place.Place.{Place}
 use Rattle.cloud_areas.specs.Placing.{end_of}
 use Rattle.cloud_memory.specs.Memory.{Memory}
 use Rattle.cloud_memory.specs.Steps.{end_with}

@@ -4,14 +4,14 @@ use Rattle.std.specs.List.{list_any}
 use Rattle.std.specs.FinMap.{get, len}
 use Rattle.cd_base.specs.declared.ids.Fp.{Fp}
 use Rattle.cd_base.specs.declared.ids.UserId.{UserId}
-use Rattle.index_base.specs.Accounts.{keys_of}
+use Rattle.pool_map.specs.Accounts.{keys_of}
 use Rattle.journal_start.specs.declared.rooms.Rooms.{Rooms}
 use Rattle.record_bodies.specs.declared.body.KeptItem.{KeptItem}
 use Rattle.record_bodies.specs.Spelling.{Body}
 use Rattle.record_body.specs.declared.body.CommitBody.{CommitBody}
 use Rattle.record_body.specs.declared.body.PutItem.{PutItem}
 use Rattle.spent_table.specs.Spending.{spent_by, of_shares}
-use Rattle.command_list.specs.Spending.{limits_of}
+use Rattle.user_dedup.specs.Spending.{limits_of}
 use Rattle.cloud_memory.specs.declared.cloud.CloudMemory.{CloudMemory}
 use Rattle.cloud_memory.specs.Memory.{Memory}
 use Rattle.cloud_memory.specs.Rooms.{HasRooms}

@@ -16,10 +16,9 @@ ghost use Rattle.cloud_areas.specs.Placing.{region_start};
 use crate::noting::note;
 use crate::places::{first_of, lies};
 use crate::{Damage, Ground};
-use cd_base::{Fp, UserId};
+use cd_base::{Fp, Place, UserId};
 use cloud_memory::CloudMemory;
 use record_body::{FoundItem, PutItem, PutItems};
-use share_index::Place;
 
 // Whether the share's place, if the record gives it one, is one where it may lie.
 fn is_laid(ground: &Ground, inside: bool, end: u64, place: Option<Place>) -> bool

@@ -16,10 +16,9 @@ use crate::limits::places_limit;
 use crate::noting::note;
 use crate::places::{first_of, lies};
 use crate::{Damage, Ground};
-use cd_base::Fp;
+use cd_base::{Fp, Place};
 use cloud_memory::CloudMemory;
 use record_bodies::{FoundKept, KeptItems};
-use share_index::Place;
 
 // Where the number of items stands in the body.
 const COUNT: usize = 1;

@@ -1,7 +1,7 @@
 //! What a user may have.
 
 ghost use Rattle.std.specs.Prelude.{◌≡◌, ◌*◌, ◌<◌, ◌^◌};
-ghost use Rattle.command_list.specs.Spending.{limits_of};
+ghost use Rattle.user_dedup.specs.Spending.{limits_of};
 
 use cd_base::UserId;
 use journal_start::Rooms;

@@ -7,8 +7,8 @@ ghost use Rattle.record_checks.specs.Checks.{damaged_at, body_fault};
 ghost use Rattle.record_checks.specs.Noting.{farther_field};
 
 use crate::Damage;
+use cd_base::Place;
 use record_bodies::BodyErr;
-use share_index::Place;
 
 /// The damage at a byte of a body that begins at a place of the journal.
 pub(crate) fn damaged(body: &[u8], at: u64, place: usize) -> Damage

@@ -7,11 +7,10 @@ ghost use Rattle.record_checks.specs.Checks.{Lies, RecipeLies};
 ghost use Rattle.cloud_memory.specs.Rooms.{memory_of};
 
 use crate::Ground;
-use cd_base::RECIPE_LIMIT;
+use cd_base::{Place, RECIPE_LIMIT};
 use cloud_memory::CloudMemory;
 use container_log::CONTAINER;
 use record_body::CommitBody;
-use share_index::Place;
 
 // The bytes of a region of an area of blobs.
 const REGION: u64 = 34_359_738_368;

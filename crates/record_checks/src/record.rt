@@ -3,7 +3,7 @@
 ghost use Rattle.std.specs.Prelude.{◌≡◌, ◌↔◌, ◌+◌, ◌<◌, ◌≤◌, ◌^◌, Bool, length, Ok, Err, OnOk, IfErr, MatchResult};
 ghost use Rattle.std.specs.Prelude.{MatchOption, IfSome, IsTrue, IsFalse};
 ghost use Rattle.cd_base.specs.Limits.{recipe_limit};
-ghost use Rattle.share_index.specs.declared.key.Place.{Place as Lying};
+ghost use Rattle.cd_base.specs.declared.place.Place.{Place as Lying};
 ghost use Rattle.cloud_memory.specs.Rooms.{memory_of, HasRooms};
 ghost use Rattle.record_checks.specs.declared.ground.Ground.{Ground as Known};
 ghost use Rattle.record_checks.specs.Checks.{Asks, AsksFor, IsOfCheckpoint};
@@ -19,10 +19,9 @@ use crate::noting::{damaged, damaged_body, note};
 use crate::puts::take_put;
 use crate::taking::take_spent;
 use crate::{Damage, Ground, Taking};
-use cd_base::RECIPE_LIMIT;
+use cd_base::{Place, RECIPE_LIMIT};
 use cloud_memory::CloudMemory;
 use record_bodies::{BodyView, CommitBody, DeleteBody};
-use share_index::Place;
 
 // Where the place of a Commit stands in its body.
 const PLACE: usize = 45;

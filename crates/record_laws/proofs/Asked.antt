@@ -5,22 +5,20 @@ use Rattle.std.specs.List.{Contains}
 use Rattle.cd_base.specs.declared.ids.UserId.{UserId}
 use Rattle.cd_base.specs.declared.shape.Shape.{Shape}
 use Rattle.messages.specs.declared.request.Request.TheVariants as requests
-use Rattle.user_dedup.specs.declared.command.Command.{Command as RequestCommand}
-use Rattle.user_dedup.specs.declared.command.Command.TheVariants as of_requests
+use Rattle.messages.specs.declared.request.Request.{Request}
 use Rattle.user_dedup.specs.declared.file_list.FileEntry.{FileEntry}
 use Rattle.user_dedup.specs.declared.view.View.{View}
 use Rattle.user_dedup.specs.Dedup.{put_outcome, commit_outcome}
 use Rattle.user_dedup.specs.Owning.{first_lacking, FindsLacking, new_strings}
 use Rattle.user_dedup.specs.Pages.{entry_at}
-use Rattle.user_dedup.specs.Requests.{fps_of}
+use Rattle.user_dedup.specs.Requests.{fps_of, asker}
 use Rattle.user_dedup.proofs.Owned.{finds}
 use Rattle.user_dedup.proofs.Sound.{put_adds, commit_adds}
-use Rattle.command_list.specs.declared.command.Command.{Command}
-use Rattle.command_list.specs.declared.command.Command.TheVariants as commands
-use Rattle.command_list.specs.Asking as asking
-use Rattle.command_list.specs.Asking.{Ask, asks, of_request, answer_over, IsSound}
-use Rattle.command_list.specs.Commands.{user_of, user_view}
-use Rattle.command_list.proofs.Sound.{added_from, deletes_from, none_added, sound_before}
+use Rattle.user_dedup.specs.declared.command.Command.{Command}
+use Rattle.user_dedup.specs.declared.command.Command.TheVariants as commands
+use Rattle.user_dedup.specs.Dedup.{delete_outcome, answer_over, IsSound}
+use Rattle.user_dedup.specs.Cloud.{user_of, user_view}
+use Rattle.user_dedup.proofs.Sound.{deletes_from, sound_before}
 
 -- the entry that there is
 abbrev pub HasOne : Option FileEntry → Type 0
@@ -35,35 +33,33 @@ IsLawful shape v (commands.Delete user tag version) = HasOne (entry_at v.files (
 abbrev IsLawfulFor : Shape → List Command → UserId → Command → Type 0
 IsLawfulFor shape list user command = IsLawful shape (user_view shape list user) command × (user_of command ≡ user)
 
-put_some : (user : UserId) (ss : List (List ℕ)) (c : RequestCommand) → (put_outcome user ss).adds ≡ Some c → 1 ≤ length ss
+put_some : (user : UserId) (ss : List (List ℕ)) (c : Command) → (put_outcome user ss).adds ≡ Some c → 1 ≤ length ss
 put_some user [] c e = absurd (let no : None ≡ Some c = e in cc)
 put_some user (s ∷ ss) c e = omega arith
 
-has_one : (o : Option FileEntry) (c command : Command) → (asking.delete_outcome o c).adds ≡ Some command → HasOne o
+has_one : (o : Option FileEntry) (c command : Command) → (delete_outcome o c).adds ≡ Some command → HasOne o
 has_one None c command e = absurd (let no : None ≡ Some command = e in cc)
 has_one (Some entry) c command e = (entry, refl)
 
-lawful_for : (shape : Shape) (cloud : ℕ) (list : List Command) (ask : Ask) (command : Command) → (answer_over shape cloud list ask).adds ≡ Some command
-    → IsLawfulFor shape list (asks ask) command
-lawful_for shape cloud list (asking.Of requests.Hello) command e = absurd (none_added command e)
-lawful_for shape cloud list (asking.Of (requests.Query user fps)) command e = absurd (none_added command e)
-lawful_for shape cloud list (asking.Of (requests.Put user shares)) command e =
+lawful_for : (shape : Shape) (cloud : ℕ) (list : List Command) (request : Request) (command : Command) → (answer_over shape cloud list request).adds ≡ Some command
+    → IsLawfulFor shape list (asker request) command
+lawful_for shape cloud list requests.Hello command e = absurd (let no : None ≡ Some command = e in cc)
+lawful_for shape cloud list (requests.Query user fps) command e = absurd (let no : None ≡ Some command = e in cc)
+lawful_for shape cloud list (requests.Put user shares) command e =
     let new = new_strings (user_view shape list user).own shares in
-    let a = added_from (put_outcome user new).adds command e in
-    let c = put_adds user new a.0 a.1 in
-    subst (IsLawfulFor shape list user) (sym (a.2 ∙ ap of_request c)) ((shares, refl, put_some user new a.0 a.1), refl)
-lawful_for shape cloud list (asking.Of (requests.Commit user tag version recipe)) command e =
+    let c = put_adds user new command e in
+    subst (IsLawfulFor shape list user) (sym c) ((shares, refl, put_some user new command e), refl)
+lawful_for shape cloud list (requests.Commit user tag version recipe) command e =
     let own = (user_view shape list user).own in
     let lack = first_lacking own (fps_of shape recipe) in
     let entry = entry_at (user_view shape list user).files (tag, version) in
-    let a = added_from (commit_outcome lack entry (of_requests.Commit user tag version recipe) recipe).adds command e in
-    let c = commit_adds lack entry (of_requests.Commit user tag version recipe) recipe a.0 a.1 in
+    let c = commit_adds lack entry (commands.Commit user tag version recipe) recipe command e in
     let owned : All (Contains own) (fps_of shape recipe) = subst (FindsLacking own (fps_of shape recipe)) c.0 (finds own (fps_of shape recipe)) in
-    subst (IsLawfulFor shape list user) (sym (a.2 ∙ ap of_request c.2)) ((owned, c.1), refl)
-lawful_for shape cloud list (asking.Of (requests.GetRecipe user tag version)) command e = absurd (none_added command e)
-lawful_for shape cloud list (asking.Of (requests.GetShares user fps)) command e = absurd (none_added command e)
-lawful_for shape cloud list (asking.Of (requests.List user after)) command e = absurd (none_added command e)
-lawful_for shape cloud list (asking.Delete user tag version) command e =
+    subst (IsLawfulFor shape list user) (sym c.2) ((owned, c.1), refl)
+lawful_for shape cloud list (requests.GetRecipe user tag version) command e = absurd (let no : None ≡ Some command = e in cc)
+lawful_for shape cloud list (requests.GetShares user fps) command e = absurd (let no : None ≡ Some command = e in cc)
+lawful_for shape cloud list (requests.List user after) command e = absurd (let no : None ≡ Some command = e in cc)
+lawful_for shape cloud list (requests.Delete user tag version) command e =
     let entry = entry_at (user_view shape list user).files (tag, version) in
     let d = deletes_from entry (commands.Delete user tag version) command e in
     subst (IsLawfulFor shape list user) (sym d.1) (has_one entry (commands.Delete user tag version) command e, refl)
@@ -72,5 +68,5 @@ pub lawful : (shape : Shape) (cloud : ℕ) (list : List Command) (command : Comm
     → IsSound shape cloud list × IsLawful shape (user_view shape list (user_of command)) command
 lawful shape cloud list command sound =
     let added = sound_before shape cloud list command sound in
-    let l = lawful_for shape cloud list added.ask command added.adds in
+    let l = lawful_for shape cloud list added.request command added.adds in
     (added.sound, subst (λ (u : UserId). IsLawful shape (user_view shape list u) command) (sym l.1) l.0)

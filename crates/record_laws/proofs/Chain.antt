@@ -14,13 +14,13 @@ use Rattle.journal_start.specs.declared.rooms.Rooms.{Rooms}
 use Rattle.journal_start.specs.Ranges.{AreRooms}
 use Rattle.journal_start.specs.declared.start.Header.{Header}
 use Rattle.record_bodies.specs.Spelling.{Body}
-use Rattle.share_index.specs.declared.key.Place.{Place}
-use Rattle.command_list.specs.declared.command.Command.{Command}
-use Rattle.command_list.specs.Asking.{IsSound}
-use Rattle.command_list.specs.Commands.{held_bytes}
-use Rattle.command_list.specs.Spending.{IsWithin}
-use Rattle.command_list.proofs.Sound.{sound_before}
-use Rattle.command_list.proofs.Spending.{front_within}
+use Rattle.cd_base.specs.declared.place.Place.{Place}
+use Rattle.user_dedup.specs.declared.command.Command.{Command}
+use Rattle.user_dedup.specs.Dedup.{IsSound}
+use Rattle.user_dedup.specs.Cloud.{held_bytes}
+use Rattle.user_dedup.specs.Spending.{IsWithin}
+use Rattle.user_dedup.proofs.Sound.{sound_before}
+use Rattle.user_dedup.proofs.Spending.{front_within}
 use Rattle.cloud_areas.specs.Chains.{Says, Summed, Then, AreLong, BothHaveRoom}
 use Rattle.cloud_areas.specs.Placing.{shares_placed, shares_in}
 use Rattle.cloud_areas.specs.Standing.{Chain, region_in, Holds}

@@ -29,12 +29,12 @@ use Rattle.user_dedup.specs.Pages.{entry_at}
 use Rattle.user_dedup.specs.Requests.{fps_of as names_of}
 use Rattle.user_dedup.proofs.Owned.{among_contains, contains_among}
 use Rattle.user_dedup.proofs.Sound.{found_entry}
-use Rattle.command_list.specs.declared.command.Command.{Command}
-use Rattle.command_list.specs.Asking.{IsSound}
-use Rattle.command_list.specs.Commands.{user_view, named_by, named_in}
-use Rattle.command_list.specs.Spending.{Spent, nothing, spent_of, files_of}
-use Rattle.command_list.proofs.Filtered.{in_filter}
-use Rattle.command_list.proofs.Sound.{keys_apart}
+use Rattle.user_dedup.specs.declared.command.Command.{Command}
+use Rattle.user_dedup.specs.Dedup.{IsSound}
+use Rattle.user_dedup.specs.Cloud.{user_view, named_by, named_in}
+use Rattle.user_dedup.specs.Spending.{Spent, nothing, spent_of, files_of}
+use Rattle.user_dedup.proofs.Filtered.{in_filter}
+use Rattle.user_dedup.proofs.Sound.{keys_apart}
 use Rattle.cloud_areas.specs.Chains.{AreLong}
 use Rattle.cloud_areas.specs.Checkpoints.{put_body, of_user, fps_of, items_in, key_of, HasEntry, SpentIs, ListSpent, IsCheckpoint}
 use Rattle.cloud_areas.specs.Placing.{shares_in}

@@ -13,7 +13,7 @@ use Rattle.user_dedup.specs.Pages as pages
 use Rattle.user_dedup.specs.Pages.{entry_at}
 use Rattle.user_dedup.proofs.Owned.{contains_here, contains_later}
 use Rattle.user_dedup.proofs.Sound.{found_entry, no_entry}
-use Rattle.command_list.proofs.Filtered.{from_filter}
+use Rattle.user_dedup.proofs.Filtered.{from_filter}
 use Rattle.cloud_areas.specs.Checkpoints.{key_of}
 use Rattle.cloud_areas.proofs.Apart.{Apart, contains_get, one_by}
 use Rattle.cloud_areas.proofs.Counting.{split_at, beside}

@@ -11,13 +11,13 @@ use Rattle.user_dedup.specs.declared.file_list.FileEntry.{FileEntry}
 use Rattle.user_dedup.specs.declared.view.View.{View}
 use Rattle.user_dedup.proofs.Owned.{contains_nothing}
 use Rattle.user_dedup.proofs.Sound.{found_entry}
-use Rattle.command_list.specs.declared.command.Command.{Command}
-use Rattle.command_list.specs.declared.command.Command.TheVariants as commands
-use Rattle.command_list.specs.Asking.{IsSound}
-use Rattle.command_list.specs.Commands.{user_of, user_view}
-use Rattle.command_list.specs.Spending.{Spent, nothing, spent_of, files_of, IsWithin}
-use Rattle.command_list.proofs.Spending.{front_within}
-use Rattle.command_list.proofs.Views.{own_adds}
+use Rattle.user_dedup.specs.declared.command.Command.{Command}
+use Rattle.user_dedup.specs.declared.command.Command.TheVariants as commands
+use Rattle.user_dedup.specs.Dedup.{IsSound}
+use Rattle.user_dedup.specs.Cloud.{user_of, user_view}
+use Rattle.user_dedup.specs.Spending.{Spent, nothing, spent_of, files_of, IsWithin}
+use Rattle.user_dedup.proofs.Spending.{front_within}
+use Rattle.user_dedup.proofs.Views.{own_adds}
 use Rattle.cloud_areas.proofs.Room.{files_above, files_below, spent_above}
 use Rattle.cloud_memory.proofs.Lists.{and_more, spent_next}
 use Rattle.record_laws.proofs.Asked.{lawful}

@@ -21,8 +21,9 @@ use Rattle.record_body.specs.declared.body.PutItem.{PutItem}
 use Rattle.record_bodies.specs.declared.body.DeleteBody.{DeleteBody}
 use Rattle.record_bodies.specs.Spelling as bodies
 use Rattle.record_bodies.specs.Spelling.{Body}
-use Rattle.share_index.specs.declared.key.Place.{Place}
-use Rattle.share_index.specs.Order.{fp_cmp, owner_cmp, owner_of}
+use Rattle.cd_base.specs.declared.place.Place.{Place}
+use Rattle.share_index.specs.Order.{owner_cmp, owner_of}
+use Rattle.cd_base.specs.Order.{fp_cmp}
 use Rattle.spent_table.specs.Spending.{spent_by, both}
 use Rattle.user_dedup.specs.declared.file_list.FileEntry.{FileEntry}
 use Rattle.user_dedup.specs.declared.view.View.{View}
@@ -32,13 +33,13 @@ use Rattle.user_dedup.specs.Pages.{is_at, entry_at}
 use Rattle.user_dedup.specs.Requests.{fps_of as names_of}
 use Rattle.user_dedup.proofs.New.{are_new}
 use Rattle.user_dedup.proofs.Owned.{fp_same, among_contains, contains_among}
-use Rattle.command_list.specs.declared.command.Command.{Command}
-use Rattle.command_list.specs.declared.command.Command.TheVariants as commands
-use Rattle.command_list.specs.Asking.{IsSound}
-use Rattle.command_list.specs.Commands.{user_of, user_view, strings_in}
-use Rattle.command_list.specs.Spending.{files_of}
-use Rattle.command_list.proofs.Deleting.{at_its_key, entry_stays}
-use Rattle.command_list.proofs.Views.{own_adds, others_stay}
+use Rattle.user_dedup.specs.declared.command.Command.{Command}
+use Rattle.user_dedup.specs.declared.command.Command.TheVariants as commands
+use Rattle.user_dedup.specs.Dedup.{IsSound}
+use Rattle.user_dedup.specs.Cloud.{user_of, user_view, strings_in}
+use Rattle.user_dedup.specs.Spending.{files_of}
+use Rattle.user_dedup.proofs.Deleting.{at_its_key, entry_stays}
+use Rattle.user_dedup.proofs.Views.{own_adds, others_stay}
 use Rattle.cloud_areas.specs.Chains.{commit_of, PlacedNew, AreItems, IsRecord}
 use Rattle.cloud_areas.specs.Checkpoints.{fps_of}
 use Rattle.cloud_areas.specs.Placing.{places_given, shares_in}

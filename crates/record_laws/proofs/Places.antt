@@ -17,11 +17,11 @@ use Rattle.record_body.specs.declared.body.PutItem.{PutItem}
 use Rattle.record_bodies.specs.declared.body.KeptItem.{KeptItem}
 use Rattle.record_bodies.specs.Spelling as bodies
 use Rattle.record_bodies.specs.Spelling.{Body}
-use Rattle.share_index.specs.declared.key.Place.{Place}
-use Rattle.share_index.specs.Order.{fp_cmp}
+use Rattle.cd_base.specs.declared.place.Place.{Place}
+use Rattle.cd_base.specs.Order.{fp_cmp}
 use Rattle.user_dedup.proofs.Owned.{fp_same, contains_here, contains_nothing, contains_cases}
-use Rattle.command_list.specs.declared.command.Command.{Command}
-use Rattle.command_list.specs.Commands.{held_bytes}
+use Rattle.user_dedup.specs.declared.command.Command.{Command}
+use Rattle.user_dedup.specs.Cloud.{held_bytes}
 use Rattle.cloud_areas.specs.Placing.{places_given, places_kept, shares_placed, recipes_placed, shares_in, recipes_in, fps_placed, places_of, end_of, greatest_end, region_start, shares_end, recipes_end, HasPlace}
 use Rattle.cloud_areas.specs.Chains.{AreLong}
 use Rattle.cloud_areas.proofs.Apart.{Apart}

@@ -29,9 +29,9 @@ use Rattle.user_dedup.specs.Owning.{is_among}
 use Rattle.user_dedup.specs.Pages.{entry_at}
 use Rattle.user_dedup.specs.Requests.{fps_of as names_of}
 use Rattle.user_dedup.proofs.Owned.{contains_here, contains_later, contains_nothing, contains_cases}
-use Rattle.command_list.specs.declared.command.Command.{Command}
-use Rattle.command_list.specs.Commands.{user_view}
-use Rattle.command_list.specs.Spending.{spent_of}
+use Rattle.user_dedup.specs.declared.command.Command.{Command}
+use Rattle.user_dedup.specs.Cloud.{user_view}
+use Rattle.user_dedup.specs.Spending.{spent_of}
 use Rattle.cloud_areas.specs.Checkpoints.{PutRecord, put_body, of_user, fps_of, items_in, IsEntry, AreEntries}
 use Rattle.cloud_memory.specs.Memory.{Memory, times, as_spent}
 use Rattle.cloud_memory.specs.Steps.{with_item, with_items, with_kepts, with_entry, with_spent}

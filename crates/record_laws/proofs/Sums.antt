@@ -10,10 +10,10 @@ use Rattle.cd_base.specs.declared.shape.Shape.{Shape}
 use Rattle.journal_start.specs.declared.rooms.Rooms.{Rooms}
 use Rattle.spent_table.specs.declared.Spent.{Spent as Row}
 use Rattle.spent_table.specs.Spending.{nothing as no_row}
-use Rattle.command_list.specs.declared.command.Command.{Command}
-use Rattle.command_list.specs.Commands.{user_of, commands_of}
-use Rattle.command_list.specs.Spending.{Spent, spent_of, spent_by_all, IsWithin}
-use Rattle.command_list.proofs.Filtered.{in_filter}
+use Rattle.user_dedup.specs.declared.command.Command.{Command}
+use Rattle.user_dedup.specs.Cloud.{user_of, commands_of}
+use Rattle.user_dedup.specs.Spending.{Spent, spent_of, spent_by_all, IsWithin}
+use Rattle.user_dedup.proofs.Filtered.{in_filter}
 use Rattle.cloud_areas.proofs.Counting.{without_less, own_without, no_weight, all_nothing}
 use Rattle.cloud_areas.proofs.Room.{spent_above, shares_by, shares_sum, recipes_by, recipes_total}
 use Rattle.cloud_memory.specs.Memory.{Memory, Remembers}

@@ -21,10 +21,10 @@ use Rattle.spent_table.specs.declared.Spent.{Spent}
 use Rattle.user_dedup.specs.declared.file_list.FileEntry.{FileEntry}
 use Rattle.user_dedup.specs.Pages.{entry_at}
 use Rattle.user_dedup.specs.Requests.{fps_of}
-use Rattle.command_list.specs.declared.command.Command.{Command}
-use Rattle.command_list.specs.Asking.{IsSound}
-use Rattle.command_list.specs.Commands.{user_view}
-use Rattle.command_list.specs.Spending.{IsWithin}
+use Rattle.user_dedup.specs.declared.command.Command.{Command}
+use Rattle.user_dedup.specs.Dedup.{IsSound}
+use Rattle.user_dedup.specs.Cloud.{user_view}
+use Rattle.user_dedup.specs.Spending.{IsWithin}
 use Rattle.cloud_areas.specs.Chains.{least_shares, least_recipes}
 use Rattle.cloud_areas.specs.Placing.{region_start, shares_end, recipes_end}
 use Rattle.cloud_areas.specs.Standing.{Chain, region_in}

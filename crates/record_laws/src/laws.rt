@@ -6,7 +6,7 @@ ghost use Rattle.cd_edges.specs.Disk.{Image};
 ghost use Rattle.container_log.specs.Laying.{Placed, IsAt};
 ghost use Rattle.journal_start.specs.declared.start.Header.{Header};
 ghost use Rattle.record_bodies.specs.Spelling.{Body};
-ghost use Rattle.command_list.specs.declared.command.Command.{Command};
+ghost use Rattle.user_dedup.specs.declared.command.Command.{Command};
 ghost use Rattle.cloud_areas.specs.Chains.{IsRecord, AreLong, BothHaveRoom};
 ghost use Rattle.cloud_areas.specs.Checkpoints.{IsCheckpoint};
 ghost use Rattle.cloud_areas.specs.Placing.{shares_in};

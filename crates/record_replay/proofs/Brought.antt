@@ -22,7 +22,7 @@ use Rattle.user_dedup.specs.Owning.{is_among, first_lacking, new_strings}
 use Rattle.user_dedup.specs.Pages.{entry_at}
 use Rattle.user_dedup.specs.Requests.{fps_of, HasRecipe}
 use Rattle.user_dedup.specs.Dedup.{put_outcome, answer_over, IsSound}
-use Rattle.user_dedup.proofs.Sound.{put_adds, commit_adds, sound_before}
+use Rattle.user_dedup.proofs.Sound.{put_adds, commit_adds, deletes_from, sound_before}
 
 -- ---- new strings
 
@@ -91,6 +91,7 @@ pub record BringsRecipe (shape : Shape) (list : List Command) (user : UserId) (t
 abbrev pub Brings : Shape → List Command → Command → Type 0
 Brings shape list (commands.Put user strings) = BringsStrings shape list user strings
 Brings shape list (commands.Commit user tag version recipe) = BringsRecipe shape list user tag version recipe
+Brings shape list (commands.Delete user tag version) = Unit {0}
 
 some_new : (user : UserId) (ss : List (List ℕ)) (command : Command) → (put_outcome user ss).adds ≡ Some command → 1 ≤ length ss
 some_new user [] command e = absurd (let no : None ≡ Some command = e in cc)
@@ -119,6 +120,8 @@ brought shape cloud list (requests.Commit user tag version recipe) command fits 
 brought shape cloud list (requests.GetRecipe user tag version) command fits has e = absurd (let no : None ≡ Some command = e in cc)
 brought shape cloud list (requests.GetShares user fps) command fits has e = absurd (let no : None ≡ Some command = e in cc)
 brought shape cloud list (requests.List user after) command fits has e = absurd (let no : None ≡ Some command = e in cc)
+brought shape cloud list (requests.Delete user tag version) command fits has e =
+    subst (Brings shape list) (sym (deletes_from (entry_at (user_view shape list user).files (tag, version)) (commands.Delete user tag version) command e).1) tt
 
 pub brings : (shape : Shape) (cloud : ℕ) (list : List Command) (command : Command) → IsSound shape cloud (list ++ command ∷ []) → Brings shape list command
 brings shape cloud list command sound =

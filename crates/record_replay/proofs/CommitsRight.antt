@@ -90,5 +90,6 @@ module _ (shape : Shape) (list : List Command) (user : UserId) (tag : Tag) (vers
           shares = let l = within.shares in omega (arith, e, l);
           recipes = let l = has.blobs in omega (arith, end, l);
           journal = let l = has.journal_is in omega (arith, b, l);
+          undeleted = m.files.undeleted;
         },
       )

@@ -16,7 +16,7 @@ use Rattle.record_body.specs.Reading.{body_at}
 use Rattle.user_dedup.specs.declared.command.Command.{Command}
 use Rattle.user_dedup.specs.declared.command.Command.TheVariants as commands
 use Rattle.user_dedup.specs.Dedup.{IsSound}
-use Rattle.cloud_store.specs.Contents.{strings_in, shares_end, recipes_end}
+use Rattle.cloud_store.specs.Contents.{strings_in, shares_end, recipes_end, IsUndeleted}
 use Rattle.cloud_store.specs.Records.{record_after, journal_len}
 use Rattle.cloud_store.specs.Space.{IsWithin}
 use Rattle.cloud_store.proofs.Lists.{strings_more}
@@ -93,6 +93,7 @@ JudgedInside rooms areas old at body new answer (Commit c) = JudgedCommit (Enter
 pub record IsLast (shape : Shape) (cloud : ℕ) (rooms : Rooms) (areas : AreaLengths) (old : CloudIndex) (at : ℕ) (body : List ℕ) (list : List Command) (command : Command) : Type 0 where
   pub remembers : Remembers shape list old
   pub sound : IsSound shape cloud (list ++ command ∷ [])
+  pub undeleted : IsUndeleted (command ∷ [])
   pub written : body ≡ body_bytes (record_after list command)
   pub within : IsWithin rooms list
   pub place : at ≡ journal_len list + 4
@@ -112,7 +113,7 @@ module _ (shape : Shape) (cloud : ℕ) (rooms : Rooms) (areas : AreaLengths) (ol
       let b = last.recipes in
       let c = fit.shares in
       let d = fit.recipes in
-      is_read shape list command body (brings shape cloud list command last.sound) (record { shares = omega (arith, a, c); recipes = omega (arith, b, d) }) last.written
+      is_read shape list command body last.undeleted (brings shape cloud list command last.sound) (record { shares = omega (arith, a, c); recipes = omega (arith, b, d) }) last.written
 
   pub no_err : (err : BodyErr) → body_at body ≡ Err err → ⊥
   no_err err e = let no : Err err ≡ Ok (record_after list command) = sym e ∙ read_so in cc
@@ -130,6 +131,7 @@ module _ (shape : Shape) (cloud : ℕ) (rooms : Rooms) (areas : AreaLengths) (ol
           rooms old new answer last.remembers last.within last.place last.written judged
       go (commands.Commit user tag version recipe) last b judged =
           commit_taken shape list user tag version recipe areas.recipes at body b last.recipes rooms old new answer last.remembers last.within last.place last.written judged
+      go (commands.Delete user tag version) last b judged = absurd last.undeleted
 
 -- ---- what a view reads
 

@@ -15,8 +15,9 @@ use Rattle.record_body.specs.declared.body.FoundItem.{FoundItem}
 use Rattle.record_body.specs.declared.body.PutItem.{PutItem}
 use Rattle.record_body.specs.Spelling.{Body, Put, Commit, item_bytes}
 use Rattle.record_body.specs.Reading.{body_at}
-use Rattle.share_index.specs.declared.key.Place.{Place}
-use Rattle.share_index.specs.Order.{fp_cmp, owner_cmp, owner_of}
+use Rattle.cd_base.specs.declared.place.Place.{Place}
+use Rattle.share_index.specs.Order.{owner_cmp, owner_of}
+use Rattle.cd_base.specs.Order.{fp_cmp}
 use Rattle.share_index.specs.Shares.{Shares}
 use Rattle.cloud_index.specs.declared.index.CloudIndex.{CloudIndex}
 use Rattle.cloud_index.specs.Taking.{places_with, end_with, TakesItem, TakesCommit}

@@ -142,5 +142,6 @@ module _ (shape : Shape) (list : List Command) (user : UserId) (strings : List (
           shares = let m = has.blobs in omega (arith, end, m);
           recipes = let m = within.recipes in omega (arith, d, m);
           journal = let m = has.journal_is in omega (arith, e, m);
+          undeleted = t.remembers.files.undeleted;
         },
       )

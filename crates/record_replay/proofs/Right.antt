@@ -10,7 +10,7 @@ use Rattle.file_index.specs.Files.{key_of}
 use Rattle.message_fields.specs.Shares.{IsShare}
 use Rattle.record_body.specs.declared.body.CommitBody.{CommitBody}
 use Rattle.record_body.specs.declared.body.PutItem.{PutItem}
-use Rattle.share_index.specs.declared.key.Place.{Place}
+use Rattle.cd_base.specs.declared.place.Place.{Place}
 use Rattle.share_index.specs.Order.{owner_of}
 use Rattle.user_dedup.specs.declared.command.Command.{Command}
 use Rattle.user_dedup.specs.declared.command.Command.TheVariants as commands
@@ -94,7 +94,7 @@ right_commit shape list index area user tag version recipe r b far =
     let behind = least.behind in
     let end = r.recipes_end in
     let within = recipe_end list (commands.Commit user tag version recipe) recipe (recipes_more list (commands.Commit user tag version recipe)) in
-    let none : get index.files.files (key_of user.0 tag.0 version.0) ≡ None = r.files.files (key_of user.0 tag.0 version.0) ∙ (none_entered shape list user tag version).1 b.new in
+    let none : get index.files.files (key_of user.0 tag.0 version.0) ≡ None = r.files.files (key_of user.0 tag.0 version.0) ∙ (none_entered shape list user tag version r.files.undeleted).1 b.new in
     record {
       lies = (few, record { behind = omega (arith, end, behind); in_one = least.in_one; within = omega (arith, within, far) });
       new = λ there. let some : is_some (get index.files.files (key_of user.0 tag.0 version.0)) ≡ true = there in let no : false ≡ true = sym (ap is_some none) ∙ some in cc;

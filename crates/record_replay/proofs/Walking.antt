@@ -6,7 +6,7 @@ use Rattle.cd_base.specs.declared.rooms.Rooms.{Rooms}
 use Rattle.record_body.specs.declared.body.FoundItem.{FoundItem}
 use Rattle.record_body.specs.declared.body.PutItem.{PutItem}
 use Rattle.record_body.specs.InPlace.{Walk, StepsOver}
-use Rattle.share_index.specs.declared.key.Place.{Place as Spot}
+use Rattle.cd_base.specs.declared.place.Place.{Place as Spot}
 use Rattle.cloud_index.specs.declared.index.CloudIndex.{CloudIndex}
 use Rattle.cloud_index.specs.Memory.{HasRooms, HasShareRoom}
 use Rattle.record_replay.specs.Checks.{damaged_at, Lies, IsRightItem, IsItemFault, Owned, Flag, Place}

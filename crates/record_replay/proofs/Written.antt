@@ -14,7 +14,7 @@ use Rattle.user_dedup.specs.declared.command.Command.{Command}
 use Rattle.user_dedup.specs.declared.command.Command.TheVariants as commands
 use Rattle.user_dedup.specs.Cloud.{fingerprint}
 use Rattle.user_dedup.specs.Owning.{is_among}
-use Rattle.cloud_store.specs.Contents.{strings_in, distinct, fresh_after, shares_end, recipes_in, recipes_end}
+use Rattle.cloud_store.specs.Contents.{strings_in, distinct, fresh_after, shares_end, recipes_in, recipes_end, IsUndeleted}
 use Rattle.cloud_store.specs.Records.{item_after, items_after, record_after}
 use Rattle.cloud_store.proofs.Distinct.{fresh_new}
 use Rattle.cloud_store.proofs.Laying.{end-append, shares_end-append, end_behind}
@@ -74,15 +74,15 @@ pub record EndsFit (list : List Command) : Type 0 where
   pub shares : shares_end (strings_in list) < 2 ^ 64
   pub recipes : recipes_end list < 2 ^ 64
 
-record_fits : (shape : Shape) (list : List Command) (command : Command) → Brings shape list command → EndsFit (list ++ command ∷ []) → FitsBody (record_after list command)
-record_fits shape list (commands.Put user strings) b ends =
+record_fits : (shape : Shape) (list : List Command) (command : Command) → IsUndeleted (command ∷ []) → Brings shape list command → EndsFit (list ++ command ∷ []) → FitsBody (record_after list command)
+record_fits shape list (commands.Put user strings) none b ends =
     let long = length-after (strings_in list) strings in
     let some = b.some in
     let few = b.few in (
       b.user_fits,
       ((omega (arith, long, some), omega (arith, long, few)), items_fit (strings_in list) strings b.shares (subst (λ (l : List (List ℕ)). shares_end l < 2 ^ 64) (strings_more list (commands.Put user strings)) ends.shares)),
     )
-record_fits shape list (commands.Commit user tag version recipe) b ends =
+record_fits shape list (commands.Commit user tag version recipe) none b ends =
     let end = recipe_end list (commands.Commit user tag version recipe) recipe (recipes_more list (commands.Commit user tag version recipe)) in
     let far = ends.recipes in
     let some = b.some in
@@ -96,8 +96,9 @@ record_fits shape list (commands.Commit user tag version recipe) b ends =
       few = omega (arith, few);
       fp = length-sha256 recipe;
     }
+record_fits shape list (commands.Delete user tag version) none b ends = absurd none
 
 -- the record is read
-pub is_read : (shape : Shape) (list : List Command) (command : Command) (body : List ℕ) → Brings shape list command → EndsFit (list ++ command ∷ [])
+pub is_read : (shape : Shape) (list : List Command) (command : Command) (body : List ℕ) → IsUndeleted (command ∷ []) → Brings shape list command → EndsFit (list ++ command ∷ [])
     → body ≡ body_bytes (record_after list command) → body_at body ≡ Ok (record_after list command)
-is_read shape list command body b ends is = ap body_at is ∙ again (record_after list command) (record_fits shape list command b ends)
+is_read shape list command body none b ends is = ap body_at is ∙ again (record_after list command) (record_fits shape list command none b ends)

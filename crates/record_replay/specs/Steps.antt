@@ -3,7 +3,7 @@ use Rattle.std.specs.Prelude.{◌≡◌, ℕ, ◌+◌, ◌≤◌, List, [], ◌�
 use Rattle.std.specs.FinMap.{len}
 use Rattle.cd_base.specs.declared.ids.UserId.{UserId}
 use Rattle.cd_base.specs.declared.shape.Shape.{Shape}
-use Rattle.index_base.specs.declared.Accounts.TheVariants.{Shared}
+use Rattle.pool_map.specs.declared.accounts.Accounts.TheVariants.{Shared}
 use Rattle.record_body.specs.declared.body.CommitBody.{CommitBody}
 use Rattle.record_body.specs.declared.body.PutItem.{PutItem}
 use Rattle.record_body.specs.Spelling as bodies

@@ -5,7 +5,7 @@ ghost use Rattle.cd_base.specs.declared.shape.Shape.{Shape};
 ghost use Rattle.record_body.specs.Spelling.{body_bytes};
 ghost use Rattle.user_dedup.specs.declared.command.Command.{Command};
 ghost use Rattle.user_dedup.specs.Dedup.{IsSound};
-ghost use Rattle.cloud_store.specs.Contents.{strings_in, shares_end, recipes_end};
+ghost use Rattle.cloud_store.specs.Contents.{strings_in, shares_end, recipes_end, IsUndeleted};
 ghost use Rattle.cloud_store.specs.Records.{record_after, journal_len};
 ghost use Rattle.cloud_store.specs.Space.{IsWithin};
 ghost use Rattle.cloud_index.specs.Memory.{Remembers, HasRooms};
@@ -50,7 +50,8 @@ pub fn replay(
     requires place { 5 ≤ at }
     requires end { at + length body.now < 2 ^ 64 }
     ensures rooms { HasRooms rooms.now index.new }
-    ensures taken { (shape : Shape) (cloud : ℕ) (list : List Command) (command : Command) → Remembers shape list index.old → IsSound shape cloud (list ++ command ∷ [])
+    ensures taken { (shape : Shape) (cloud : ℕ) (list : List Command) (command : Command)
+        → Remembers shape list index.old → IsSound shape cloud (list ++ command ∷ []) → IsUndeleted (command ∷ [])
         → body.now ≡ body_bytes (record_after list command) → IsWithin rooms.now list → at ≡ journal_len list + 4
         → shares_end (strings_in (list ++ command ∷ [])) ≤ areas.now.shares → recipes_end (list ++ command ∷ []) ≤ areas.now.recipes
         → MatchResult result (λ _. Remembers shape (list ++ command ∷ []) index.new × IsWithin rooms.now (list ++ command ∷ []))

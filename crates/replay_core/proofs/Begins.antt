@@ -26,10 +26,10 @@ use Rattle.transcript.specs.declared.line.Line.TheVariants as lines
 use Rattle.transcript.specs.Transcript.{line_text}
 use Rattle.session.specs.Scripts.{Place, Begins, Reaches, IsWrongFirst}
 use Rattle.session.specs.Texts.{text_of}
-use Rattle.vault.specs.Vault.{Setting, opening}
-use Rattle.vault.specs.Run.{IsListIn}
-use Rattle.vault.specs.Headline.{Session, IsRun}
-use Rattle.vault.proofs.Faults.{faults_rose}
+use Rattle.session_model.specs.Vault.{Setting, opening}
+use Rattle.session_model.specs.Run.{IsListIn}
+use Rattle.session_model.specs.Headline.{Session, IsRun}
+use Rattle.session_model.proofs.Faults.{faults_rose}
 use Rattle.replay_core.specs.declared.end.ReplayEnd.{ReplayEnd}
 use Rattle.replay_core.specs.declared.end.ReplayEnd.TheVariants as ends
 use Rattle.replay_core.specs.Endings.{HasReadSome, HasHeader, IsDue}

@@ -16,7 +16,7 @@ use Rattle.cloud_opening.specs.Replied.{IsOkOrFault}
 use Rattle.cloud_store.specs.Standing.{StandsForSome}
 use Rattle.share_server.proofs.NoCommands.{empty_stands}
 use Rattle.local_link.specs.Calls.{header_of}
-use Rattle.opening_damage.specs.Damage.{IsDamage}
+use Rattle.share_server.specs.Damage.{IsDamage}
 use Rattle.replay_core.specs.declared.end.ReplayEnd.{ReplayEnd}
 use Rattle.replay_core.specs.declared.end.ReplayEnd.TheVariants as ends
 use Rattle.replay_core.specs.Endings.{IsFirstFilled}

@@ -25,10 +25,10 @@ use Rattle.transcript.specs.declared.line.Line.TheVariants as lines
 use Rattle.transcript.specs.Transcript.{line_text}
 use Rattle.session.specs.Scripts.{jobs_after, jobs_of, AreLines, Place, Says, Leads, Reaches}
 use Rattle.session.specs.Texts.{text_of}
-use Rattle.vault.specs.Vault.{Setting, Vault, opening}
-use Rattle.vault.specs.Steps.{Moment, VStep}
-use Rattle.vault.specs.Run.{Answered, Turns, script_of, moments_of, answers_of, IsListIn}
-use Rattle.vault.specs.Headline.{Begun, IsPartOf, event_of, moments_begun}
+use Rattle.session_model.specs.Vault.{Setting, Vault, opening}
+use Rattle.session_model.specs.Steps.{Moment, VStep}
+use Rattle.session_model.specs.Run.{Answered, Turns, script_of, moments_of, answers_of, IsListIn}
+use Rattle.session_model.specs.Headline.{Begun, IsPartOf, event_of, moments_begun}
 use Rattle.script_lines.specs.At.{LinkAt, Leaves}
 use Rattle.script_lines.specs.Does.{Goes, IsLeft, Cut}
 use Rattle.replay_core.specs.Replayed.{BeginsEmpty}

@@ -20,10 +20,10 @@ use Rattle.transcript.specs.declared.line.Line.TheVariants as lines
 use Rattle.transcript.specs.Transcript.{line_text}
 use Rattle.session.specs.Scripts.{jobs_after, Place, Begins, Reaches, IsEnd, IsWrong, IsWrongFirst}
 use Rattle.session.specs.Texts.{text_of}
-use Rattle.vault.specs.Vault.{Setting, Vault}
-use Rattle.vault.specs.Run.{Answered, script_of, answers_of}
-use Rattle.vault.specs.Headline.{Session, Begun, IsRun, due, event_of, GivesAcknowledged, GivesFromMore, DisksKeep, AnswersPrivately}
-use Rattle.vault.proofs.Faults.{faults_rose}
+use Rattle.session_model.specs.Vault.{Setting, Vault}
+use Rattle.session_model.specs.Run.{Answered, script_of, answers_of}
+use Rattle.session_model.specs.Headline.{Session, Begun, IsRun, due, event_of, GivesAcknowledged, GivesFromMore, DisksKeep, AnswersPrivately}
+use Rattle.session_model.proofs.Faults.{faults_rose}
 use Rattle.script_lines.specs.At.{Leaves}
 use Rattle.replay_core.specs.declared.end.ReplayEnd.{ReplayEnd}
 use Rattle.replay_core.specs.declared.end.ReplayEnd.TheVariants as ends

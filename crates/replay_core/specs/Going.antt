@@ -21,8 +21,8 @@ use Rattle.transcript.specs.declared.line.Line.{Line}
 use Rattle.transcript.specs.declared.line.Line.TheVariants as lines
 use Rattle.session.specs.Scripts.{jobs_after, jobs_of, AreLines, Place, Says, Reaches, IsEnd, IsWrong}
 use Rattle.session.specs.Texts.{text_of}
-use Rattle.vault.specs.Vault.{Setting, Vault, opening}
-use Rattle.vault.specs.Run.{Answered, Turns, script_of, moments_of, answers_of, IsListIn}
+use Rattle.session_model.specs.Vault.{Setting, Vault, opening}
+use Rattle.session_model.specs.Run.{Answered, Turns, script_of, moments_of, answers_of, IsListIn}
 use Rattle.script_lines.specs.declared.error.CarryErr.{CarryErr}
 use Rattle.script_lines.specs.declared.error.CarryErr.TheVariants as carry_errors
 use Rattle.script_lines.specs.At.{IsAt}

@@ -20,7 +20,7 @@ use Rattle.session.specs.declared.lines.LineErr.TheVariants as line_errors
 use Rattle.session.specs.declared.reading.ScriptErr.{ScriptErr}
 use Rattle.session.specs.declared.reading.ScriptErr.TheVariants as script_errors
 use Rattle.session.specs.Scripts.{Place, Begins, IsWrongFirst}
-use Rattle.opening_damage.specs.Damage.{IsDamage}
+use Rattle.share_server.specs.Damage.{IsDamage}
 use Rattle.replay_core.specs.declared.end.ReplayEnd.{ReplayEnd}
 use Rattle.replay_core.specs.declared.end.ReplayEnd.TheVariants as ends
 use Rattle.replay_core.specs.Endings.{IsEmptyAt, AreEmptyBefore, IsFirstFilled}

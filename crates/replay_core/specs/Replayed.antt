@@ -12,8 +12,8 @@ use Rattle.session.specs.Texts.{text_of}
 use Rattle.transcript.specs.Transcript.{line_text}
 use Rattle.replay_core.specs.declared.end.ReplayEnd.{ReplayEnd}
 use Rattle.replay_core.specs.declared.end.ReplayEnd.TheVariants as ends
-use Rattle.vault.specs.Headline.{Session, IsRun, due, GivesAcknowledged, GivesFromMore, DisksKeep, DisksStand, AnswersPrivately}
-use Rattle.vault.specs.Faults.{FaultsRose}
+use Rattle.session_model.specs.Headline.{Session, IsRun, due, GivesAcknowledged, GivesFromMore, DisksKeep, DisksStand, AnswersPrivately}
+use Rattle.session_model.specs.Faults.{FaultsRose}
 use Rattle.replay_core.specs.Endings.{Call, EndingLine, NoEnding, DoneEnding, ScriptEnding, ShelfEnding, StoreEnding, DamagedEnding, IsDue, HasCause}
 
 -- No count of a cloud is above the shelf's, its armings are the shelf's, and with status 0 its faults too.

@@ -13,13 +13,13 @@ ghost use Rattle.replay_core.specs.Going.{CanBe, SaysNext, SaysEvent, EndsReadin
 
 use crate::ReplayEnd;
 use crate::writing::write_text;
-use answers::Answer;
 use cd_base::Shape;
 use cd_edges::{Shelf, Sink, Source};
 use local_link::LocalLink;
 use script_lines::{Buffers, CarryErr, Jobs, carry_out};
 use session::{Event, LineErr, LineReader, ScriptErr};
 use std::alloc::Global;
+use transcript::Answer;
 
 /// The end of a replay whose line of this number says nothing.
 pub fn end_of_line(line: u64, error: ScriptErr) -> ReplayEnd

@@ -19,8 +19,8 @@ use cd_base::{CloudNo, Rooms, Shape};
 use cd_edges::{Area, Failed, Shelf, Source};
 use commit_journal::OpenErr;
 use local_link::LocalLink;
-use opening_damage::damage_of;
 use session::LineReader;
+use share_server::damage_of;
 
 // What the first line says, or how the replay ends there.
 fn header_of_line(reader: &LineReader) -> Result<(Shape, Rooms), ReplayEnd>

@@ -6,7 +6,7 @@ ghost use Rattle.cloud_store.specs.Space.{IsWithin};
 ghost use Rattle.share_server.specs.declared.server.Server.{Server};
 ghost use Rattle.local_link.specs.Tells.{server_at};
 ghost use Rattle.session.specs.Lines.{script_limit};
-ghost use Rattle.vault.specs.Vault.{Setting};
+ghost use Rattle.session_model.specs.Vault.{Setting};
 ghost use Rattle.script_lines.specs.Jobs.{AreReached};
 ghost use Rattle.replay_core.specs.Endings.{Call};
 ghost use Rattle.replay_core.specs.Replayed.{Replays};
@@ -17,14 +17,13 @@ use crate::ReplayEnd;
 use crate::lines::{answer_line, next_event};
 use crate::opening::{empty_clouds, first_line, open_clouds};
 use crate::writing::write_one;
-use answers::Answer;
 use cd_edges::{Shelf, Sink, Source};
 use local_link::{LocalLink, Servers};
 use script_lines::{Buffers, Jobs};
 use session::LineReader;
+use session_model::{law_of_acknowledged, law_of_moments, law_of_own_replies};
 use std::alloc::Global;
-use transcript::Line;
-use vault::{law_of_acknowledged, law_of_moments, law_of_own_replies};
+use transcript::{Answer, Line};
 
 // Carries the lines out, one after another, to the end of the script, and writes what is answered to each and at last
 // `done`. The clouds are opened, and `open` is written.

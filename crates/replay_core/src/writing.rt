@@ -6,10 +6,9 @@ ghost use Rattle.transcript.specs.Transcript.{line_text};
 ghost use Rattle.replay_core.specs.Going.{EndsSink, EndsWriting};
 
 use crate::ReplayEnd;
-use answers::Answer;
 use cd_edges::{Failed, Sink};
 use std::alloc::Global;
-use transcript::Line;
+use transcript::{Answer, Line};
 
 /// Writes this text, and drops it. Where the sink fails a front of it was written.
 pub fn write_text<K: Sink>(alloc: Global, sink: &mut K, text: &mut Answer) -> Result<(), ReplayEnd>

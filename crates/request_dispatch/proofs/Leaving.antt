@@ -99,6 +99,7 @@ module _ (c0 c1 : Cloud) (i0 i1 : CloudIndex) (stays : Stays c0 c1) (told_same :
   found_now (requests.GetRecipe user tag version) named found f = recipe_now (key_of user.0 tag.0 version.0) named found f
   found_now (requests.GetShares user fps) named found f = (f.0, share_now named found f.1)
   found_now (requests.List user after) named found f = tt
+  found_now (requests.Delete user tag version) named found f = tt
 
 pub read_found : {T E : Type 0} (r : Result T E) (P : Type 0) (c0 c1 : Cloud) (i0 i1 : CloudIndex) (request : Request) (named found : Fp) → Stays c0 c1 → c1.told ≡ c0.told → i1 ≡ i0
     → OnOk r (P → IsFound c0 i0 request named found) → OnOk r (P → IsFound c1 i1 request named found)

@@ -1,4 +1,5 @@
 pub mod Places
 pub mod Rotting
 pub mod Leaving
+pub mod Deletions
 pub mod Still

@@ -37,6 +37,7 @@ behind_front content (requests.Commit user tag version recipe) is few =
 behind_front content (requests.GetRecipe user tag version) is few = omega arith
 behind_front content (requests.GetShares user fps) is few = omega arith
 behind_front content (requests.List user after) is few = omega arith
+behind_front content (requests.Delete user tag version) is few = omega arith
 
 -- what is asked has each field in its range
 pub ranged : (shape : Shape) (content : List ℕ) (q : Request) (r : Result Asked ℕ) → AreBytes content → request_at content ≡ Ok q

@@ -22,6 +22,7 @@ request_of (asks.Commit user tag version recipe) = requests.Commit user tag vers
 request_of (asks.GetRecipe user tag version) = requests.GetRecipe user tag version
 request_of (asks.GetShares user fps) = requests.GetShares user fps
 request_of (asks.List user after) = requests.List user after
+request_of (asks.Delete user tag version) = requests.Delete user tag version
 
 -- a Commit's recipe keeps the rules of this shape
 abbrev pub IsOfShape : Shape → Asked → Type 0
@@ -32,6 +33,7 @@ IsOfShape shape (asks.Commit user tag version recipe) = Fits shape recipe
 IsOfShape shape (asks.GetRecipe user tag version) = Unit {0}
 IsOfShape shape (asks.GetShares user fps) = Unit {0}
 IsOfShape shape (asks.List user after) = Unit {0}
+IsOfShape shape (asks.Delete user tag version) = Unit {0}
 
 -- the bytes of a Commit's recipe
 abbrev pub recipe_in : Request → List ℕ
@@ -42,6 +44,7 @@ recipe_in (requests.Commit user tag version recipe) = recipe
 recipe_in (requests.GetRecipe user tag version) = []
 recipe_in (requests.GetShares user fps) = []
 recipe_in (requests.List user after) = []
+recipe_in (requests.Delete user tag version) = []
 
 -- a request that a server answers by its memory alone
 abbrev pub IsForMemory : Request → Type 0
@@ -52,6 +55,7 @@ IsForMemory (requests.Commit user tag version recipe) = ⊥
 IsForMemory (requests.GetRecipe user tag version) = ⊥
 IsForMemory (requests.GetShares user fps) = ⊥
 IsForMemory (requests.List user after) = Unit {0}
+IsForMemory (requests.Delete user tag version) = Unit {0}
 
 -- What the reply Rotten says of a share or a recipe: it names one that the request asks for, or the entry that a Commit finds, and the
 -- other fingerprint is that of what lies at its place.
@@ -63,3 +67,4 @@ IsFound cloud index (requests.Commit user tag version recipe) named found = IsFo
 IsFound cloud index (requests.GetRecipe user tag version) named found = IsFoundRecipe cloud index (key_of user.0 tag.0 version.0) named found
 IsFound cloud index (requests.GetShares user fps) named found = Contains fps named × IsFoundShare cloud index named found
 IsFound cloud index (requests.List user after) named found = Unit {0}
+IsFound cloud index (requests.Delete user tag version) named found = Unit {0}

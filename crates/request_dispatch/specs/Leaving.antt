@@ -17,7 +17,7 @@ EntersNothing (replies.Lacking place) = Unit {0}
 EntersNothing (replies.Full room used need limit) = Unit {0}
 EntersNothing reply = ⊥
 
--- to GetRecipe: there is no such version
+-- to GetRecipe and Delete: there is no such version
 abbrev pub FindsNone : Reply → Type 0
 FindsNone replies.Missing = Unit {0}
 FindsNone reply = ⊥
@@ -36,3 +36,4 @@ LeavesAll (requests.Commit user tag version recipe) reply = EntersNothing reply
 LeavesAll (requests.GetRecipe user tag version) reply = FindsNone reply
 LeavesAll (requests.GetShares user fps) reply = FindsForeign reply
 LeavesAll (requests.List user after) reply = ⊥
+LeavesAll (requests.Delete user tag version) reply = FindsNone reply

@@ -51,6 +51,12 @@ pub enum Asked<'a> {
         user: UserId,
         after: Option<(Tag, Version)>,
     },
+    /// Take this version of the user's file out.
+    Delete {
+        user: UserId,
+        tag: Tag,
+        version: Version,
+    },
 }
 
 // The place in front of the recipe of a Commit.
@@ -107,6 +113,7 @@ fn asked_of(shape: Shape, view: RequestView<'_>) -> Result<Asked<'_>, u32>
         }),
         RequestView::GetShares { user, fps } => Ok(Asked::GetShares { user, fps }),
         RequestView::List { user, after } => Ok(Asked::List { user, after }),
+        RequestView::Delete { user, tag, version } => Ok(Asked::Delete { user, tag, version }),
     }
 }
 

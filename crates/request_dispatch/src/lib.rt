@@ -2,6 +2,7 @@
 #![tactic(auto)]
 
 mod asked;
+mod deleting;
 mod reading;
 mod serving;
 

@@ -18,6 +18,7 @@ ghost use Rattle.request_dispatch.specs.Asking.{IsOfShape, request_of, IsForMemo
 ghost use Rattle.request_dispatch.specs.Leaving.{LeavesAll};
 
 use crate::Asked;
+use crate::deleting::refuse_delete;
 use crate::reading::{send_recipe, send_shares};
 use cd_edges::{Failed, Shelf};
 use cloud_state::CloudState;
@@ -28,7 +29,8 @@ use read_replies::{entries, hello, known};
 
 /// Executes a request by an open server. The reply becomes the content: the one that the list gives on which the server's memory
 /// and its cloud agree, and the list has one command more where the request adds one. Requests that add none leave the areas and
-/// the memory as they were; Hello, Query and List call no device.
+/// the memory as they were; Hello, Query, List and Delete call no device. A Delete adds none: it is Missing, or Full of the
+/// journal, which has no record of one.
 ///
 /// Over a cloud of which nothing is known the reply is still one for the request, and neither Fault nor Damaged nor NoMemory. A
 /// reply that says that nothing is stored, entered or read (Stored with 0, Full, Lacking, Missing, NotYours) comes with
@@ -119,6 +121,10 @@ pub fn dispatch<V: Shelf>(
         Asked::GetShares { user, fps } => send_shares(state, shelf, *user, fps, reply),
         Asked::List { user, after } => {
             entries(&state.index, *user, *after, reply);
+            Ok(())
+        }
+        Asked::Delete { user, tag, version } => {
+            refuse_delete(state, *user, tag, *version, reply);
             Ok(())
         }
     }

@@ -5,8 +5,8 @@ use Rattle.std.specs.List.{Contains}
 use Rattle.std.proofs.lemmas.List.Elements.{All-nil, All-cons, All-head, All-tail}
 use Rattle.cd_base.specs.declared.ids.CloudNo.{CloudNo}
 use Rattle.user_dedup.proofs.Owned.{contains_here, contains_later, contains_cases, contains_nothing}
-use Rattle.hellos.specs.Hellos.{clouds_of}
-use Rattle.fetched_files.proofs.Lists.{Apart, NoneIs}
+use Rattle.ports_link.specs.Hellos.{clouds_of}
+use Rattle.restore_command.proofs.Lists.{Apart, NoneIs}
 use Rattle.restore_command.specs.Calls.{named_in, ports_of}
 
 -- the line of a cloud

@@ -15,15 +15,15 @@ use Rattle.restore_job.proofs.Speaking.{unlost_as}
 use Rattle.restore_job.specs.Brought.{Brought}
 use Rattle.restore_job.specs.declared.error.RestoreErr.{RestoreErr}
 use Rattle.restore_job.specs.declared.error.RestoreErr.TheVariants as errors
-use Rattle.hellos.specs.Hellos.{HaveTalks, clouds_of}
-use Rattle.hellos.specs.declared.greeting.Greeted.{Greeted}
+use Rattle.ports_link.specs.Hellos.{HaveTalks, clouds_of}
+use Rattle.ports_link.specs.declared.greeting.Greeted.{Greeted}
 use Rattle.subset_restore.specs.Subsets.{subsets}
 use Rattle.subset_restore.specs.Tries.{Try, GoneThrough, NoneYet, Passed, Refused, HoldsRefuser}
 use Rattle.subset_restore.specs.Ends.{AllRefused, AnyEnds, Came, NoneCame, OneRestore}
 use Rattle.subset_restore.proofs.Calling.{none_by}
 use Rattle.subset_restore.proofs.Choices.{only_choice, subset_among}
 use Rattle.subset_restore.proofs.Elements.{all_of, contains_back, contains_front, of_all}
-use Rattle.fetched_files.proofs.Lists.{Apart, apart}
+use Rattle.restore_command.proofs.Lists.{Apart, apart}
 use Rattle.restore_command.specs.Calls.{Call, named_in}
 use Rattle.restore_command.specs.Spoken.{none_ended}
 use Rattle.restore_command.specs.Tried.{AreRefused, CameBy, FileFrom, IsFetch, IsStop, NotFrom}

@@ -1,7 +1,13 @@
-pub mod Passing
-pub mod Lines
+pub mod Batches
 pub mod Choosing
-pub mod Saying
-pub mod Walking
 pub mod Coming
+pub mod Items
+pub mod Lines
+pub mod Lists
+pub mod Passing
+pub mod Runs
+pub mod Saying
+pub mod Talks
 pub mod Unfetched
+pub mod Walking
+pub mod Whole

@@ -11,8 +11,8 @@ use Rattle.cd_base.specs.declared.shape.Shape.{Shape}
 use Rattle.user_dedup.proofs.Owned.{contains_here, contains_later, contains_cases, contains_nothing}
 use Rattle.ports_link.specs.declared.lines.Line.{Line}
 use Rattle.ports_link.specs.Lines.{line_of, lines_for, no_line, with_ports}
-use Rattle.hellos.specs.Hellos.{clouds_of}
-use Rattle.fetched_files.proofs.Lists.{Apart, NoneIs, apart}
+use Rattle.ports_link.specs.Hellos.{clouds_of}
+use Rattle.restore_command.proofs.Lists.{Apart, NoneIs, apart}
 use Rattle.restore_command.specs.Calls.{named_in, ports_of}
 use Rattle.restore_command.proofs.Passing.{AreOn}
 

@@ -20,12 +20,12 @@ use Rattle.ports_link.specs.Lines.{line_of}
 use Rattle.ports_link.specs.Tells.{HasComing, HasTalk}
 use Rattle.restore_job.specs.Exchanges.{Exchange, HasSpoken, RestoreSaid, behind_all}
 use Rattle.restore_job.specs.declared.error.RestoreErr.{RestoreErr}
-use Rattle.hellos.specs.Hellos.{clouds_of}
-use Rattle.fetched_files.specs.Fetched.{Each, Fetched, NoMore, OneMore}
-use Rattle.fetched_files.specs.Stopped.{Stopped}
-use Rattle.fetched_files.specs.Talks.{HasHeard, first_replies, received_in, sent_in}
-use Rattle.fetched_files.proofs.Talks.{has_heard}
-use Rattle.fetched_files.proofs.Whole.{fetched_file, stopped_fetch}
+use Rattle.ports_link.specs.Hellos.{clouds_of}
+use Rattle.restore_command.specs.Fetched.{Each, Fetched, NoMore, OneMore}
+use Rattle.restore_command.specs.Stopped.{Stopped}
+use Rattle.restore_command.specs.Talks.{HasHeard, first_replies, received_in, sent_in}
+use Rattle.restore_command.proofs.Talks.{has_heard}
+use Rattle.restore_command.proofs.Whole.{fetched_file, stopped_fetch}
 use Rattle.subset_restore.proofs.Elements.{all_of, of_all}
 use Rattle.restore_command.specs.Calls.{Call, named_in, ports_of, tag_in}
 use Rattle.restore_command.specs.Spoken.{HasTalked, HaveTalked, none_ended}

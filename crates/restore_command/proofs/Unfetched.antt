@@ -3,13 +3,13 @@ use Rattle.std.proofs.Common.{◌≡◌, ◌≢◌, ℕ, true, false, List, Some
 use Rattle.std.specs.List.{Contains}
 use Rattle.cd_edges.specs.Causes.{Rose}
 use Rattle.cd_edges.specs.Ports.{Telling}
-use Rattle.hellos.specs.Hellos.{clouds_of}
-use Rattle.hellos.specs.declared.greeting.Greeted.{Greeted}
+use Rattle.ports_link.specs.Hellos.{clouds_of}
+use Rattle.ports_link.specs.declared.greeting.Greeted.{Greeted}
 use Rattle.restore_job.specs.Asking.{is_loss}
 use Rattle.restore_job.specs.Refusals.{Names}
 use Rattle.restore_job.specs.declared.error.RestoreErr.{RestoreErr}
 use Rattle.restore_job.specs.declared.error.RestoreErr.TheVariants as refused
-use Rattle.restore_lines.specs.Refusals.{refusal_of}
+use Rattle.subset_restore.specs.Refusals.{refusal_of}
 use Rattle.transcript.specs.declared.refusal.Refusal.{Refusal}
 use Rattle.restore_command.specs.declared.fetching.FetchErr.{FetchErr}
 use Rattle.restore_command.specs.declared.fetching.FetchErr.TheVariants as errors

@@ -14,8 +14,8 @@ use Rattle.restore_job.proofs.Speaking.{unlost_as}
 use Rattle.restore_job.specs.Exchanges.{LostSaid, RestoreSaid, behind_all}
 use Rattle.restore_job.specs.declared.error.RestoreErr.{RestoreErr}
 use Rattle.restore_job.specs.declared.error.RestoreErr.TheVariants as errors
-use Rattle.hellos.specs.Hellos.{HaveTalks, clouds_of, hello}
-use Rattle.hellos.specs.declared.greeting.Greeted.{Greeted}
+use Rattle.ports_link.specs.Hellos.{HaveTalks, clouds_of, hello}
+use Rattle.ports_link.specs.declared.greeting.Greeted.{Greeted}
 use Rattle.subset_restore.specs.Subsets.{IsSubset, subsets}
 use Rattle.subset_restore.specs.Tries.{Try, GoneThrough, NoneYet, Passed, Refused, HoldsRefuser, refuser}
 use Rattle.subset_restore.specs.Ends.{Sought, AllRefused, OneRestore, WasLost}
@@ -27,7 +27,7 @@ use Rattle.restore_command.proofs.Choosing.{Chosen, choose, line_at, port_of}
 use Rattle.restore_command.proofs.Lines.{AreReachedBy, line_on}
 use Rattle.restore_command.proofs.Passing.{AreOn, Kept, kept, others}
 use Rattle.restore_command.proofs.Saying.{fetch_of, fetched_fresh, stop_of}
-use Rattle.fetched_files.proofs.Lists.{apart}
+use Rattle.restore_command.proofs.Lists.{apart}
 
 -- ---- refusals, one after another
 

@@ -8,10 +8,10 @@ use Rattle.cd_base.specs.declared.ids.Version.{Version}
 use Rattle.cd_base.specs.declared.shape.Shape.{Shape}
 use Rattle.caont_rs.specs.Package.{tag as tag_at}
 use Rattle.cd_edges.specs.Ports.{Telling}
-use Rattle.hellos.specs.declared.greeting.Greeted.{Greeted}
-use Rattle.hellos.specs.declared.judging.Asked.TheVariants as asked
-use Rattle.hellos.specs.Dialled.{Dials}
-use Rattle.hellos.specs.Hellos.{GreetsAll}
+use Rattle.ports_link.specs.declared.greeting.Greeted.{Greeted}
+use Rattle.ports_link.specs.declared.judging.Asked.TheVariants as asked
+use Rattle.ports_link.specs.Dialled.{Dials}
+use Rattle.ports_link.specs.Hellos.{GreetsAll}
 
 -- What is asked for, of how many addresses, what the ports tell before and after it, and how often they have failed.
 pub record Call : Type 0 where

@@ -6,14 +6,14 @@ use Rattle.restore_job.specs.Asking.{is_loss}
 use Rattle.restore_job.specs.Refusals.{Names}
 use Rattle.restore_job.specs.declared.error.RestoreErr.{RestoreErr}
 use Rattle.transcript.specs.declared.refusal.Refusal.{Refusal}
-use Rattle.hellos.specs.declared.greeting.Greeted.{Greeted}
-use Rattle.hellos.specs.declared.greeting.GreetErr.TheVariants as unmet
-use Rattle.hellos.specs.declared.judging.Asked.TheVariants as asked
-use Rattle.hellos.specs.declared.refused.Refused.{Refused}
-use Rattle.hellos.specs.Dialled.{Dials}
-use Rattle.hellos.specs.Hellos.{Greets, clouds_of}
-use Rattle.hellos.specs.Refusals.{refused_text}
-use Rattle.restore_lines.specs.Refusals.{refusal_of, refusal_text}
+use Rattle.ports_link.specs.declared.greeting.Greeted.{Greeted}
+use Rattle.ports_link.specs.declared.greeting.GreetErr.TheVariants as unmet
+use Rattle.ports_link.specs.declared.judging.Asked.TheVariants as asked
+use Rattle.ports_link.specs.declared.refused.Refused.{Refused}
+use Rattle.ports_link.specs.Dialled.{Dials}
+use Rattle.ports_link.specs.Hellos.{Greets, clouds_of}
+use Rattle.ports_link.specs.Refusals.{refused_text}
+use Rattle.subset_restore.specs.Refusals.{refusal_of, refusal_text}
 use Rattle.restore_command.specs.Calls.{Call, Met}
 use Rattle.restore_command.specs.Tried.{FileFrom, NotFrom}
 

@@ -4,7 +4,7 @@ use Rattle.std.specs.Io.KnownBytes.{Appends}
 use Rattle.cd_edges.specs.Causes.{Rose}
 use Rattle.restore_job.specs.Asking.{is_loss}
 use Rattle.restore_job.specs.declared.error.RestoreErr.{RestoreErr}
-use Rattle.restore_lines.specs.Refusals.{refusal_of}
+use Rattle.subset_restore.specs.Refusals.{refusal_of}
 use Rattle.restore_command.specs.declared.fetching.FetchErr.{FetchErr}
 use Rattle.restore_command.specs.declared.fetching.FetchErr.TheVariants as errors
 use Rattle.restore_command.specs.Calls.{Call}

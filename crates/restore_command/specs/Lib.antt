@@ -1,5 +1,8 @@
 pub mod Calls
-pub mod Spoken
-pub mod Tried
 pub mod Came
 pub mod Ends
+pub mod Fetched
+pub mod Spoken
+pub mod Stopped
+pub mod Talks
+pub mod Tried

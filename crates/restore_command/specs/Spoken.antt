@@ -5,7 +5,7 @@ use Rattle.cd_base.specs.declared.ids.CloudNo.{CloudNo}
 use Rattle.frames.specs.Frames.{AreContents, stream}
 use Rattle.cd_edges.specs.Ports.{Telling}
 use Rattle.ports_link.specs.Tells.{HasComing}
-use Rattle.fetched_files.specs.Talks.{first_replies}
+use Rattle.restore_command.specs.Talks.{first_replies}
 use Rattle.restore_command.specs.Calls.{ports_of}
 
 -- The frames of these requests were sent on a port, in order, behind what had been sent there, and nothing else was.

@@ -10,10 +10,10 @@ use Rattle.restore_job.specs.declared.error.RestoreErr.{RestoreErr}
 use Rattle.restore_job.specs.declared.error.RestoreErr.TheVariants as errors
 use Rattle.subset_restore.specs.Subsets.{subsets}
 use Rattle.subset_restore.specs.Tries.{Try, GoneThrough, HoldsRefuser, WasTried}
-use Rattle.fetched_files.specs.Fetched.{Fetched}
-use Rattle.fetched_files.specs.Stopped.{Stopped}
-use Rattle.hellos.specs.declared.greeting.Greeted.{Greeted}
-use Rattle.hellos.specs.Hellos.{clouds_of}
+use Rattle.restore_command.specs.Fetched.{Fetched}
+use Rattle.restore_command.specs.Stopped.{Stopped}
+use Rattle.ports_link.specs.declared.greeting.Greeted.{Greeted}
+use Rattle.ports_link.specs.Hellos.{clouds_of}
 use Rattle.restore_command.specs.Calls.{Call, named_in, ports_of, tag_in}
 use Rattle.restore_command.specs.Spoken.{HaveTalked, none_ended}
 

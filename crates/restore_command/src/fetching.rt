@@ -9,10 +9,10 @@ use crate::greeted::restore_greeted;
 use cd_base::{Bytes, NoMemory, UserId, Version};
 use cd_edges::Ports;
 use frames::ReplyBuf;
-use hellos::{Asked, DialErr, GreetErr, Refused, dial_all, greet_all};
+use ports_link::{Asked, DialErr, GreetErr, Refused, dial_all, greet_all};
 use restore_job::RestoreErr;
-use restore_lines::as_refusal;
 use std::alloc::Global;
+use subset_restore::as_refusal;
 use transcript::Refusal;
 
 /// Why no file was fetched.

@@ -1,12 +1,12 @@
 //! Writing what came, with its status.
 
-ghost use Rattle.hellos.specs.Refusals.{refused_text};
-ghost use Rattle.restore_lines.specs.Refusals.{refusal_text};
+ghost use Rattle.ports_link.specs.Refusals.{refused_text};
+ghost use Rattle.subset_restore.specs.Refusals.{refusal_text};
 ghost use Rattle.restore_command.specs.Ends.{Writes};
 
 use cd_base::{Bytes, NoMemory};
 use cd_edges::{Sink, write_all};
-use hellos::{Refused, write_refused};
+use ports_link::{Refused, write_refused};
 use std::alloc::Global;
 use transcript::{Line, Refusal, write_line};
 

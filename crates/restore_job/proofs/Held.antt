@@ -37,7 +37,8 @@ use Rattle.user_dedup.specs.Dedup.{answer_over, IsSound, Begun, Added, FullRoom,
 use Rattle.user_dedup.specs.Exec.{Peer, MaySettleAs, Settles, Stays, Answers, FailsTold, ExecTold, ExecUntold, Exec, StandsSound, served}
 use Rattle.user_dedup.specs.Link.{LinkTelling, Asks, LosesAsk, TellsSound}
 use Rattle.user_dedup.proofs.Owned.{finds, contains_nothing}
-use Rattle.user_dedup.proofs.Sound.{found_entry, entries_owned, put_adds, commit_adds}
+use Rattle.user_dedup.proofs.Deleting.{entries_left}
+use Rattle.user_dedup.proofs.Sound.{found_entry, entries_owned, put_adds, commit_adds, deletes_from}
 use Rattle.user_dedup.proofs.Views.{own_adds, others_stay, owned_is_held}
 use Rattle.restore_job.specs.Asking.{Reads, MayRead, ReadFails}
 use Rattle.restore_job.specs.Restored.{recipe_in, recipe_read}
@@ -63,6 +64,7 @@ none_some x e = absurd (let f : None ≡ Some x = e in cc)
 abbrev BringsRecipe : Shape → Command → Type 0
 BringsRecipe shape (commands.Put user shares) = Unit {0}
 BringsRecipe shape (commands.Commit user tag version recipe) = (r : Recipe) × IsRecipe shape recipe r
+BringsRecipe shape (commands.Delete user tag version) = Unit {0}
 
 brings : (shape : Shape) (cloud : ℕ) (list : List Command) (request : Request) (command : Command) → HasRecipe shape request
     → (answer_over shape cloud list request).adds ≡ Some command → BringsRecipe shape command
@@ -73,6 +75,7 @@ brings shape cloud list (requests.Commit user tag version recipe) command has e 
 brings shape cloud list (requests.GetRecipe user tag version) command has e = none_some command e
 brings shape cloud list (requests.GetShares user fps) command has e = none_some command e
 brings shape cloud list (requests.List user after) command has e = none_some command e
+brings shape cloud list (requests.Delete user tag version) command has e = subst (BringsRecipe shape) (sym (deletes_from _ _ command e).1) tt
 
 entries_step : (shape : Shape) (v : View) (command : Command) → BringsRecipe shape command → EntriesRead shape v → EntriesRead shape (view_after shape v command)
 entries_step shape v (commands.Put user shares) brings_it old entry has = old entry has
@@ -81,6 +84,8 @@ entries_step shape v (commands.Commit user tag version recipe) brings_it old ent
       | inl h ↦ old entry h
       | inr same ↦ subst (λ (x : FileEntry). (r : Recipe) × (recipe_at shape x.recipe ≡ Ok r)) same (brings_it.0, is_read shape recipe brings_it.0 brings_it.1)
     ]
+entries_step shape v (commands.Delete user tag version) brings_it old entry has =
+    old entry (entries_left (tag, version) v.files entry has).0
 
 pub entries_read : (shape : Shape) (cloud : ℕ) (list : List Command) → IsSound shape cloud list → (user : UserId) → EntriesRead shape (user_view shape list user)
 entries_read shape cloud list Begun user entry has = absurd (contains_nothing entry has)

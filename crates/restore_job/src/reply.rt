@@ -44,6 +44,7 @@ fn refusal_of(cloud: CloudNo, kind: u8, missing: RestoreErr, reply: &Reply) -> R
         | Reply::Shares { .. }
         | Reply::NotYours { .. }
         | Reply::Entries { .. }
+        | Reply::Deleted
         | Reply::Full { .. }
         | Reply::Malformed { .. } => RestoreErr::Strange { cloud, kind },
     }

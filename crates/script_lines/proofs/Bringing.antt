@@ -16,7 +16,7 @@ use Rattle.user_dedup.proofs.Owned.{contains_here}
 use Rattle.upload_job.specs.declared.news.LaneNews.{LaneNews}
 use Rattle.upload_job.specs.Lane.{LaneState, news_of}
 use Rattle.upload_job.specs.Lanes.{LaneView, with_state}
-use Rattle.lane_requests.specs.Runs.{Turn, Progress, starting, request_of, progress_after, LaneRun, LaneAlong, Tell, lane_at}
+use Rattle.lane_steps.specs.Runs.{Turn, Progress, starting, request_of, progress_after, LaneRun, LaneAlong, Tell, lane_at}
 use Rattle.lane_steps.specs.declared.error.StepErr.{StepErr}
 use Rattle.lane_steps.specs.declared.error.StepErr.TheVariants as step_errors
 use Rattle.lane_steps.specs.Steps.{Heard, Untaken, LaneSteps, Finishes, IsFound}
@@ -27,11 +27,11 @@ use Rattle.session.specs.Spelling.{IsJob}
 use Rattle.session.specs.declared.event.Event.TheVariants as events
 use Rattle.transcript.specs.declared.line.Line.{Line}
 use Rattle.transcript.specs.declared.line.Line.TheVariants as lines
-use Rattle.vault.specs.Vault.{Setting, JobState, Vault, Executes, lanes_of, with_lanes}
-use Rattle.vault.specs.Steps.{Moment, moment_of, step_line, all_done, stored_line, FinishLanes}
-use Rattle.vault.specs.Run.{IsListIn}
-use Rattle.vault.specs.Headline.{IsPartOf}
-use Rattle.vault.specs.Cut.{FinishCut}
+use Rattle.session_model.specs.Vault.{Setting, JobState, Vault, Executes, lanes_of, with_lanes}
+use Rattle.session_model.specs.Steps.{Moment, moment_of, step_line, all_done, stored_line, FinishLanes}
+use Rattle.session_model.specs.Run.{IsListIn}
+use Rattle.session_model.specs.Headline.{IsPartOf}
+use Rattle.session_model.specs.Cut.{FinishCut}
 use Rattle.session.specs.Texts.{text_of}
 use Rattle.script_lines.specs.At.{LinkAt, IsAt, Leaves}
 use Rattle.script_lines.specs.Does.{Images, Does, Cut}

@@ -18,7 +18,7 @@ use Rattle.subset_restore.proofs.Choices.{subset_among}
 use Rattle.subset_restore.proofs.Elements.{contains_front, all_of, of_all}
 use Rattle.subset_restore.proofs.Going.{any_at, any_none}
 use Rattle.subset_restore.proofs.Standing.{ends_among}
-use Rattle.vault.specs.Steps.{NoneFrom, ComesFrom, ComesFromNone, ComesBy, NoneRose, Gets}
+use Rattle.session_model.specs.Steps.{NoneFrom, ComesFrom, ComesFromNone, ComesBy, NoneRose, Gets}
 
 -- what is said over told clouds, but of want of memory
 abbrev pub GetsIf : Sought → Result (Unit {0}) RestoreErr → List ℕ → (ℕ → Peer) → (ℕ → Peer) → Type 0

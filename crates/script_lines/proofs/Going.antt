@@ -21,10 +21,10 @@ use Rattle.local_link.specs.Calls.{header_of}
 use Rattle.local_link.proofs.Passing.{read_images}
 use Rattle.session.specs.declared.event.Event.{Event}
 use Rattle.transcript.specs.declared.line.Line.{Line}
-use Rattle.vault.specs.Vault.{Setting, Vault, Executes, served_at}
-use Rattle.vault.specs.Steps.{Moment, VStep}
-use Rattle.vault.specs.Run.{IsListIn}
-use Rattle.vault.specs.Headline.{IsPartOf}
+use Rattle.session_model.specs.Vault.{Setting, Vault, Executes, served_at}
+use Rattle.session_model.specs.Steps.{Moment, VStep}
+use Rattle.session_model.specs.Run.{IsListIn}
+use Rattle.session_model.specs.Headline.{IsPartOf}
 use Rattle.script_lines.specs.At.{LinkAt, IsAt, Leaves}
 use Rattle.script_lines.specs.Does.{Images, Goes, IsLeft, Cut}
 

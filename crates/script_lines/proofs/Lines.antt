@@ -11,7 +11,7 @@ use Rattle.user_dedup.specs.Link.{Talk}
 use Rattle.upload_job.specs.declared.news.LaneNews.{LaneNews}
 use Rattle.upload_job.specs.Lane.{news_of}
 use Rattle.upload_job.specs.Lanes.{LaneView, with_state, request_at}
-use Rattle.lane_requests.specs.Runs.{moved, lane_at}
+use Rattle.lane_steps.specs.Runs.{moved, lane_at}
 use Rattle.lane_steps.specs.declared.error.StepErr.{StepErr}
 use Rattle.lane_steps.specs.declared.error.StepErr.TheVariants as step_errors
 use Rattle.lane_steps.specs.Steps.{Heard, Untaken, LaneSteps, IsFound}
@@ -21,9 +21,9 @@ use Rattle.session.specs.Spelling.{IsJob}
 use Rattle.session.specs.declared.event.Event.TheVariants as events
 use Rattle.transcript.specs.declared.line.Line.{Line}
 use Rattle.transcript.specs.Transcript.{line_text}
-use Rattle.vault.specs.Vault.{Setting, Vault, lanes_of, with_lanes}
-use Rattle.vault.specs.Steps.{Moment, quiet, cloud_no, step_line, all_done, stored_line, LaneStep}
-use Rattle.vault.specs.Headline.{IsPartOf}
+use Rattle.session_model.specs.Vault.{Setting, Vault, lanes_of, with_lanes}
+use Rattle.session_model.specs.Steps.{Moment, quiet, cloud_no, step_line, all_done, stored_line, LaneStep}
+use Rattle.session_model.specs.Headline.{IsPartOf}
 use Rattle.session.specs.Texts.{text_of}
 use Rattle.script_lines.specs.declared.error.CarryErr.{CarryErr}
 use Rattle.script_lines.specs.At.{LinkAt, IsAt, Leaves}

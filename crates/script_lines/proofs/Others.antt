@@ -34,7 +34,7 @@ use Rattle.subset_restore.specs.Going.{sought}
 use Rattle.share_server.specs.declared.server.Server.{Server}
 use Rattle.share_server.specs.Serving.{ReopensAs}
 use Rattle.upload_job.specs.Lanes.{LaneView, lanes_begun, request_at, IsAsked}
-use Rattle.lane_requests.specs.Reached.{IsReached}
+use Rattle.lane_steps.specs.Reached.{IsReached}
 use Rattle.kept_files.specs.Kept.{key_of}
 use Rattle.local_link.specs.declared.fate.Fate.{Fate}
 use Rattle.local_link.specs.declared.fate.Fate.TheVariants as fates
@@ -49,10 +49,10 @@ use Rattle.session.specs.Spelling.{AreSources}
 use Rattle.transcript.specs.declared.line.Line.{Line}
 use Rattle.transcript.specs.declared.line.Line.TheVariants as lines
 use Rattle.transcript.specs.declared.news.News.TheVariants as news
-use Rattle.vault.specs.Vault.{Setting, JobState, Vault, new_job, lanes_of}
-use Rattle.vault.specs.Steps.{Moment, quiet, cloud_no, version_of, lose_lines, DropStep, IsGetLine, Gets, told_so, IsRestartLine, RestartStep, ReopensUntold, IsFault}
-use Rattle.vault.specs.Run.{IsListIn}
-use Rattle.vault.specs.Headline.{IsPartOf}
+use Rattle.session_model.specs.Vault.{Setting, JobState, Vault, new_job, lanes_of}
+use Rattle.session_model.specs.Steps.{Moment, quiet, cloud_no, version_of, lose_lines, DropStep, IsGetLine, Gets, told_so, IsRestartLine, RestartStep, ReopensUntold, IsFault}
+use Rattle.session_model.specs.Run.{IsListIn}
+use Rattle.session_model.specs.Headline.{IsPartOf}
 use Rattle.session.specs.Texts.{text_of}
 use Rattle.script_lines.specs.At.{LinkAt, IsAt, Leaves}
 use Rattle.script_lines.specs.Does.{Images, Goes, Cut}
@@ -60,7 +60,7 @@ use Rattle.script_lines.specs.Jobs.{job_lanes}
 use Rattle.script_lines.specs.Dropping.{Executed, Drops}
 use Rattle.script_lines.proofs.Getting.{GetsIf, got_by}
 use Rattle.script_lines.proofs.Walking.{views_are}
-use Rattle.opening_damage.specs.Damage.{IsDamage}
+use Rattle.share_server.specs.Damage.{IsDamage}
 use Rattle.script_lines.specs.Stepping.{IsOpening}
 use Rattle.script_lines.proofs.Going.{put, put_here, put_other, before_exec, now_by, moves, executes, listed, images_weaker, images_still, images_one, images_executed}
 

@@ -28,18 +28,18 @@ use Rattle.user_dedup.specs.Link.{Asks, LeavesOthers}
 use Rattle.user_dedup.specs.Requests.{asked_at}
 use Rattle.user_dedup.proofs.Asked.{asked_law}
 use Rattle.upload_job.specs.Lanes.{LaneView}
-use Rattle.lane_requests.specs.Runs.{Turn}
+use Rattle.lane_steps.specs.Runs.{Turn}
 use Rattle.local_link.specs.declared.link.LocalLink.{LocalLink}
 use Rattle.local_link.specs.Tells.{server_at, full_by, telling, PassesOn}
 use Rattle.session.specs.declared.event.Event.TheVariants as events
 use Rattle.transcript.specs.declared.refusal.Refusal.{Refusal}
 use Rattle.transcript.specs.declared.refusal.Refusal.TheVariants as refusals
 use Rattle.transcript.specs.declared.line.Line.TheVariants as lines
-use Rattle.vault.specs.Vault.{Setting, Vault}
-use Rattle.vault.specs.Steps.{Moment, cloud_no, moment_of, list_refusal, EndsListing, behind_page, ListRun, entry_line, list_lines}
+use Rattle.session_model.specs.Vault.{Setting, Vault}
+use Rattle.session_model.specs.Steps.{Moment, cloud_no, moment_of, list_refusal, EndsListing, behind_page, ListRun, entry_line, list_lines}
 use Rattle.session.specs.Texts.{text_of}
-use Rattle.vault.proofs.Parts.{fault_of, fails}
-use Rattle.vault.proofs.Parts as parts
+use Rattle.session_model.proofs.Parts.{fault_of, fails}
+use Rattle.session_model.proofs.Parts as parts
 use Rattle.script_lines.specs.declared.listing.Listing.{Listing}
 use Rattle.script_lines.specs.declared.listing.NoPage.{NoPage}
 use Rattle.script_lines.specs.declared.listing.NoPage.TheVariants as no_pages
@@ -65,6 +65,7 @@ ends_refused cloud (replies.Recipe bytes) why e = (why, e, refl)
 ends_refused cloud replies.Missing why e = (why, e, refl)
 ends_refused cloud (replies.Shares shares) why e = (why, e, refl)
 ends_refused cloud (replies.NotYours place) why e = (why, e, refl)
+ends_refused cloud replies.Deleted why e = (why, e, refl)
 ends_refused cloud (replies.Full room used need limit) why e = (why, e, refl)
 ends_refused cloud replies.Fault why e = (why, e, refl)
 ends_refused cloud (replies.Damaged at byte) why e = (why, e, refl)
@@ -92,6 +93,7 @@ untold_reply cloud items user above (replies.Recipe bytes) fits kind = absurd ki
 untold_reply cloud items user above replies.Missing fits kind = absurd kind
 untold_reply cloud items user above (replies.Shares shares) fits kind = absurd kind
 untold_reply cloud items user above (replies.NotYours place) fits kind = absurd kind
+untold_reply cloud items user above replies.Deleted fits kind = absurd kind
 untold_reply cloud items user above (replies.Full room used need limit) fits kind = absurd kind
 untold_reply cloud items user above (replies.Rotten named found) fits kind = absurd kind
 untold_reply cloud items user above (replies.Malformed at) fits kind = absurd kind

@@ -11,9 +11,9 @@ use Rattle.upload_job.specs.declared.news.LaneErr.{LaneErr}
 use Rattle.upload_job.specs.Upload.{work_of}
 use Rattle.upload_job.specs.Lane.{LaneState, Asking, Sending, Committing, Done, Refused}
 use Rattle.upload_job.specs.Lanes.{LaneView, AnswersAt, begun}
-use Rattle.lane_requests.specs.Reached.{IsReached, Begun, Answered}
+use Rattle.lane_steps.specs.Reached.{IsReached, Begun, Answered}
 use Rattle.session.specs.Spelling.{IsJob}
-use Rattle.vault.specs.Steps.{is_done, all_done}
+use Rattle.session_model.specs.Steps.{is_done, all_done}
 use Rattle.script_lines.specs.Jobs.{job_lanes, with_job, AreReached}
 
 answered_len : (old : List LaneView) (i : ℕ) (content : List ℕ) (result : Result LaneNews LaneErr) (new : List LaneView) → AnswersAt old i content result new → length new ≡ length old

@@ -15,7 +15,7 @@ use Rattle.user_dedup.specs.Link.{LinkTelling, Talk, serves}
 use Rattle.user_dedup.proofs.Owned.{contains_cases, contains_here, contains_later, contains_nothing}
 use Rattle.cloud_store.specs.Standing.{StandsForSome, ImagesSince, MayBecome}
 use Rattle.upload_job.specs.Lanes.{LaneView}
-use Rattle.lane_requests.specs.Runs.{Turn}
+use Rattle.lane_steps.specs.Runs.{Turn}
 use Rattle.local_link.specs.declared.fate.Fate.{Fate}
 use Rattle.local_link.specs.declared.fate.Fate.TheVariants as fates
 use Rattle.local_link.specs.declared.fate.Fate.TheVariants.{Deliver}
@@ -37,11 +37,11 @@ use Rattle.transcript.specs.declared.refusal.Refusal.TheVariants as refusals
 use Rattle.transcript.specs.declared.refusal.TargetWhy.TheVariants as target_whys
 use Rattle.transcript.specs.declared.line.Line.{Line}
 use Rattle.transcript.specs.declared.line.Line.TheVariants as lines
-use Rattle.vault.specs.Vault.{Setting, JobState, Vault, served_at, with_peer, ExecutesAll}
-use Rattle.vault.specs.Steps.{Moment, quiet, cloud_no, told_so, skip_line, AreRebuildLines, turn_moment, target_moments, rebuild_moments, AllTold}
-use Rattle.vault.specs.Run.{IsListIn}
-use Rattle.vault.specs.Headline.{IsPartOf}
-use Rattle.vault.proofs.With.{with_here, with_other}
+use Rattle.session_model.specs.Vault.{Setting, JobState, Vault, served_at, with_peer, ExecutesAll}
+use Rattle.session_model.specs.Steps.{Moment, quiet, cloud_no, told_so, skip_line, AreRebuildLines, turn_moment, target_moments, rebuild_moments, AllTold}
+use Rattle.session_model.specs.Run.{IsListIn}
+use Rattle.session_model.specs.Headline.{IsPartOf}
+use Rattle.session_model.proofs.With.{with_here, with_other}
 use Rattle.script_lines.specs.At.{LinkAt}
 use Rattle.script_lines.specs.Does.{Images, IsLeft, Goes, Cut}
 use Rattle.script_lines.proofs.Going.{now_by, images_weaker, listed, cut_behind}

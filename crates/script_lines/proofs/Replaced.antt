@@ -33,10 +33,10 @@ use Rattle.local_link.proofs.Standing.{some_server, known_of, header_same}
 use Rattle.session.specs.declared.event.Event.TheVariants as events
 use Rattle.transcript.specs.declared.line.Line.{Line}
 use Rattle.transcript.specs.declared.line.Line.TheVariants as lines
-use Rattle.vault.specs.Vault.{Setting, Vault}
-use Rattle.vault.specs.Steps.{Moment, quiet, cloud_no, IsReplaceLine, ReplaceStep}
-use Rattle.vault.specs.Run.{IsListIn}
-use Rattle.vault.specs.Headline.{IsPartOf}
+use Rattle.session_model.specs.Vault.{Setting, Vault}
+use Rattle.session_model.specs.Steps.{Moment, quiet, cloud_no, IsReplaceLine, ReplaceStep}
+use Rattle.session_model.specs.Run.{IsListIn}
+use Rattle.session_model.specs.Headline.{IsPartOf}
 use Rattle.script_lines.specs.At.{LinkAt, IsAt}
 use Rattle.script_lines.specs.Does.{Goes}
 use Rattle.script_lines.specs.Replacing.{IsNewStore, FailsFresh}

@@ -5,7 +5,7 @@ use Rattle.std.proofs.lemmas.List.{map-append}
 use Rattle.rebuild.specs.declared.skips.Skip.{Skip}
 use Rattle.session.specs.Texts.{text_of}
 use Rattle.transcript.specs.declared.line.Line.{Line}
-use Rattle.vault.specs.Steps.{skip_line}
+use Rattle.session_model.specs.Steps.{skip_line}
 use Rattle.script_lines.proofs.Lines.{text_more}
 
 take_next : {A : Type 0} (xs : List A) (place : ℕ) (x : A) → slice_get xs place ≡ Some x → take (suc place) xs ≡ take place xs ++ x ∷ []

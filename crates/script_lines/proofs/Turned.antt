@@ -18,7 +18,7 @@ use Rattle.user_dedup.proofs.Asked.{asked_law}
 use Rattle.user_dedup.proofs.Owned.{contains_here, contains_later}
 use Rattle.cloud_store.specs.Standing.{StandsForSome, ImagesSince, MayBecome}
 use Rattle.cloud_store.specs.Space.{full_for}
-use Rattle.lane_requests.specs.Runs.{Turn}
+use Rattle.lane_steps.specs.Runs.{Turn}
 use Rattle.local_link.specs.declared.link.LocalLink.{LocalLink}
 use Rattle.local_link.specs.Tells.{server_at, full_by, telling, serving_at, StandsAt, IsPeer, PassesOn}
 use Rattle.local_link.specs.Calls.{header_of}
@@ -28,8 +28,8 @@ use Rattle.restore_job.specs.Asking.{MayRead}
 use Rattle.restore_job.specs.declared.error.RestoreErr.TheVariants as restore_errors
 use Rattle.restore_job.proofs.Held.{lost_moves}
 use Rattle.rebuild.specs.Over.{TargetAlong, AsksFor}
-use Rattle.vault.specs.Vault.{Setting, served_at, ExecutesAll}
-use Rattle.vault.proofs.Growing.{stays_in, settles_in}
+use Rattle.session_model.specs.Vault.{Setting, served_at, ExecutesAll}
+use Rattle.session_model.proofs.Growing.{stays_in, settles_in}
 use Rattle.script_lines.specs.At.{Leaves}
 use Rattle.script_lines.proofs.Going.{leaves_rest, leaves_all, leaves_join, images_weaker}
 
@@ -43,6 +43,7 @@ adds_none shape cloud full list (requests.Commit user tag version recipe) none =
 adds_none shape cloud full list (requests.GetRecipe user tag version) none = refl
 adds_none shape cloud full list (requests.GetShares user fps) none = refl
 adds_none shape cloud full list (requests.List user after) none = refl
+adds_none shape cloud full list (requests.Delete user tag version) none = absurd none
 
 has_recipe : (shape : Shape) (r : Request) → AddsNothing r → HasRecipe shape r
 has_recipe shape requests.Hello none = tt
@@ -52,6 +53,7 @@ has_recipe shape (requests.Commit user tag version recipe) none = absurd none
 has_recipe shape (requests.GetRecipe user tag version) none = tt
 has_recipe shape (requests.GetShares user fps) none = tt
 has_recipe shape (requests.List user after) none = tt
+has_recipe shape (requests.Delete user tag version) none = absurd none
 
 pub may_in : (p q : Peer) → MayRead p q → (list : List Command) → MaySettleAs q list → MaySettleAs p list
 may_in p q may = by_way may.0

@@ -6,7 +6,7 @@ use Rattle.cd_base.specs.declared.shape.Shape.{Shape}
 use Rattle.recipe.specs.Spelling.{file_limit}
 use Rattle.upload_job.specs.Upload.{FileVersion}
 use Rattle.upload_job.specs.Lanes.{LaneView, lanes_begun}
-use Rattle.lane_requests.specs.Reached.{IsReached, Begun}
+use Rattle.lane_steps.specs.Reached.{IsReached, Begun}
 use Rattle.script_lines.specs.Jobs.{AreReached}
 
 pub job_begun : (shape : Shape) (v : FileVersion) (jobs later : List (List LaneView)) (lanes : List LaneView) → AreReached shape jobs → IsPath v.path → length v.file ≤ file_limit → v.user.0 < 2 ^ 32 → v.number.0 < 2 ^ 64

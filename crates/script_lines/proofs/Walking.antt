@@ -13,14 +13,14 @@ use Rattle.user_dedup.specs.Exec.{Peer}
 use Rattle.user_dedup.specs.Link.{Talk}
 use Rattle.upload_job.specs.declared.news.LaneNews.{LaneNews}
 use Rattle.upload_job.specs.Lanes.{LaneView}
-use Rattle.lane_requests.specs.Runs.{Turn, Progress, moved, request_of, progress_after, LaneRun, LaneAlong, Tell}
+use Rattle.lane_steps.specs.Runs.{Turn, Progress, moved, request_of, progress_after, LaneRun, LaneAlong, Tell}
 use Rattle.lane_steps.specs.Steps.{Heard}
 use Rattle.local_link.specs.declared.link.LocalLink.{LocalLink}
 use Rattle.local_link.specs.Tells.{telling}
 use Rattle.local_link.specs.Calls.{header_of}
-use Rattle.vault.specs.Vault.{Setting, JobState, Executes, lanes_at, with_lanes_at, lanes_of, with_lanes}
-use Rattle.vault.specs.Steps.{Moment, moment_of}
-use Rattle.vault.specs.Run.{IsListIn}
+use Rattle.session_model.specs.Vault.{Setting, JobState, Executes, lanes_at, with_lanes_at, lanes_of, with_lanes}
+use Rattle.session_model.specs.Steps.{Moment, moment_of}
+use Rattle.session_model.specs.Run.{IsListIn}
 use Rattle.script_lines.specs.At.{LinkAt, Leaves}
 use Rattle.script_lines.specs.Does.{Images}
 use Rattle.script_lines.specs.Jobs.{job_lanes, with_job}

@@ -7,7 +7,7 @@ use Rattle.upload_job.specs.Lanes.{LaneView}
 use Rattle.local_link.specs.declared.fate.Fate.TheVariants.{Deliver}
 use Rattle.local_link.specs.declared.link.LocalLink.{LocalLink}
 use Rattle.local_link.specs.Tells.{server_at, full_by, StandsAt}
-use Rattle.vault.specs.Vault.{Setting, JobState, Vault}
+use Rattle.session_model.specs.Vault.{Setting, JobState, Vault}
 
 -- The link has the setting's shape, tells of the clouds that the setting tells of, serves each cloud in the setting's
 -- rooms, and loses nothing of the next ask; and each cloud stands for its peer.

@@ -8,10 +8,10 @@ use Rattle.local_link.specs.declared.link.LocalLink.{LocalLink}
 use Rattle.local_link.specs.Calls.{header_of}
 use Rattle.session.specs.declared.event.Event.{Event}
 use Rattle.transcript.specs.declared.line.Line.{Line}
-use Rattle.vault.specs.Vault.{Setting, Vault}
-use Rattle.vault.specs.Steps.{Moment, VStep}
-use Rattle.vault.specs.Run.{IsListIn}
-use Rattle.vault.specs.Headline.{IsPartOf}
+use Rattle.session_model.specs.Vault.{Setting, Vault}
+use Rattle.session_model.specs.Steps.{Moment, VStep}
+use Rattle.session_model.specs.Run.{IsListIn}
+use Rattle.session_model.specs.Headline.{IsPartOf}
 use Rattle.session.specs.Texts.{text_of}
 use Rattle.script_lines.specs.At.{IsAt}
 

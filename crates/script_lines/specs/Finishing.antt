@@ -10,9 +10,9 @@ use Rattle.local_link.specs.declared.link.LocalLink.{LocalLink}
 use Rattle.transcript.specs.declared.line.Line.{Line}
 use Rattle.transcript.specs.declared.line.Line.TheVariants as lines
 use Rattle.transcript.specs.declared.news.News.TheVariants as news
-use Rattle.vault.specs.Vault.{Setting, Vault}
-use Rattle.vault.specs.Steps.{Moment, cloud_no, step_line, FinishLanes}
-use Rattle.vault.specs.Cut.{FinishCut}
+use Rattle.session_model.specs.Vault.{Setting, Vault}
+use Rattle.session_model.specs.Steps.{Moment, cloud_no, step_line, FinishLanes}
+use Rattle.session_model.specs.Cut.{FinishCut}
 use Rattle.session.specs.Texts.{text_of}
 use Rattle.script_lines.specs.At.{IsAt}
 use Rattle.script_lines.specs.Does.{Images, IsLeft}

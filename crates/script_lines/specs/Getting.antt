@@ -2,7 +2,7 @@
 use Rattle.std.specs.Prelude.{◌≡◌, ℕ, List, [], ◌∷◌, ◌++◌, Result}
 use Rattle.restore_job.specs.declared.error.RestoreErr.{RestoreErr}
 use Rattle.transcript.specs.declared.line.Line.{Line}
-use Rattle.vault.specs.Steps.{IsGetLine}
+use Rattle.session_model.specs.Steps.{IsGetLine}
 use Rattle.session.specs.Texts.{text_of}
 
 -- the text of the line of this restore stands behind what was there; a want of memory has no line

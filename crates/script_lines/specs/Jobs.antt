@@ -2,7 +2,7 @@
 use Rattle.std.specs.Prelude.{ℕ, ◌-◌, List, [], All, slice_index_or, slice_set}
 use Rattle.cd_base.specs.declared.shape.Shape.{Shape}
 use Rattle.upload_job.specs.Lanes.{LaneView}
-use Rattle.lane_requests.specs.Reached.{IsReached}
+use Rattle.lane_steps.specs.Reached.{IsReached}
 
 -- the lanes of the job of this number, counted from 1
 abbrev pub job_lanes : List (List LaneView) → ℕ → List LaneView

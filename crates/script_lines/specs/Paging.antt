@@ -10,13 +10,13 @@ use Rattle.messages.specs.declared.reply.Reply.{Reply}
 use Rattle.messages.specs.declared.reply.Reply.TheVariants as replies
 use Rattle.user_dedup.specs.Exec.{Peer}
 use Rattle.upload_job.specs.Lanes.{LaneView}
-use Rattle.lane_requests.specs.Runs.{Turn}
+use Rattle.lane_steps.specs.Runs.{Turn}
 use Rattle.local_link.specs.declared.link.LocalLink.{LocalLink}
 use Rattle.session.specs.declared.event.Event.TheVariants as events
 use Rattle.transcript.specs.declared.refusal.Refusal.{Refusal}
 use Rattle.transcript.specs.declared.line.Line.TheVariants as lines
-use Rattle.vault.specs.Vault.{Setting, Vault, Executes}
-use Rattle.vault.specs.Steps.{cloud_no, executed, moment_of, list_refusal, ListRun, entry_line}
+use Rattle.session_model.specs.Vault.{Setting, Vault, Executes}
+use Rattle.session_model.specs.Steps.{cloud_no, executed, moment_of, list_refusal, ListRun, entry_line}
 use Rattle.session.specs.Texts.{text_of}
 use Rattle.script_lines.specs.declared.listing.Listing.{Listing}
 use Rattle.script_lines.specs.declared.listing.NoPage.{NoPage}

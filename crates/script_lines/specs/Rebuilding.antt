@@ -5,7 +5,7 @@ use Rattle.rebuild.specs.declared.error.RebuildErr.{RebuildErr}
 use Rattle.rebuild.specs.declared.skips.Rebuilt.{Rebuilt}
 use Rattle.session.specs.Texts.{text_of}
 use Rattle.transcript.specs.declared.line.Line.{Line}
-use Rattle.vault.specs.Steps.{AreRebuildLines}
+use Rattle.session_model.specs.Steps.{AreRebuildLines}
 
 -- the text of the lines of this rebuild stands behind what was there; a want of memory has none
 abbrev pub SaysRebuild : UserId → ℕ → Result Rebuilt RebuildErr → List ℕ → List ℕ → Type 0

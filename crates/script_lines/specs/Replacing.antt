@@ -10,8 +10,8 @@ use Rattle.session.specs.declared.event.Event.{Event}
 use Rattle.session.specs.declared.event.Event.TheVariants as events
 use Rattle.transcript.specs.declared.line.Line.{Line}
 use Rattle.transcript.specs.declared.line.Line.TheVariants as lines
-use Rattle.vault.specs.Vault.{Setting, Vault}
-use Rattle.vault.specs.Steps.{cloud_no}
+use Rattle.session_model.specs.Vault.{Setting, Vault}
+use Rattle.session_model.specs.Steps.{cloud_no}
 use Rattle.script_lines.specs.declared.error.CarryErr.{CarryErr}
 use Rattle.script_lines.specs.declared.error.CarryErr.TheVariants as carry_errors
 use Rattle.script_lines.specs.At.{IsAt}

@@ -2,14 +2,14 @@
 use Rattle.std.specs.Prelude.{◌≡◌, ℕ, Bool, List, [], ◌∷◌, Option, Some, None, Result, Ok, Err, if◌then◌else◌}
 use Rattle.commit_journal.specs.declared.errors.OpenErr.{OpenErr}
 use Rattle.commit_journal.specs.declared.errors.OpenErr.TheVariants as errors
-use Rattle.opening_damage.specs.Damage.{IsDamage}
+use Rattle.share_server.specs.Damage.{IsDamage}
 use Rattle.upload_job.specs.declared.news.LaneNews.{LaneNews}
 use Rattle.lane_steps.specs.declared.error.StepErr.{StepErr}
 use Rattle.lane_steps.specs.declared.error.StepErr.TheVariants as step_errors
 use Rattle.transcript.specs.declared.line.Line.{Line}
 use Rattle.transcript.specs.declared.line.Line.TheVariants as lines
 use Rattle.transcript.specs.declared.news.News.TheVariants as news
-use Rattle.vault.specs.Steps.{cloud_no, step_line, no_step}
+use Rattle.session_model.specs.Steps.{cloud_no, step_line, no_step}
 
 -- the line of a job that is stored
 abbrev pub stored_if : ℕ → Bool → List Line

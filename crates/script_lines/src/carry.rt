@@ -16,13 +16,13 @@ use crate::one::{arm_line, replace_line, restart_line};
 use crate::rebuilding::rebuild_line;
 use crate::upload::upload_line;
 use crate::{CarryErr, Jobs};
-use answers::Answer;
 use cd_base::{Bytes, NoMemory};
 use cd_edges::Shelf;
 use frames::ReplyBuf;
 use local_link::LocalLink;
 use session::Event;
 use std::alloc::Global;
+use transcript::Answer;
 use upload_job::LaneNews;
 
 /// What is written and read on the way, and kept from line to line for its memory alone.

@@ -4,7 +4,7 @@ ghost use Rattle.std.specs.Prelude.{◌≡◌, ◌<◌, ◌++◌, ◌∷◌, [],
 ghost use Rattle.std.specs.List.{range_with_len};
 ghost use Rattle.session.specs.Spelling.{IsJob};
 ghost use Rattle.session.specs.declared.event.Event.TheVariants as events;
-ghost use Rattle.vault.specs.Steps.{step_line as step_line_of};
+ghost use Rattle.session_model.specs.Steps.{step_line as step_line_of};
 ghost use Rattle.session.specs.Texts.{text_of};
 ghost use Rattle.script_lines.specs.At.{Leaves};
 ghost use Rattle.script_lines.specs.Does.{CarriesOut, IsCutOff};
@@ -13,15 +13,14 @@ ghost use Rattle.script_lines.specs.Jobs.{AreReached};
 
 use crate::Jobs;
 use crate::news::{as_news, becomes, put_line, put_stored};
-use answers::Answer;
 use cd_base::{Bytes, CloudNo, NoMemory};
 use cd_edges::Shelf;
 use frames::ReplyBuf;
 use lane_steps::StepErr;
 use local_link::LocalLink;
-use transcript::{Line, News};
+use session_model::law_of_parts;
+use transcript::{Answer, Line, News};
 use upload_job::LaneNews;
-use vault::law_of_parts;
 
 // Appends what each reply told.
 fn put_told(job: u32, lane: CloudNo, told: &[LaneNews], text: &mut Answer) -> Result<(), NoMemory>

@@ -4,23 +4,21 @@ ghost use Rattle.std.specs.Prelude.{◌≡◌, ◌<◌, ◌++◌, ◌∷◌, [],
 ghost use Rattle.cd_base.specs.Limits.{IsPath};
 ghost use Rattle.session.specs.Spelling.{AreSources};
 ghost use Rattle.session.specs.declared.event.Event.TheVariants as events;
-ghost use Rattle.vault.specs.Steps.{IsGetLine};
+ghost use Rattle.session_model.specs.Steps.{IsGetLine};
 ghost use Rattle.script_lines.specs.At.{Leaves};
 ghost use Rattle.script_lines.specs.Does.{CarriesOut, IsCutOff};
 ghost use Rattle.script_lines.specs.Getting.{SaysGet};
 
 use crate::Jobs;
 use crate::news::{put_got, put_line};
-use answers::Answer;
 use cd_base::{Bytes, Clouds, NoMemory, UserId, Version};
 use cd_edges::Shelf;
 use local_link::LocalLink;
 use restore_job::RestoreErr;
-use restore_lines::as_refusal;
+use session_model::law_of_parts;
 use std::alloc::Global;
-use subset_restore::restore_any;
-use transcript::Line;
-use vault::law_of_parts;
+use subset_restore::{as_refusal, restore_any};
+use transcript::{Answer, Line};
 
 // Appends the file that a restore gave, or why it gave none.
 fn put_file(file: Bytes, came: Result<(), RestoreErr>, text: &mut Answer) -> Result<(), NoMemory>

@@ -28,9 +28,9 @@ impl Jobs {
     ghost use Rattle.user_dedup.specs.Link.{LeavesOthers};
     ghost use Rattle.session.specs.Spelling.{IsJob};
     ghost use Rattle.upload_job.specs.Lanes.{LaneView, request_at, IsAsked};
-    ghost use Rattle.lane_requests.specs.Reached.{IsReached};
+    ghost use Rattle.lane_steps.specs.Reached.{IsReached};
     ghost use Rattle.lane_steps.specs.Steps.{LaneSteps, Finishes, IsFound};
-    ghost use Rattle.vault.specs.Steps.{all_done};
+    ghost use Rattle.session_model.specs.Steps.{all_done};
     ghost use Rattle.script_lines.specs.Jobs.{job_lanes, with_job};
 
     /// No jobs. It takes no memory.

@@ -12,20 +12,18 @@ ghost use Rattle.script_lines.specs.Does.{CarriesOut, IsCutOff};
 ghost use Rattle.script_lines.specs.Jobs.{AreReached};
 ghost use Rattle.script_lines.specs.Dropping.{Drops};
 ghost use Rattle.script_lines.specs.Stepping.{stored_if, step_lines, IsTold};
-ghost use Rattle.vault.specs.Steps.{step_line as step_line_of};
+ghost use Rattle.session_model.specs.Steps.{step_line as step_line_of};
 
 use crate::Jobs;
 use crate::news::{as_news, becomes, put_line, put_stored};
-use answers::Answer;
 use cd_base::{Bytes, CloudNo, NoMemory};
 use cd_edges::Shelf;
 use frames::ReplyBuf;
-use lane_requests::law_of_lane_requests;
-use lane_steps::StepErr;
+use lane_steps::{StepErr, law_of_lane_requests};
 use local_link::{Fate, LocalLink};
-use transcript::{Line, News};
+use session_model::law_of_parts;
+use transcript::{Answer, Line, News};
 use upload_job::LaneNews;
-use vault::law_of_parts;
 
 // Appends what a reply told, and where it made the job a stored one the line of that.
 fn put_told_step(

@@ -9,7 +9,7 @@ ghost use Rattle.messages.specs.Replies.{IsReply};
 ghost use Rattle.messages.specs.Requests.{IsRequest};
 ghost use Rattle.session.specs.declared.event.Event.TheVariants as events;
 ghost use Rattle.transcript.specs.declared.line.Line.TheVariants as lines;
-ghost use Rattle.vault.specs.Steps.{entry_line as line_of_entry};
+ghost use Rattle.session_model.specs.Steps.{entry_line as line_of_entry};
 ghost use Rattle.session.specs.Texts.{text_of};
 ghost use Rattle.script_lines.specs.At.{Leaves};
 ghost use Rattle.script_lines.specs.Does.{CarriesOut, IsCutOff};
@@ -17,7 +17,6 @@ ghost use Rattle.script_lines.specs.Paging.{IsListReply, RefusesAs, TakesPage, A
 
 use crate::Jobs;
 use crate::news::put_line;
-use answers::Answer;
 use cd_base::{Bytes, CloudNo, NoMemory, Tag, UserId, Version};
 use cd_edges::Shelf;
 use frames::ReplyBuf;
@@ -25,7 +24,7 @@ use local_link::LocalLink;
 use message_fields::{Entries, KEY_LIMIT};
 use messages::{MsgErr, Reply, Request};
 use std::alloc::Global;
-use transcript::{Line, Refusal, write_line};
+use transcript::{Answer, Line, Refusal, write_line};
 use user_dedup::{Link, Lost};
 
 // Why a page wasn't taken.
@@ -81,6 +80,7 @@ fn refusal_of(cloud: CloudNo, reply: &Reply, kind: u8) -> Refusal
         Reply::Shares { .. } => Refusal::Strange { cloud, kind },
         Reply::NotYours { .. } => Refusal::Strange { cloud, kind },
         Reply::Entries { .. } => Refusal::Strange { cloud, kind },
+        Reply::Deleted => Refusal::Strange { cloud, kind },
         Reply::Full { .. } => Refusal::Strange { cloud, kind },
         Reply::Malformed { .. } => Refusal::Strange { cloud, kind },
     }

@@ -2,13 +2,12 @@
 
 ghost use Rattle.std.specs.Prelude.{◌≡◌, ◌++◌, ◌∷◌, [], ◌&&◌, not, OnOk, OnErr};
 ghost use Rattle.transcript.specs.declared.line.Line.TheVariants as lines;
-ghost use Rattle.vault.specs.Steps.{as_told};
+ghost use Rattle.session_model.specs.Steps.{as_told};
 ghost use Rattle.session.specs.Texts.{text_of};
 ghost use Rattle.script_lines.specs.Stepping.{stored_if};
 
-use answers::Answer;
 use cd_base::{Bytes, NoMemory};
-use transcript::{Line, News};
+use transcript::{Answer, Line, News};
 use upload_job::LaneNews;
 
 /// The news of a lane, as a transcript says them.

@@ -10,14 +10,13 @@ ghost use Rattle.share_server.specs.Serving.{an_error};
 
 use crate::news::put_line;
 use crate::{CarryErr, Jobs};
-use answers::Answer;
 use cd_base::{CloudNo, NoMemory};
 use cd_edges::{Failed, Shelf};
 use commit_journal::OpenErr;
 use local_link::LocalLink;
-use opening_damage::damage_of;
-use transcript::Line;
-use vault::law_of_parts;
+use session_model::law_of_parts;
+use share_server::damage_of;
+use transcript::{Answer, Line};
 
 /// `arm CLOUD CALLS KEEP`: a later write or sync of the cloud is cut.
 pub fn arm_line<V: Shelf>(

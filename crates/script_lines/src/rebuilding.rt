@@ -6,22 +6,21 @@ ghost use Rattle.session.specs.Spelling.{AreClouds};
 ghost use Rattle.session.specs.Texts.{text_of};
 ghost use Rattle.session.specs.declared.event.Event.TheVariants as events;
 ghost use Rattle.transcript.specs.declared.line.Line.TheVariants as lines;
-ghost use Rattle.vault.specs.Steps.{skip_word, skip_line, rebuild_refusal};
+ghost use Rattle.session_model.specs.Steps.{skip_word, skip_line, rebuild_refusal};
 ghost use Rattle.script_lines.specs.At.{Leaves};
 ghost use Rattle.script_lines.specs.Does.{CarriesOut, IsCutOff};
 ghost use Rattle.script_lines.specs.Rebuilding.{SaysRebuild};
 
 use crate::Jobs;
 use crate::news::put_line;
-use answers::Answer;
 use cd_base::{CloudNo, Clouds, NoMemory, UserId};
 use cd_edges::Shelf;
 use local_link::LocalLink;
 use rebuild::{RebuildErr, Rebuilt, Skip, SkipWhy, Skips, rebuild};
-use restore_lines::as_refusal;
+use session_model::law_of_parts;
 use std::alloc::Global;
-use transcript::{Line, Refusal, SkipWord, TargetWhy};
-use vault::law_of_parts;
+use subset_restore::as_refusal;
+use transcript::{Answer, Line, Refusal, SkipWord, TargetWhy};
 
 // Why a version was skipped, as a transcript says it.
 fn as_word(why: SkipWhy) -> SkipWord

@@ -9,14 +9,13 @@ ghost use Rattle.script_lines.specs.Jobs.{AreReached};
 
 use crate::Jobs;
 use crate::news::put_line;
-use answers::Answer;
 use cd_base::{NoMemory, UserId, Version};
 use cd_edges::Shelf;
 use local_link::LocalLink;
+use session_model::law_of_parts;
 use std::alloc::Global;
-use transcript::Line;
+use transcript::{Answer, Line};
 use upload_job::Job;
-use vault::law_of_parts;
 
 /// `upload USER PATH VERSION BYTES`: a job that is to bring a version of a file to all clouds. No cloud is asked.
 pub fn upload_line<V: Shelf>(

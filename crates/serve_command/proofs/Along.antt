@@ -6,8 +6,8 @@ use Rattle.cd_edges.specs.Causes.{Rose}
 use Rattle.cd_edges.specs.Disk.{Cloud}
 use Rattle.cd_edges.specs.Ports.{Telling}
 use Rattle.commit_journal.specs.declared.header.Header.{Header}
-use Rattle.frame_serving.specs.declared.served.Served.{Served}
-use Rattle.frame_serving.specs.Connection.{EndsWithCause}
+use Rattle.serve_command.specs.declared.served.Served.{Served}
+use Rattle.serve_command.specs.Connection.{EndsWithCause}
 use Rattle.serve_command.specs.Lines.{ready_text, connection_text, serving_text}
 use Rattle.serve_command.specs.Served.{Output, output_of, IsWhole, IsCut, IsLeftOut}
 use Rattle.serve_command.specs.Steps.{Moment, Goes, Went, Writes, ServesAll, moment_of, status_by}

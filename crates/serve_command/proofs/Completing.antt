@@ -6,7 +6,7 @@ use Rattle.cd_edges.specs.Disk.{reads}
 use Rattle.commit_journal.specs.declared.errors.OpenErr.{OpenErr}
 use Rattle.commit_journal.specs.declared.errors.OpenErr.TheVariants as errors
 use Rattle.cloud_opening.specs.Replied.{IsOkOrFault}
-use Rattle.cloud_serving.specs.Serving.{RepliesOne}
+use Rattle.serve_command.specs.Serving.{RepliesOne}
 use Rattle.share_server.proofs.NoCommands.{unbegun_stands, none_within}
 use Rattle.share_server.specs.Serving.{an_error}
 use Rattle.serve_command.specs.Complete.{IsStill, HasList, IsNew, GoesWell}

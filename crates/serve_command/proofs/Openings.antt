@@ -20,7 +20,7 @@ use Rattle.cloud_opening.specs.Spared.{Spares}
 use Rattle.cloud_store.specs.Space.{IsWithin, served_by}
 use Rattle.cloud_store.specs.Standing.{ImagesNow, ImagesSince, StandsAs}
 use Rattle.cloud_store.specs.Store.{StandsFor}
-use Rattle.cloud_serving.specs.Serving.{ServesOne}
+use Rattle.serve_command.specs.Serving.{ServesOne}
 use Rattle.share_server.specs.Names.{header_of, counted}
 use Rattle.share_server.specs.Refusals.{MayCome}
 use Rattle.share_server.specs.Serving.{IsOf, IsServing, an_error, settled_with}

@@ -2,9 +2,9 @@
 use Rattle.std.proofs.Common.{◌≡◌, ◌≢◌, ◌⊎◌, inl, inr, ℕ, ◌+◌, ◌<◌, ◌≤◌, List, [], ◌∷◌, ◌++◌, length, IsTrue, refl, sym}
 use Rattle.std.proofs.Common.{ap, ◌∙◌, subst, arith, length-append}
 use Rattle.cd_edges.specs.Ports.{Port, Telling, Opens}
-use Rattle.frame_serving.specs.declared.served.Served.{Served}
-use Rattle.frame_serving.specs.Connection as connections
-use Rattle.frame_serving.specs.Connection.{EndsBy, Passed, Serves}
+use Rattle.serve_command.specs.declared.served.Served.{Served}
+use Rattle.serve_command.specs.Connection as connections
+use Rattle.serve_command.specs.Connection.{EndsBy, Passed, Serves}
 use Rattle.serve_command.specs.Runs.{Connection, HasBytes, HaveBytes, HavePassed}
 use Rattle.serve_command.specs.Steps.{OneServed, PassesNext}
 

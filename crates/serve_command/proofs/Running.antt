@@ -6,10 +6,10 @@ use Rattle.cd_edges.specs.Ports.{Telling}
 use Rattle.cd_edges.proofs.Calls.{called_twice}
 use Rattle.commit_journal.specs.declared.header.Header.{Header}
 use Rattle.cloud_store.specs.Space.{served_by}
-use Rattle.cloud_serving.specs.Serving.{RepliesOne, ServesOne}
-use Rattle.frame_serving.specs.declared.served.Served.{Served}
-use Rattle.frame_serving.specs.declared.served.Served.TheVariants as ends
-use Rattle.frame_serving.specs.Connection.{EndsWithCause}
+use Rattle.serve_command.specs.Serving.{RepliesOne, ServesOne}
+use Rattle.serve_command.specs.declared.served.Served.{Served}
+use Rattle.serve_command.specs.declared.served.Served.TheVariants as ends
+use Rattle.serve_command.specs.Connection.{EndsWithCause}
 use Rattle.serve_command.specs.Runs.{Connection, Runs, None, More, ServeRun}
 use Rattle.serve_command.specs.Steps.{Moment, OneServed, Goes, Went}
 use Rattle.serve_command.proofs.Passing.{passed_none, passed_more}

@@ -4,7 +4,7 @@ use Rattle.std.proofs.Common.{◌∙◌, subst, append_assoc, append-nil, arith}
 use Rattle.std.specs.Io.KnownBytes.{Appends}
 use Rattle.std.proofs.lemmas.List.{take-append-drop}
 use Rattle.cd_edges.specs.Causes.{Rose}
-use Rattle.frame_serving.specs.declared.served.Served.{Served}
+use Rattle.serve_command.specs.declared.served.Served.{Served}
 use Rattle.serve_command.specs.Lines.{ready_text, connection_text, connection_texts, serving_text}
 use Rattle.serve_command.specs.Served.{IsWhole, IsCut, IsLeftOut, output_of}
 

@@ -1,7 +1,7 @@
 -- The lines of a cloud that is served.
 use Rattle.std.specs.Prelude.{ℕ, ◌+◌, List, [], ◌∷◌, ◌++◌, codes, decimal}
-use Rattle.frame_serving.specs.declared.served.Served.{Served}
-use Rattle.frame_serving.specs.declared.served.Served.TheVariants as ends
+use Rattle.serve_command.specs.declared.served.Served.{Served}
+use Rattle.serve_command.specs.declared.served.Served.TheVariants as ends
 use Rattle.transcript.specs.Transcript.{ended}
 
 -- how a connection ended

@@ -1,8 +1,8 @@
 -- Connections that are served one after another.
 use Rattle.std.specs.Prelude.{◌≡◌, ◌⊎◌, ℕ, ◌+◌, ◌<◌, ◌≤◌, List, [], ◌∷◌, ◌++◌, length, map, IsTrue}
 use Rattle.cd_edges.specs.Ports.{Port, Telling}
-use Rattle.frame_serving.specs.declared.served.Served.{Served}
-use Rattle.frame_serving.specs.Connection.{Responds, EndsBy, EndsWithCause}
+use Rattle.serve_command.specs.declared.served.Served.{Served}
+use Rattle.serve_command.specs.Connection.{Responds, EndsBy, EndsWithCause}
 
 -- a connection: how it ended, the contents that were answered, and their replies
 pub record Connection : Type 0 where

@@ -22,8 +22,8 @@ use Rattle.cloud_opening.specs.Spared.{Spares}
 use Rattle.cloud_store.specs.Space.{IsWithin, served_by}
 use Rattle.cloud_store.specs.Standing.{ImagesNow, ImagesSince, StandsAs}
 use Rattle.cloud_store.specs.Store.{StandsFor}
-use Rattle.cloud_serving.specs.Serving.{RepliesOne, ServesOne}
-use Rattle.frame_serving.specs.declared.served.Served.{Served}
+use Rattle.serve_command.specs.Serving.{RepliesOne, ServesOne}
+use Rattle.serve_command.specs.declared.served.Served.{Served}
 use Rattle.share_server.specs.Names.{header_of}
 use Rattle.share_server.specs.Serving.{an_error, settled_with}
 use Rattle.transcript.specs.Endings.{ending_text}

@@ -10,9 +10,9 @@ use Rattle.commit_journal.specs.declared.header.Header.{Header}
 use Rattle.user_dedup.specs.Exec.{Peer}
 use Rattle.cloud_state.specs.State.{IsSameServer}
 use Rattle.cloud_store.specs.Space.{served_by}
-use Rattle.cloud_serving.specs.Serving.{RepliesOne, ServesOne}
-use Rattle.frame_serving.specs.declared.served.Served.{Served}
-use Rattle.frame_serving.specs.Connection.{Responds}
+use Rattle.serve_command.specs.Serving.{RepliesOne, ServesOne}
+use Rattle.serve_command.specs.declared.served.Served.{Served}
+use Rattle.serve_command.specs.Connection.{Responds}
 use Rattle.share_server.specs.Serving.{IsServing}
 use Rattle.share_server.specs.declared.server.Server.{Server}
 use Rattle.serve_command.specs.Runs.{Connection, HasBytes, ServeRun}

@@ -2,15 +2,15 @@
 
 ghost use Rattle.std.specs.Prelude.{◌≡◌, ◌<◌, IfOk, OnErr};
 ghost use Rattle.cd_edges.specs.Causes.{Rose};
-ghost use Rattle.frame_serving.specs.Connection.{EndsWithCause};
+ghost use Rattle.serve_command.specs.Connection.{EndsWithCause};
 ghost use Rattle.serve_command.specs.Served.{output_of};
 ghost use Rattle.serve_command.specs.Steps.{Goes, ServesAll, moment_of, status_by};
 
 use crate::desk::Desk;
 use crate::lines::{write_connection, write_ready};
 use crate::stop::Stop;
+use crate::{Served, serve_connection};
 use cd_edges::{Failed, Ports, Shelf, Sink};
-use cloud_serving::{Served, serve_connection};
 use std::alloc::Global;
 
 // Waits for the next connection, serves it, and ends it. It says how the connection ended.

@@ -2,10 +2,19 @@
 #![tactic(auto)]
 
 mod command;
+mod connection;
 mod connections;
 mod desk;
+mod frame_responder;
+mod frames_in_turn;
 mod lines;
 mod refusal;
+mod responder;
+mod served;
 mod stop;
 
 pub use command::serve;
+pub use connection::serve_connection;
+pub use frame_responder::Responder;
+pub use frames_in_turn::serve_frames;
+pub use served::Served;

@@ -6,9 +6,9 @@ ghost use Rattle.serve_command.specs.Lines.{connection_text, end_word, ready_tex
 ghost use Rattle.serve_command.specs.Served.{output_of};
 ghost use Rattle.serve_command.specs.Steps.{Writes};
 
+use crate::Served;
 use crate::stop::Stop;
 use cd_edges::{Sink, write_all};
-use cloud_serving::Served;
 use std::alloc::{AllocError, Global};
 
 // `ready ADDRESS`, with its newline.

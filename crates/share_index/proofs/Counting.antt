@@ -11,8 +11,8 @@ use Rattle.share_index.specs.declared.key.UserNumber.{UserNumber}
 use Rattle.pool_map.specs.Table.{contents, charged, with_value_at, rewritten}
 use Rattle.pool_map.specs.MapSums.{sum_by-insert_new, sum_by-insert_over, sum_by-remove, sum_by-alike, sum_by-parts}
 use Rattle.pool_map.specs.Shown.{shown, get-shown, shown-insert, shown-remove, shown-empty}
-use Rattle.index_base.specs.declared.Accounts.TheVariants.{Shared}
-use Rattle.index_base.specs.Charges.{IsCharged, charged-use, charged-empty, charged-insert, charged-remove, got-insert, got-remove}
+use Rattle.pool_map.specs.declared.accounts.Accounts.TheVariants.{Shared}
+use Rattle.pool_map.specs.Charges.{IsCharged, charged-use, charged-empty, charged-insert, charged-remove, got-insert, got-remove}
 use Rattle.share_index.specs.Counts.{number_cmp, number_of, count_at, total, lowered, begun, batches_in, sum_below}
 use Rattle.share_index.proofs.SumBelow.{sum_below-counts}
 pub use Rattle.share_index.proofs.SumBelow.{number_total, number_exact}

@@ -10,11 +10,12 @@ use Rattle.std.specs.Cmp.{tied_itself}
 use Rattle.std.specs.FinMap.{FinMap, get, insert, remove, empty, entries, len, len-entries, len-empty, get-insert, get-remove, get-empty}
 use Rattle.pool_map.specs.MapSums.{sum_by-insert_new, sum_by-insert_over, sum_by-remove, sum_by-alike, sum_by-parts, insert-same}
 use Rattle.pool_map.specs.Shown.{shown, through, get-shown, sum_by-shown, shown-insert}
-use Rattle.index_base.specs.Slots.{slot_of, IsListed}
+use Rattle.pool_map.specs.Slots.{slot_of, IsListed}
 use Rattle.share_index.specs.declared.key.Kept.{Kept}
-use Rattle.share_index.specs.declared.key.Place.{Place}
+use Rattle.cd_base.specs.declared.place.Place.{Place}
 use Rattle.share_index.specs.declared.key.Owner.{Owner}
-use Rattle.share_index.specs.Order.{fp_cmp, owner_cmp, fp_exact, owner_exact}
+use Rattle.share_index.specs.Order.{owner_cmp, owner_exact}
+use Rattle.cd_base.specs.Order.{fp_cmp, fp_exact}
 use Rattle.share_index.specs.Owning.{Owners}
 use Rattle.share_index.specs.Placing.{Places, zeros}
 use Rattle.share_index.specs.Shares.{owners_of, ownerless_in}

@@ -14,10 +14,10 @@ use Rattle.share_index.specs.declared.key.UserNumber.{UserNumber}
 use Rattle.pool_map.specs.Table.{contents, charged, with_value_at, rewritten}
 use Rattle.pool_map.specs.MapSums.{sum_by-insert_new, sum_by-insert_over, sum_by-remove, insert-remove, insert-same}
 use Rattle.pool_map.specs.Shown.{shown, get-shown, len-shown, shown-insert, shown-remove, shown-empty}
-use Rattle.index_base.specs.declared.Accounts.{Accounts}
-use Rattle.index_base.specs.declared.IndexErr.TheVariants.{Full}
-use Rattle.index_base.specs.Accounts.{limits_of, limit_for, account_for, IsKnown, keys_of}
-use Rattle.index_base.specs.Charges.{IsCharged, charged-use, unknown-use, limit-account, charged-empty, charged-insert, charged-remove, charged-rewritten}
+use Rattle.pool_map.specs.declared.accounts.Accounts.{Accounts}
+use Rattle.pool_map.specs.declared.accounts.IndexErr.TheVariants.{Full}
+use Rattle.pool_map.specs.Accounts.{limits_of, limit_for, account_for, IsKnown, keys_of}
+use Rattle.pool_map.specs.Charges.{IsCharged, charged-use, unknown-use, limit-account, charged-empty, charged-insert, charged-remove, charged-rewritten}
 use Rattle.share_index.specs.declared.key.Owner.{Owner}
 use Rattle.share_index.specs.Order.{owner_cmp, owner_exact}
 use Rattle.share_index.specs.Counts.{UserCounts, number_cmp, number_of, count_at, total, lowered, begun, sum_below}

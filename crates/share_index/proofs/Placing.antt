@@ -12,10 +12,10 @@ use Rattle.pool_map.specs.declared.Entry.{Entry as Pair}
 use Rattle.pool_map.specs.Table.{contents, charged, with_value_at, rewritten}
 use Rattle.pool_map.specs.MapSums.{sum_by-insert_new, sum_by-insert_over, sum_by-remove, insert-remove, insert-same}
 use Rattle.pool_map.specs.Shown.{shown, get-shown, shown-insert, shown-remove, shown-empty}
-use Rattle.index_base.specs.declared.Accounts.TheVariants.{Shared}
-use Rattle.index_base.specs.Charges.{IsCharged, charged-use, charged-empty, charged-insert, charged-remove, charged-rewritten}
+use Rattle.pool_map.specs.declared.accounts.Accounts.TheVariants.{Shared}
+use Rattle.pool_map.specs.Charges.{IsCharged, charged-use, charged-empty, charged-insert, charged-remove, charged-rewritten}
 use Rattle.share_index.specs.declared.key.Kept.{Kept}
-use Rattle.share_index.specs.Order.{fp_cmp, fp_exact}
+use Rattle.cd_base.specs.Order.{fp_cmp, fp_exact}
 use Rattle.share_index.specs.Counting.{room_of}
 use Rattle.share_index.specs.Placing.{zeros, IsPlacing}
 

@@ -16,9 +16,10 @@ use Rattle.pool_map.specs.declared.Entry.{Entry as Pair}
 use Rattle.pool_map.specs.Table.{pairs, contents, pair_of}
 use Rattle.pool_map.specs.MapSums.{sum_by-insert_new}
 use Rattle.pool_map.specs.Shown.{shown, sum_by-shown}
-use Rattle.index_base.specs.Slots.{slot_of, IsListed, shown_slots, at-shown_slots, length-shown_slots}
+use Rattle.pool_map.specs.Slots.{slot_of, IsListed, shown_slots, at-shown_slots, length-shown_slots}
 use Rattle.share_index.specs.declared.key.Owner.{Owner}
-use Rattle.share_index.specs.Order.{fp_cmp, owner_cmp, owner_exact}
+use Rattle.share_index.specs.Order.{owner_cmp, owner_exact}
+use Rattle.cd_base.specs.Order.{fp_cmp}
 use Rattle.share_index.specs.Shares.{owners_of}
 use Rattle.share_index.specs.Owning.{shows_fp}
 use Rattle.share_index.proofs.Counting.{plain}

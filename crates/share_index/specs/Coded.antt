@@ -3,17 +3,18 @@ use Rattle.std.specs.Prelude.{ℕ, List, Option, refl}
 use Rattle.std.specs.Coded.{Coded, code_by, coded×, coded_ℕ, coded_list, coded_option}
 use Rattle.std.specs.FinMap as map
 use Rattle.share_index.specs.contracts.key.UserNumber as number
-use Rattle.index_base.specs.declared.Accounts.{Accounts}
-use Rattle.index_base.specs.contracts.Accounts as accounts
+use Rattle.pool_map.specs.declared.accounts.Accounts.{Accounts}
+use Rattle.pool_map.specs.contracts.accounts.Accounts as accounts
 use Rattle.share_index.specs.declared.key.Owner.{Owner}
 use Rattle.share_index.specs.contracts.key.Owner as owner
 use Rattle.share_index.specs.Counts.{UserCounts, number_cmp}
-use Rattle.share_index.specs.Order.{fp_cmp, owner_cmp}
+use Rattle.share_index.specs.Order.{owner_cmp}
+use Rattle.cd_base.specs.Order.{fp_cmp}
 use Rattle.share_index.specs.Owning.{Owners}
 use Rattle.share_index.specs.declared.key.Kept.{Kept}
 use Rattle.share_index.specs.contracts.key.Kept as kept
-use Rattle.share_index.specs.declared.key.Place.{Place}
-use Rattle.share_index.specs.contracts.key.Place as place
+use Rattle.cd_base.specs.declared.place.Place.{Place}
+use Rattle.cd_base.specs.contracts.place.Place as place
 use Rattle.share_index.specs.Placing.{Places}
 use Rattle.share_index.specs.Shares.{Shares}
 

@@ -6,8 +6,8 @@ use Rattle.pool_map.specs.declared.Entry.{Entry as Pair}
 use Rattle.share_index.specs.declared.key.UserNumber.{UserNumber}
 use Rattle.pool_map.specs.Table.{contents}
 use Rattle.pool_map.specs.Shown.{shown}
-use Rattle.index_base.specs.declared.Accounts.TheVariants.{Shared}
-use Rattle.index_base.specs.Charges.{IsCharged}
+use Rattle.pool_map.specs.declared.accounts.Accounts.TheVariants.{Shared}
+use Rattle.pool_map.specs.Charges.{IsCharged}
 use Rattle.share_index.specs.Counts.{UserCounts, number_cmp, batches_in}
 
 abbrev pub room_of : List ℕ → ℕ

@@ -3,8 +3,9 @@ use Rattle.std.specs.Prelude.{◌≡◌, ℕ, List, Option, Some, count_by, is_n
 use Rattle.std.specs.FinMap.{FinMap, get, entries}
 use Rattle.pool_map.specs.Shown.{shown, through}
 use Rattle.share_index.specs.declared.key.Kept.{Kept}
-use Rattle.share_index.specs.declared.key.Place.{Place}
-use Rattle.share_index.specs.Order.{fp_cmp, owner_cmp}
+use Rattle.cd_base.specs.declared.place.Place.{Place}
+use Rattle.share_index.specs.Order.{owner_cmp}
+use Rattle.cd_base.specs.Order.{fp_cmp}
 use Rattle.share_index.specs.Owning.{Owners}
 use Rattle.share_index.specs.Placing.{Places}
 use Rattle.share_index.specs.Shares.{Shares, owners_of}

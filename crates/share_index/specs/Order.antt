@@ -4,13 +4,10 @@ use Rattle.std.proofs.Common.{refl}
 use Rattle.std.specs.declared.cmp.Ordering.{Ordering}
 use Rattle.std.specs.declared.cmp.Ordering.TheVariants.{Less, Equal, Greater}
 use Rattle.std.specs.Ordering.{nat_cmp, on, then_cmp, ordering_then}
-use Rattle.std.specs.Cmp.Lexicographic.{slice_cmp}
-use Rattle.std.specs.FinMap.{nat_cmp-IsAntisymmetric, slice_cmp-IsAntisymmetric}
+use Rattle.std.specs.FinMap.{nat_cmp-IsAntisymmetric}
+use Rattle.cd_base.specs.Order.{fp_cmp, fp_exact}
 use Rattle.pool_map.specs.Word.{first_word}
 use Rattle.share_index.specs.declared.key.Owner.{Owner}
-
-abbrev pub fp_cmp : List ℕ → List ℕ → Ordering
-fp_cmp = slice_cmp nat_cmp
 
 abbrev pub owner_cmp : Owner → Owner → Ordering
 owner_cmp = then_cmp (on (λ k. k.user) nat_cmp) (on (λ k. k.fp) fp_cmp)
@@ -25,9 +22,6 @@ both-equal : (a b : Ordering) → ordering_then a b ≡ Equal → (a ≡ Equal) 
 both-equal Less b e = absurd (let no : Less ≡ Equal = e in cc)
 both-equal Equal b e = (refl, e)
 both-equal Greater b e = absurd (let no : Greater ≡ Equal = e in cc)
-
-pub fp_exact : (x y : List ℕ) → fp_cmp x y ≡ Equal → x ≡ y
-fp_exact = slice_cmp-IsAntisymmetric nat_cmp-IsAntisymmetric
 
 pub owner_exact : (x y : Owner) → owner_cmp x y ≡ Equal → x ≡ y
 owner_exact x y e =

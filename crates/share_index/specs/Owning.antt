@@ -6,12 +6,13 @@ use Rattle.slot_pool.specs.Pool.{Pool}
 use Rattle.pool_map.specs.declared.Entry.{Entry as Pair}
 use Rattle.pool_map.specs.Table.{contents}
 use Rattle.pool_map.specs.Shown.{shown}
-use Rattle.index_base.specs.declared.Accounts.{Accounts}
-use Rattle.index_base.specs.Accounts.{limits_of, use_for, keys_of}
-use Rattle.index_base.specs.Charges.{IsCharged}
-use Rattle.index_base.specs.Slots.{shown_slots}
+use Rattle.pool_map.specs.declared.accounts.Accounts.{Accounts}
+use Rattle.pool_map.specs.Accounts.{limits_of, use_for, keys_of}
+use Rattle.pool_map.specs.Charges.{IsCharged}
+use Rattle.pool_map.specs.Slots.{shown_slots}
 use Rattle.share_index.specs.declared.key.Owner.{Owner}
-use Rattle.share_index.specs.Order.{fp_cmp, owner_cmp}
+use Rattle.share_index.specs.Order.{owner_cmp}
+use Rattle.cd_base.specs.Order.{fp_cmp}
 use Rattle.share_index.specs.Counts.{UserCounts, count_at, total}
 
 pub record Owners : Type 0 where

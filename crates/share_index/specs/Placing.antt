@@ -5,11 +5,11 @@ use Rattle.slot_pool.specs.Pool.{Pool}
 use Rattle.pool_map.specs.declared.Entry.{Entry as Pair}
 use Rattle.pool_map.specs.Table.{contents}
 use Rattle.pool_map.specs.Shown.{shown}
-use Rattle.index_base.specs.declared.Accounts.TheVariants.{Shared}
-use Rattle.index_base.specs.Charges.{IsCharged}
-use Rattle.index_base.specs.Slots.{shown_slots}
+use Rattle.pool_map.specs.declared.accounts.Accounts.TheVariants.{Shared}
+use Rattle.pool_map.specs.Charges.{IsCharged}
+use Rattle.pool_map.specs.Slots.{shown_slots}
 use Rattle.share_index.specs.declared.key.Kept.{Kept}
-use Rattle.share_index.specs.Order.{fp_cmp}
+use Rattle.cd_base.specs.Order.{fp_cmp}
 use Rattle.share_index.specs.Counting.{room_of}
 
 pub record Places : Type 0 where

@@ -4,11 +4,12 @@ use Rattle.std.specs.Ordering.{eq_by_cmp}
 use Rattle.std.specs.FinMap.{FinMap, get, entries}
 use Rattle.cd_base.specs.declared.ids.Fp.{Fp}
 use Rattle.cd_base.specs.declared.ids.UserId.{UserId}
-use Rattle.index_base.specs.declared.Accounts.{Accounts}
-use Rattle.index_base.specs.Accounts.{use_for, keys_of}
-use Rattle.share_index.specs.declared.key.Place.{Place}
+use Rattle.pool_map.specs.declared.accounts.Accounts.{Accounts}
+use Rattle.pool_map.specs.Accounts.{use_for, keys_of}
+use Rattle.cd_base.specs.declared.place.Place.{Place}
 use Rattle.share_index.specs.declared.key.Owner.{Owner}
-use Rattle.share_index.specs.Order.{fp_cmp, owner_cmp, owner_of}
+use Rattle.share_index.specs.Order.{owner_cmp, owner_of}
+use Rattle.cd_base.specs.Order.{fp_cmp}
 use Rattle.share_index.specs.Counts.{begun, sum_below}
 
 -- the place of each fingerprint that has one, the uses of each fingerprint that a user owns, what stands in each slot, how many

@@ -1,14 +1,7 @@
 //! What an index is asked by, and what it answers.
 
-use cd_base::{Fp, UserId};
+use cd_base::{Fp, Place, UserId};
 use pool_map::Key;
-
-/// Where a share lies among a cloud's shares: its first byte's place and its length in bytes.
-#[derive(Clone, Copy, Debug, PartialEq, Eq)]
-pub struct Place {
-    pub at: u64,
-    pub len: u32,
-}
 
 /// A user that owns a fingerprint, in the order of users and fingerprints.
 #[derive(Clone, Copy, Debug, PartialEq, Eq, PartialOrd, Ord)]

@@ -5,10 +5,10 @@
 
 ghost use Rattle.std.specs.Prelude.{◌≡◌, ◌≤◌, ◌<◌, ◌+◌, ◌-◌, ◌*◌, ◌^◌, ◌↔◌, IfOk, IfErr, OnOk, OnErr, IsErr, IfSome, IsSome, IsTrue, None, is_some, option_map, length};
 ghost use Rattle.std.specs.FinMap as map;
-ghost use Rattle.index_base.specs.declared.Accounts.TheVariants.{Shared, PerUser};
-ghost use Rattle.index_base.specs.declared.IndexErr.TheVariants.{Full};
-ghost use Rattle.index_base.specs.Accounts.{limit_for, slots_of, keys_of};
-ghost use Rattle.index_base.specs.Slots.{slot_of, IsListed, IsRewritten};
+ghost use Rattle.pool_map.specs.declared.accounts.Accounts.TheVariants.{Shared, PerUser};
+ghost use Rattle.pool_map.specs.declared.accounts.IndexErr.TheVariants.{Full};
+ghost use Rattle.pool_map.specs.Accounts.{limit_for, slots_of, keys_of};
+ghost use Rattle.pool_map.specs.Slots.{slot_of, IsListed, IsRewritten};
 ghost use Rattle.share_index.specs.Order.{owner_of};
 ghost use Rattle.share_index.specs.Shares.{used_by, uses_at, owners_of, ownerless_in, batches_of, place_with, owner_with};
 
@@ -17,11 +17,12 @@ mod key;
 mod owners;
 mod places;
 
+pub use cd_base::Place;
 use cd_base::{Fp, NoMemory, UserId};
-pub use index_base::{Accounts, IndexErr};
-pub use key::{Kept, Owner, Place};
+pub use key::{Kept, Owner};
 use owners::OwnerTable;
 use places::PlaceTable;
+pub use pool_map::{Accounts, IndexErr};
 use std::alloc::Global;
 use std::marker::Model;
 

@@ -2,16 +2,15 @@
 
 ghost use Rattle.std.specs.Prelude.{◌≡◌, ◌<◌, ◌^◌, ◌↔◌, IfOk, IfErr, OnOk, OnErr, IsErr, IsSome, None, length, option_map};
 ghost use Rattle.std.specs.FinMap as map;
-ghost use Rattle.index_base.specs.declared.IndexErr.TheVariants.{Full};
-ghost use Rattle.index_base.specs.Accounts.{limit_for, slots_of, use_for, keys_of};
-ghost use Rattle.index_base.specs.Slots.{slot_of, IsListed};
+ghost use Rattle.pool_map.specs.declared.accounts.IndexErr.TheVariants.{Full};
+ghost use Rattle.pool_map.specs.Accounts.{limit_for, slots_of, use_for, keys_of};
+ghost use Rattle.pool_map.specs.Slots.{slot_of, IsListed};
 ghost use Rattle.share_index.specs.Shares.{batches_of, owners_of};
 ghost use Rattle.share_index.specs.Owning.{used_of, shows_fp};
 
 use crate::counts::UserCounts;
 use crate::key::Owner;
-use index_base::{Accounts, IndexErr};
-use pool_map::{HashTable, Table, TableFull};
+use pool_map::{Accounts, HashTable, IndexErr, Table, TableFull};
 use std::alloc::{AllocError, Global};
 use std::marker::Model;
 

@@ -2,7 +2,7 @@
 
 ghost use Rattle.std.specs.Prelude.{◌≡◌, ◌<◌, ◌==◌, ◌↔◌, false, if◌then◌else◌, is_some, IfOk, IfSome, IsSome, IsTrue, None, length, option_map};
 ghost use Rattle.std.specs.FinMap as map;
-ghost use Rattle.index_base.specs.Slots.{slot_of, IsListed, IsRewritten};
+ghost use Rattle.pool_map.specs.Slots.{slot_of, IsListed, IsRewritten};
 ghost use Rattle.share_index.specs.Placing.{zeros};
 
 use crate::key::Kept;

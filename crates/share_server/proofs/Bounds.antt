@@ -31,10 +31,10 @@ use Rattle.user_dedup.specs.Owning.{is_among, first_lacking, new_strings}
 use Rattle.user_dedup.specs.Pages.{entry_at}
 use Rattle.user_dedup.specs.Requests.{fps_of, HasRecipe}
 use Rattle.user_dedup.proofs.New.{are_new}
-use Rattle.user_dedup.proofs.Sound.{put_adds, commit_adds}
+use Rattle.user_dedup.proofs.Sound.{put_adds, commit_adds, deletes_from}
 use Rattle.user_dedup.proofs.Suiting.{suits}
 use Rattle.cloud_store.specs.Contents.{strings_in, distinct, recipes_in, recipes_end}
-use Rattle.cloud_store.specs.Space.{use_of, end_past, refusal, full_for, served_by, IsWithin}
+use Rattle.cloud_store.specs.Space.{use_of, end_past, refusal, deletion_full, full_for, served_by, IsWithin}
 use Rattle.cloud_store.proofs.Laying.{end-append}
 use Rattle.cloud_store.proofs.Lists.{strings_more, recipes_more, journal_more, length-put, length-commit}
 use Rattle.cloud_state.specs.State.{AreRooms}
@@ -47,6 +47,7 @@ use Rattle.share_server.specs.Steps.{AreNumbered}
 abbrev IsBounded : Command → Type 0
 IsBounded (commands.Put user shares) = (length shares ≤ 256) × All IsShare shares
 IsBounded (commands.Commit user tag version recipe) = (length tag.0 ≡ 32) × (length recipe ≤ 1180190)
+IsBounded (commands.Delete user tag version) = Unit {0}
 
 few_new : (own : List Fp) (sent : List (List ℕ)) → length (new_strings own sent) ≤ length sent
 few_new own [] = omega arith
@@ -79,6 +80,8 @@ bounded shape cloud list (requests.Commit user tag version recipe) command fits 
 bounded shape cloud list (requests.GetRecipe user tag version) command fits has e = absurd (let f : None ≡ Some command = e in cc)
 bounded shape cloud list (requests.GetShares user fps) command fits has e = absurd (let f : None ≡ Some command = e in cc)
 bounded shape cloud list (requests.List user after) command fits has e = absurd (let f : None ≡ Some command = e in cc)
+bounded shape cloud list (requests.Delete user tag version) command fits has e =
+    subst IsBounded (sym (deletes_from (entry_at (user_view shape list user).files (tag, version)) (commands.Delete user tag version) command e).1) tt
 
 -- ---- a full room
 
@@ -173,9 +176,19 @@ module _ (rooms : Rooms) (list : List Command) (within : IsWithin rooms list) (l
       (refused_small names.Recipes used.recipes (grown.recipes - used.recipes) rooms.recipes full (omega arith) (omega arith) (omega arith))
       (refused_small names.Journal used.journal (grown.journal - used.journal) rooms.journal full (omega arith) (omega arith) (omega arith)) rest) e
 
+  delete_small : (user : UserId) (tag : Tag) (version : Version) (full : FullRoom) → full_for rooms list (commands.Delete user tag version) ≡ Some full → IsSmall full
+  unfolding full_for
+  delete_small user tag version full e =
+      let is : Some (deletion_full rooms list) ≡ Some full = e in
+      let same : deletion_full rooms list ≡ full = cc in
+      let used = within.journal in
+      let limit = limits.journal in
+      subst IsSmall same (record { used = omega (arith, used, limit); need = omega (arith, limit); limit = omega (arith, limit) })
+
   full_small : (command : Command) (full : FullRoom) → All IsShare (strings_in list) → IsBounded command → full_for rooms list command ≡ Some full → IsSmall full
   full_small (commands.Put user shares) full all b e = put_small user shares full all b.0 b.1 e
   full_small (commands.Commit user tag version recipe) full all b e = commit_small user tag version recipe full b.0 b.1 e
+  full_small (commands.Delete user tag version) full all b e = delete_small user tag version full e
 
   module _ (shape : Shape) (cloud : ℕ) (request : Request) (sound : IsSound shape cloud list) (small : cloud < 256) (fits : FitsRequest request) (has : HasRecipe shape request) where
     fits_by_room : (command : Command) (room : Option FullRoom) → (answer_over shape cloud list request).adds ≡ Some command → full_for rooms list command ≡ room

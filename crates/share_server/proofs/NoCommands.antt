@@ -23,9 +23,9 @@ pub empty_stands : (image : Image) (header : Header) → ((area : Area) → imag
 empty_stands image header empty = unbegun_stands image header (unbegun image empty)
 
 pub none_within : (rooms : Rooms) → 64 ≤ rooms.journal → IsWithin rooms []
-none_within rooms least = record { fps = omega arith; owners = omega arith; files = omega arith; shares = omega arith; recipes = omega arith; journal = omega arith }
+none_within rooms least = record { fps = omega arith; owners = omega arith; files = omega arith; shares = omega arith; recipes = omega arith; journal = omega arith; undeleted = tt }
 
 pub fewer_within : (rooms : Rooms) (list : List Command) → IsWithin rooms list → IsWithin rooms []
 fewer_within rooms list within =
     let j = within.journal in
-    record { fps = omega arith; owners = omega arith; files = omega arith; shares = omega arith; recipes = omega arith; journal = omega arith }
+    record { fps = omega arith; owners = omega arith; files = omega arith; shares = omega arith; recipes = omega arith; journal = omega arith; undeleted = tt }

@@ -69,6 +69,7 @@ fault_leaves content (requests.Commit user tag version recipe) answer leaves fau
 fault_leaves content (requests.GetRecipe user tag version) answer leaves fault is = finds_none content answer leaves fault.spelled is.spelled
 fault_leaves content (requests.GetShares user fps) answer leaves fault is = finds_foreign content answer leaves fault.spelled is.spelled
 fault_leaves content (requests.List user after) answer leaves fault is = leaves
+fault_leaves content (requests.Delete user tag version) answer leaves fault is = finds_none content answer leaves fault.spelled is.spelled
 
 -- a reply that isn't Damaged has another content
 pub not_damaged : (content : List ℕ) (reply : Reply) (at byte : ℕ) → ((a b : ℕ) → reply ≢ replies.Damaged a b) → content ≡ reply_bytes reply → content ≡ reply_bytes (replies.Damaged at byte) → ⊥
@@ -89,3 +90,4 @@ not_damaged content (replies.Damaged a b) at byte never is damaged = never a b r
 not_damaged content (replies.Rotten named found) at byte never is damaged = omega (arith, kinds content 143 142 _ _ is damaged)
 not_damaged content (replies.Malformed wrong) at byte never is damaged = omega (arith, kinds content 144 142 _ _ is damaged)
 not_damaged content replies.NoMemory at byte never is damaged = omega (arith, kinds content 145 142 _ _ is damaged)
+not_damaged content replies.Deleted at byte never is damaged = omega (arith, kinds content 146 142 _ _ is damaged)

@@ -1,3 +1,4 @@
+pub mod Damage
 pub mod Names
 pub mod Refusals
 pub mod Serving

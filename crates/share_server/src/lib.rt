@@ -2,10 +2,12 @@
 //! its disk, and after each crash a prefix of it that has every acknowledged command.
 #![tactic(auto)]
 
+mod damage;
 pub mod laws;
 mod refusals;
 mod server;
 mod serving;
 
 pub use commit_journal::OpenErr;
+pub use damage::damage_of;
 pub use server::Server;

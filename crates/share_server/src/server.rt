@@ -181,6 +181,8 @@ impl Server {
     /// is open, and what was added is certain. It takes no memory but for containers that it reads and keeps, up to 4
     /// of Shares and 4 of Recipes of 4,194,304 bytes each, and goes on without where there is none for them.
     ///
+    /// A Delete adds nothing: it is Missing, or Full of the journal, which has no record of one.
+    ///
     /// A request that adds nothing leaves the cloud's areas and the memory as they were. Stored with 0, Full, Lacking,
     /// Missing and NotYours by an open server come with no call of a device at all. Rotten names what lies then where
     /// the memory has the share or the recipe, and what lies there is another or shorter. An open server never answers

@@ -7,7 +7,7 @@ use Rattle.journal_start.specs.Ranges.{IsBehind}
 use Rattle.journal_start.specs.Spelling.{epoch_of, region_of}
 use Rattle.journal_halves.specs.Halves.{HasStart, IsCurrent}
 use Rattle.journal_halves.proofs.Current.{one_start, begun_half}
-use Rattle.half_journal.specs.Openings.{IsUnbegun}
+use Rattle.journal_halves.specs.Beginnings.{IsUnbegun}
 
 -- two epochs can't both be the later one
 one_epoch : (a b : ℕ) → a ≤ 2 → b ≤ 2 → a ≡ (b + 1) % 3 → b ≡ (a + 1) % 3 → ⊥

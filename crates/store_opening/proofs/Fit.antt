@@ -6,7 +6,7 @@ use Rattle.cd_base.specs.declared.ids.UserId.{UserId}
 use Rattle.message_fields.specs.Shares.{share_limit}
 use Rattle.record_body.specs.declared.body.PutItem.{PutItem}
 use Rattle.record_body.specs.Spelling.{FitsPlaced, FitsItem}
-use Rattle.share_index.specs.declared.key.Place.{Place}
+use Rattle.cd_base.specs.declared.place.Place.{Place}
 use Rattle.spent_table.specs.declared.Spent.{Spent}
 use Rattle.cloud_memory.specs.Fitting.{FitsPart, FitsRecords}
 use Rattle.cloud_memory.specs.Memory.{Memory}

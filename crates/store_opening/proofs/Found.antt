@@ -10,11 +10,12 @@ use Rattle.journal_halves.specs.Journals.{Where, all_bodies, HasChain}
 use Rattle.commit_journal.specs.Records.{IsJournal}
 use Rattle.half_journal.specs.declared.errors.OpenErr.{OpenErr}
 use Rattle.half_journal.specs.declared.errors.OpenErr.TheVariants.{Fault, NotBegun, Damaged, OtherStore}
-use Rattle.half_journal.specs.Openings.{IsUnbegun, OnFault}
+use Rattle.half_journal.specs.Openings.{OnFault}
+use Rattle.journal_halves.specs.Beginnings.{IsUnbegun}
 use Rattle.half_journal.specs.States.{State, IsEnded}
 use Rattle.record_bodies.specs.Spelling.{body_bytes}
-use Rattle.command_list.specs.declared.command.Command.{Command}
-use Rattle.command_list.specs.Commands.{counted}
+use Rattle.user_dedup.specs.declared.command.Command.{Command}
+use Rattle.user_dedup.specs.Cloud.{counted}
 use Rattle.cloud_areas.specs.Standing.{where_of, region_in, number_at, HasList, StandsFor}
 use Rattle.cloud_disk.specs.Disk.{Disk, AreEnds, IsOn}
 use Rattle.cloud_memory.specs.Memory.{Memory}

@@ -15,10 +15,10 @@ use Rattle.journal_start.specs.declared.start.Header.{Header}
 use Rattle.journal_start.specs.declared.start.Start.{Start}
 use Rattle.journal_start.specs.Spelling.{start_bytes, records_of, commands_of}
 use Rattle.journal_halves.specs.Halves.{half_len, half_of, half_limit}
-use Rattle.current_half.specs.Findings.{part_of}
+use Rattle.journal_halves.specs.Findings.{part_of}
 use Rattle.half_journal.specs.declared.errors.OpenErr.{OpenErr}
 use Rattle.record_bodies.specs.Spelling.{Body, body_bytes, FitsBody}
-use Rattle.command_list.specs.declared.command.Command.{Command}
+use Rattle.user_dedup.specs.declared.command.Command.{Command}
 use Rattle.cloud_areas.specs.Standing.{Chain, region_in, IsChain, Holds}
 use Rattle.cloud_areas.proofs.Room.{half_is_enough}
 use Rattle.cloud_memory.specs.Memory.{Memory}
@@ -30,7 +30,7 @@ use Rattle.record_checks.specs.Noting.{nothing_noted, IsNoted}
 use Rattle.record_checks.proofs.OneAnswer.{one_answer}
 use Rattle.record_laws.specs.Leaving.{MayHold, front_left, IsLeftIn, EndsWithinRows}
 use Rattle.record_laws.proofs.Chain.{all_left, left_bounds}
-use Rattle.lawful_records.specs.Fronts.{is_inside, marks_of, IsNext, PassesWith}
+use Rattle.record_laws.specs.Fronts.{is_inside, marks_of, IsNext, PassesWith}
 use Rattle.store_opening.specs.Exact.{ground_of, number_behind, ReadsFor, Recipe, Nothing, Closes, Within, SharesPast, RecipesPast, shares_bound, recipes_bound, Replays, Ended, Early, Taken, Refused, Broken, ReplaysAll}
 use Rattle.store_opening.proofs.Stated.{Laws}
 use Rattle.store_opening.proofs.Opened.{not_open, not_broken}

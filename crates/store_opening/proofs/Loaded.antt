@@ -8,7 +8,7 @@ use Rattle.journal_start.specs.declared.start.Start.{Start}
 use Rattle.journal_start.specs.Spelling.{start_bytes, region_of}
 use Rattle.journal_halves.specs.Halves.{half_len}
 use Rattle.journal_halves.specs.Journals.{Where}
-use Rattle.current_half.specs.Findings.{part_of}
+use Rattle.journal_halves.specs.Findings.{part_of}
 use Rattle.half_journal.specs.declared.errors.OpenErr.{OpenErr}
 use Rattle.half_journal.specs.States.{State, IsReading}
 use Rattle.cloud_memory.specs.Memory.{Memory}

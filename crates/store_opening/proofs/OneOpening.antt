@@ -9,7 +9,7 @@ use Rattle.file_index.specs.declared.key.Entry.{Entry}
 use Rattle.record_bodies.specs.Reading.{body_at}
 use Rattle.record_bodies.specs.Spelling.{Body}
 use Rattle.record_body.specs.declared.body.BodyErr.{BodyErr}
-use Rattle.share_index.specs.declared.key.Place.{Place}
+use Rattle.cd_base.specs.declared.place.Place.{Place}
 use Rattle.journal_start.specs.declared.start.Header.{Header}
 use Rattle.journal_start.specs.declared.start.Start.{Start}
 use Rattle.journal_start.specs.Spelling.{records_of}

@@ -13,8 +13,8 @@ use Rattle.journal_start.specs.Spelling.{start_bytes, epoch_of}
 use Rattle.journal_start.proofs.Whole.{again}
 use Rattle.journal_halves.specs.Halves.{half_len, half_of, is_half_begun, HasStart, IsCurrent}
 use Rattle.journal_halves.proofs.Current.{one_start, begun_half}
-use Rattle.current_half.specs.Findings.{part_of, IsFaultAt, IsBodyDamage, IsStartDamage, IsSound, epoch_place, IsFoundDamage, InFirst, InSecond, Epochs}
-use Rattle.half_journal.specs.Openings.{IsUnbegun}
+use Rattle.journal_halves.specs.Findings.{part_of, IsFaultAt, IsBodyDamage, IsStartDamage, IsSound, epoch_place, IsFoundDamage, InFirst, InSecond, Epochs}
+use Rattle.journal_halves.specs.Beginnings.{IsUnbegun}
 use Rattle.half_journal.proofs.Kept.{record_off}
 use Rattle.store_opening.proofs.Current.{epoch_small, other_before}
 

@@ -15,13 +15,15 @@ use Rattle.journal_start.specs.Spelling.{start_bytes, records_of, commands_of, r
 use Rattle.journal_halves.specs.Halves.{half_len, half_of, IsCurrent}
 use Rattle.journal_halves.specs.Journals.{Where, HasChain}
 use Rattle.journal_halves.proofs.Laying.{split}
-use Rattle.current_half.specs.Findings.{part_of}
+use Rattle.journal_halves.specs.Findings.{part_of}
 use Rattle.half_journal.specs.declared.errors.OpenErr.{OpenErr}
 use Rattle.half_journal.specs.declared.errors.OpenErr.TheVariants.{Fault, NotBegun, Damaged, OtherStore}
-use Rattle.half_journal.specs.Openings.{IsUnbegun, IsNewOrUnbegun, MayBecome, OpensIs, OnFault}
-use Rattle.half_journal.specs.States.{State, IsReading, new_of}
+use Rattle.half_journal.specs.Openings.{IsNewOrUnbegun, MayBecome, OpensIs, OnFault}
+use Rattle.journal_halves.specs.Beginnings.{IsUnbegun}
+use Rattle.half_journal.specs.States.{State, IsReading}
+use Rattle.journal_halves.specs.Beginnings.{new_of}
 use Rattle.half_journal.specs.States as half_states
-use Rattle.command_list.specs.declared.command.Command.{Command}
+use Rattle.user_dedup.specs.declared.command.Command.{Command}
 use Rattle.cloud_areas.specs.Standing.{StandsFor}
 use Rattle.cloud_memory.specs.Memory.{Memory}
 use Rattle.cloud_memory.specs.Steps.{begun}

@@ -1,6 +1,6 @@
 -- A record with what lies where its recipe is to lie.
 use Rattle.std.proofs.Common.{◌≡◌, ℕ, Bool, List, [], take, drop, Result, sym, subst}
-use Rattle.share_index.specs.declared.key.Place.{Place}
+use Rattle.cd_base.specs.declared.place.Place.{Place}
 use Rattle.half_journal.specs.declared.errors.OpenErr.{OpenErr}
 use Rattle.half_journal.specs.Openings.{OnFault}
 use Rattle.cloud_memory.specs.Memory.{Memory}

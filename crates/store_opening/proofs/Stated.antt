@@ -5,16 +5,16 @@ use Rattle.cd_edges.specs.Disk.{Image}
 use Rattle.journal_start.specs.declared.start.Header.{Header}
 use Rattle.journal_halves.specs.Journals.{Where, HasChain}
 use Rattle.record_bodies.specs.Spelling.{Body, body_bytes, FitsBody}
-use Rattle.share_index.specs.declared.key.Place.{Place}
-use Rattle.command_list.specs.declared.command.Command.{Command}
-use Rattle.command_list.specs.Commands.{counted}
+use Rattle.cd_base.specs.declared.place.Place.{Place}
+use Rattle.user_dedup.specs.declared.command.Command.{Command}
+use Rattle.user_dedup.specs.Cloud.{counted}
 use Rattle.cloud_areas.specs.Standing.{Chain, region_in, number_at, Holds, HasChainOf, StandsFor}
 use Rattle.cloud_memory.specs.Memory.{Memory}
 use Rattle.cloud_memory.specs.Steps.{begun}
 use Rattle.record_checks.specs.declared.taking.Taking.{Taking}
 use Rattle.record_checks.specs.Noting.{IsNoted}
 use Rattle.record_laws.specs.Leaving.{checkpoint_records, front_left}
-use Rattle.lawful_records.specs.Fronts.{marks_of, IsNext, Wants, PassesWith}
+use Rattle.record_laws.specs.Fronts.{marks_of, IsNext, Wants, PassesWith}
 
 pub record Laws : Type 0 where
   pub there : (header : Header) (image : Image) (list : List Command) (c : Chain) (before : List Body) (body : Body) (place : Place) → IsNext header image list c before body → FitsBody body

@@ -10,9 +10,9 @@ use Rattle.journal_start.specs.declared.start.Start.{Start}
 use Rattle.journal_start.specs.Spelling.{records_of}
 use Rattle.journal_halves.specs.Halves.{half_len, half_of}
 use Rattle.journal_halves.specs.Journals.{Where, all_bodies, with_body}
-use Rattle.current_half.specs.Findings.{part_of}
-use Rattle.half_records.specs.Outcomes.{gate_at, rest_of, StepsOver}
-use Rattle.half_records.specs.States as records
+use Rattle.journal_halves.specs.Findings.{part_of}
+use Rattle.journal_halves.specs.Outcomes.{gate_at, rest_of, StepsOver}
+use Rattle.journal_halves.specs.States as records
 use Rattle.half_journal.specs.declared.errors.OpenErr.{OpenErr}
 use Rattle.half_journal.specs.declared.errors.OpenErr.TheVariants.{Fault, NotBegun, Damaged, OtherStore}
 use Rattle.half_journal.specs.declared.journal.Stage.{Stage}

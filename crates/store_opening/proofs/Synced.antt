@@ -10,7 +10,8 @@ use Rattle.cd_edges.proofs.Torn.{only}
 use Rattle.journal_start.specs.declared.start.Header.{Header}
 use Rattle.half_journal.specs.declared.errors.OpenErr.{OpenErr}
 use Rattle.half_journal.specs.declared.errors.OpenErr.TheVariants.{Fault, NotBegun, Damaged, OtherStore}
-use Rattle.half_journal.specs.Openings.{IsUnbegun, MayBecome, OpensIs, IsOpening, OnFault}
+use Rattle.half_journal.specs.Openings.{MayBecome, OpensIs, IsOpening, OnFault}
+use Rattle.journal_halves.specs.Beginnings.{IsUnbegun}
 use Rattle.half_journal.specs.States.{State}
 use Rattle.store_opening.specs.Starts.{IsStarted}
 use Rattle.store_opening.specs.Synced.{AreSynced, BeginsSynced}

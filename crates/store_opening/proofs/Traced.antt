@@ -7,7 +7,7 @@ use Rattle.record_bodies.specs.Reading.{body_at}
 use Rattle.record_bodies.specs.Spelling.{Body, FitsBody}
 use Rattle.record_body.specs.declared.body.PutItem.{PutItem}
 use Rattle.record_body.specs.Spelling.{FitsItem, item_bytes}
-use Rattle.share_index.specs.declared.key.Place.{Place}
+use Rattle.cd_base.specs.declared.place.Place.{Place}
 use Rattle.spent_table.specs.declared.Spent.{Spent}
 use Rattle.user_dedup.specs.Requests.{fps_of}
 use Rattle.cloud_areas.specs.Placing.{end_of}

@@ -6,16 +6,16 @@ use Rattle.cd_edges.specs.declared.area.Area.TheVariants.{Journal, Shares, Recip
 use Rattle.cd_edges.specs.Disk.{Image}
 use Rattle.commit_journal.specs.Records.{IsDamage}
 use Rattle.commit_journal.specs.Frames.{IsClosed, IsRecord}
-use Rattle.share_index.specs.declared.key.Place.{Place}
+use Rattle.cd_base.specs.declared.place.Place.{Place}
 use Rattle.spent_table.specs.declared.Spent.{Spent}
 use Rattle.journal_start.specs.declared.start.Header.{Header}
 use Rattle.journal_start.specs.declared.start.Start.{Start}
 use Rattle.journal_start.specs.Spelling.{start_bytes, commands_of, records_of, region_of}
 use Rattle.journal_halves.specs.Halves.{half_len, IsCurrent}
-use Rattle.current_half.specs.Findings.{part_of, IsFoundDamage}
+use Rattle.journal_halves.specs.Findings.{part_of, IsFoundDamage}
 use Rattle.half_journal.specs.declared.errors.OpenErr.{OpenErr}
 use Rattle.half_journal.specs.declared.errors.OpenErr.TheVariants.{NotBegun, Damaged, OtherStore}
-use Rattle.half_journal.specs.Openings.{IsUnbegun}
+use Rattle.journal_halves.specs.Beginnings.{IsUnbegun}
 use Rattle.half_journal.specs.Outcomes.{records_place}
 use Rattle.cloud_areas.specs.Placing.{region_start}
 use Rattle.cloud_areas.specs.Chains.{least_shares, least_recipes}

@@ -10,9 +10,10 @@ use Rattle.journal_halves.specs.Halves.{half_limit}
 use Rattle.journal_halves.specs.Journals.{Where}
 use Rattle.half_journal.specs.declared.errors.OpenErr.{OpenErr}
 use Rattle.half_journal.specs.declared.errors.OpenErr.TheVariants.{Fault, NotBegun, Damaged, OtherStore}
-use Rattle.half_journal.specs.Openings.{IsUnbegun, MayBecome, OnFault}
+use Rattle.half_journal.specs.Openings.{MayBecome, OnFault}
+use Rattle.journal_halves.specs.Beginnings.{IsUnbegun}
 use Rattle.half_journal.specs.States.{State, IsEnded}
-use Rattle.command_list.specs.declared.command.Command.{Command}
+use Rattle.user_dedup.specs.declared.command.Command.{Command}
 use Rattle.cloud_areas.specs.Standing.{Chain, region_in, StandsFor}
 use Rattle.cloud_disk.specs.Disk.{Disk, IsOn}
 use Rattle.cloud_memory.specs.Memory.{Memory, Remembers, IsPlacedBy, HasEnds, Stand}

@@ -7,8 +7,10 @@ use Rattle.cd_edges.specs.Shelf.{stable}
 use Rattle.journal_start.specs.declared.start.Header.{Header}
 use Rattle.journal_halves.specs.Journals.{HasChain}
 use Rattle.half_journal.specs.declared.errors.OpenErr.{OpenErr}
-use Rattle.half_journal.specs.Openings.{IsUnbegun, MayBecome, OpensIs, IsOpened, OnFault}
-use Rattle.half_journal.specs.States.{State, new_of}
+use Rattle.half_journal.specs.Openings.{MayBecome, OpensIs, IsOpened, OnFault}
+use Rattle.journal_halves.specs.Beginnings.{IsUnbegun}
+use Rattle.half_journal.specs.States.{State}
+use Rattle.journal_halves.specs.Beginnings.{new_of}
 use Rattle.store_opening.specs.Synced.{AreSynced, BeginsSynced}
 
 -- Each image since, the answer, and what stands after Ok.

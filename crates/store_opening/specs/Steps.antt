@@ -3,14 +3,14 @@ use Rattle.std.specs.Prelude.{◌≡◌, ℕ, ◌+◌, Bool, true, false, List, 
 use Rattle.cd_edges.specs.Disk.{Store, Cloud, reads}
 use Rattle.journal_start.specs.declared.start.Header.{Header}
 use Rattle.journal_halves.specs.Journals.{Where, with_body}
-use Rattle.half_records.specs.Outcomes.{gate_at, rest_of}
+use Rattle.journal_halves.specs.Outcomes.{gate_at, rest_of}
 use Rattle.half_journal.specs.declared.errors.OpenErr.{OpenErr}
 use Rattle.half_journal.specs.declared.errors.OpenErr.TheVariants.{Fault, NotBegun, Damaged, OtherStore}
 use Rattle.half_journal.specs.declared.journal.Stage.{Stage}
 use Rattle.half_journal.specs.declared.journal.Stage.TheVariants.{Shut, Reading, AtEnd}
 use Rattle.half_journal.specs.States as journals
-use Rattle.command_list.specs.declared.command.Command.{Command}
-use Rattle.command_list.specs.Commands.{counted}
+use Rattle.user_dedup.specs.declared.command.Command.{Command}
+use Rattle.user_dedup.specs.Cloud.{counted}
 use Rattle.cloud_areas.specs.Placing.{region_start}
 use Rattle.cloud_areas.specs.Standing.{Chain, region_in}
 use Rattle.cloud_disk.specs.Disk.{IsRead}

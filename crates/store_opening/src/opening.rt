@@ -19,8 +19,8 @@ ghost use Rattle.store_opening.specs.Spared.{Spares, KeepsLists, IsReadWhole, Is
 ghost use Rattle.store_opening.specs.Steps.{IsFound};
 ghost use Rattle.record_laws.specs.Leaving.{MayHold};
 ghost use Rattle.cd_edges.specs.declared.area.Area.{Area};
-ghost use Rattle.command_list.specs.declared.command.Command.{Command};
-ghost use Rattle.command_list.specs.Commands.{counted};
+ghost use Rattle.user_dedup.specs.declared.command.Command.{Command};
+ghost use Rattle.user_dedup.specs.Cloud.{counted};
 ghost use Rattle.cloud_areas.specs.Standing.{StandsFor};
 
 use crate::journal::open_journal;
@@ -32,7 +32,7 @@ use cloud_disk::CloudDisk;
 use cloud_memory::CloudMemory;
 use half_journal::{Journal, OpenErr};
 use journal_start::Header;
-use lawful_records::laws::{law_of_fronts, law_of_lawful_records};
+use record_laws::taking::{law_of_fronts, law_of_lawful_records};
 
 // Opens the journal of synced areas or begins it, and takes each record into the memory. After an Err the journal is shut.
 fn open_all<V: Shelf>(

@@ -1,6 +1,7 @@
-pub mod Subsets
-pub mod Tries
-pub mod Restored
 pub mod Ends
-pub mod Tracking
 pub mod Going
+pub mod Refusals
+pub mod Restored
+pub mod Subsets
+pub mod Tracking
+pub mod Tries

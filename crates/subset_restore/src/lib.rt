@@ -4,9 +4,11 @@
 
 mod chosen;
 mod laws;
+mod refusal;
 mod refusals;
 mod restoring;
 mod trying;
 
 pub use laws::law_of_subsets;
+pub use refusal::as_refusal;
 pub use restoring::restore_any;

@@ -1,5 +1,7 @@
 pub mod Joined
-pub mod Shapes
-pub mod WordsBack
-pub mod LinesBack
 pub mod LineLaws
+pub mod LinesBack
+pub mod Shapes
+pub mod Texts
+pub mod WordsBack
+pub mod Written

@@ -1,6 +1,8 @@
-pub mod Words
-pub mod Transcript
 pub mod Endings
-pub mod ShapeOf
+pub mod Packed
 pub mod Ranges
 pub mod Reading
+pub mod ShapeOf
+pub mod Transcript
+pub mod Words
+pub mod Writing

@@ -1,14 +1,18 @@
 //! The lines of a session's transcript, and the lines with which a command ends.
 #![tactic(auto)]
 
+mod answer;
 mod ending;
+mod gathering;
 mod laws;
 mod line;
 mod news;
 mod refusal;
+mod spelling;
 mod words;
 mod writing;
 
+pub use answer::Answer;
 pub use ending::{Ending, write_ending};
 pub use laws::law_of_lines;
 pub use line::{Line, SkipWord};

@@ -3,6 +3,7 @@ pub mod Machine
 pub mod Sending
 pub mod Replying
 pub mod Wanting
+pub mod Ending
 pub mod Laning
 pub mod Begun
 pub mod Naming

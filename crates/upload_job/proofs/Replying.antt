@@ -47,6 +47,7 @@ short w state replies.Missing fits h = omega arith
 short w state (replies.Shares shares) fits h = absurd (no_shares w state shares h)
 short w state (replies.NotYours place) fits h = omega arith
 short w state (replies.Entries entries) fits h = absurd (no_entries w state entries h)
+short w state replies.Deleted fits h = omega arith
 short w state (replies.Full room used need limit) fits h = omega arith
 short w state replies.Fault fits h = omega arith
 short w state (replies.Damaged at byte) fits h = omega arith

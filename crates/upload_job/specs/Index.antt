@@ -1,5 +1,5 @@
 -- How a job keeps its lanes: where the wanted shares lie, and up to which of them the lane has come.
-use Rattle.std.specs.Prelude.{◌≡◌, ◌≢◌, ℕ, ◌+◌, ◌<◌, ◌≤◌, Bool, true, false, List, [], ◌∷◌, ◌++◌, length, map, take, drop, slice_range, slice_index_or, All, Option, Some, None, Ok, Err}
+use Rattle.std.specs.Prelude.{◌≡◌, ◌≢◌, ℕ, zero, suc, ◌+◌, ◌<◌, ◌≤◌, Bool, true, false, List, [], ◌∷◌, ◌++◌, length, map, take, drop, slice_range, slice_index_or, All, Option, Some, None, Ok, Err}
 use Rattle.cd_base.specs.declared.shape.Shape.{Shape}
 use Rattle.cd_base.specs.Lengths.{share_len_of}
 use Rattle.cd_base.specs.Limits.{secret_limit}
@@ -102,6 +102,16 @@ next_in all state (Some stage) = state_in all stage
 abbrev pub moved_to : Lane → Option Stage → Lane
 moved_to lane None = lane
 moved_to lane (Some stage) = record { recipe = lane.recipe; items = lane.items; shares = lane.shares; wanted = lane.wanted; stage = stage }
+
+-- the lanes, of which those of these numbers stand at this stage
+abbrev pub staged_at : List Lane → ℕ → Stage → List Lane
+staged_at [] i stage = []
+staged_at (lane ∷ lanes) zero stage = moved_to lane (Some stage) ∷ lanes
+staged_at (lane ∷ lanes) (suc i) stage = lane ∷ staged_at lanes i stage
+
+abbrev pub done_at : List Lane → List ℕ → List Lane
+done_at lanes [] = lanes
+done_at lanes (cloud ∷ clouds) = done_at (staged_at lanes cloud stages.Done) clouds
 
 -- a step is made by a reply to the lane's request, and none by another
 abbrev pub StepIs : Work → List (List ℕ) → LaneState → Reply → Option Step → Type 0

@@ -1,12 +1,12 @@
 //! A job: a version of a file on its way to all clouds, or to one alone.
 
 use crate::beginning::{lane_alone, lanes_of};
-use crate::lane::{FileKey, Lane, are_done, move_lane};
+use crate::lane::{FileKey, Lane, are_done, end_lanes, move_lane};
 use crate::requests::put_request;
 use crate::turn::{Turn, turn_of};
 use crate::{LaneErr, LaneNews};
 use caont_rs::tag_of;
-use cd_base::{Bytes, CloudNo, NoMemory, Shape, UserId, Version};
+use cd_base::{Bytes, CloudNo, Clouds, NoMemory, Shape, UserId, Version};
 use file_recipe::{disperse_file, disperse_for};
 use std::alloc::Global;
 use std::marker::Model;
@@ -41,7 +41,7 @@ impl Job {
     ghost use Rattle.cd_base.specs.Limits.{IsPath};
     ghost use Rattle.recipe.specs.Spelling.{file_limit};
     ghost use Rattle.upload_job.specs.Lane.{Done};
-    ghost use Rattle.upload_job.specs.Lanes.{lanes_begun, lane_begun, request_at, IsAsked, AnswersAt};
+    ghost use Rattle.upload_job.specs.Lanes.{lanes_begun, lanes_resumed, lane_begun, request_at, IsAsked, AnswersAt};
 
     /// A new job of a version of a file of at most 67,108,864 bytes, each lane at its beginning. The file is cut and dispersed
     /// once, here.
@@ -89,6 +89,35 @@ impl Job {
         let tag = tag_of(alloc, shape, path)?;
         let file = disperse_for(alloc, shape, lane, path, bytes)?;
         let lanes = lane_alone(alloc, shape, lane, file)?;
+        Ok(Job {
+            alloc,
+            key: FileKey { user, tag, version },
+            lanes,
+            spare: Bytes::new(alloc),
+        })
+    }
+
+    /// A job that goes on with a version of a file of at most 67,108,864 bytes: the lanes of these clouds have entered it and ask for
+    /// nothing, and the others are at their beginning. The file is cut and dispersed once, here.
+    pub fn resume(
+        alloc: Global,
+        shape: Shape,
+        user: UserId,
+        path: &[u8],
+        version: Version,
+        bytes: &[u8],
+        committed: &Clouds,
+    ) -> Result<Job, NoMemory>
+        requires path { IsPath path.now }
+        requires few { length bytes.now ≤ file_limit }
+        requires below { All (λ cloud. cloud < shape.n) committed.now }
+        ensures { IfOk result (λ job. job ≡ lanes_resumed shape
+            (record { user = user; path = path.now; number = version; file = bytes.now }) committed.now) }
+    {
+        let tag = tag_of(alloc, shape, path)?;
+        let files = disperse_file(alloc, shape, path, bytes)?;
+        let mut lanes = lanes_of(alloc, shape, files.into_vec())?;
+        end_lanes(&mut lanes, committed.as_slice());
         Ok(Job {
             alloc,
             key: FileKey { user, tag, version },

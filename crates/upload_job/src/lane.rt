@@ -1,17 +1,18 @@
 //! One lane: where it stands, and what a reply does to it.
 
-ghost use Rattle.std.specs.Prelude.{◌≡◌, ◌==◌, ◌↔◌, ◌≤◌, ℕ, List, length, take, drop, vec_len, IsTrue, All, Some, None};
+ghost use Rattle.std.specs.Prelude.{◌≡◌, ◌==◌, ◌↔◌, ◌≤◌, ◌<◌, ℕ, List, length, take, drop, vec_len, IsTrue, All, Some, None};
 ghost use Rattle.std.specs.List.{list_all, count_by};
 ghost use Rattle.message_fields.specs.Fingerprints.{batch_limit};
 ghost use Rattle.upload_job.specs.Upload.{Work, in_batches};
 ghost use Rattle.upload_job.specs.Lane.{Asking, Sending, Committing, past_known, unflagged};
 ghost use Rattle.messages.specs.declared.reply.Reply.TheVariants.{Known, Stored, Lacking};
 ghost use Rattle.upload_job.specs.declared.lane.Stage.TheVariants as stages;
-ghost use Rattle.upload_job.specs.Index.{state_in, moved_to, StepIs};
+ghost use Rattle.cd_base.specs.Numbers.{numbers_of};
+ghost use Rattle.upload_job.specs.Index.{state_in, moved_to, staged_at, done_at, StepIs};
 
 use crate::LaneNews;
 use crate::wanted::{Wanted, batch_at};
-use cd_base::{Bytes, Tag, UserId, Version};
+use cd_base::{Bytes, CloudNo, Tag, UserId, Version};
 use messages::Reply;
 
 /// The user, and the tag and version of the file.
@@ -104,7 +105,8 @@ fn moves(news: LaneNews, stage: Stage) -> Option<Step>
 // Past a batch of which all is known, or to sending what isn't.
 fn past(from: usize, next: usize, flags: Bytes) -> Stage
     ensures { (all : List (List ℕ)) → drop next all ≡ drop batch_limit (drop from all)
-        → state_in all result ≡ past_known (take batch_limit (drop from all)) flags (in_batches (drop batch_limit (drop from all))) }
+        → state_in all result
+        ≡ past_known (take batch_limit (drop from all)) flags (in_batches (drop batch_limit (drop from all))) }
 {
     if are_ones(flags.as_slice()) {
         Stage::Bringing { from: next }
@@ -115,7 +117,8 @@ fn past(from: usize, next: usize, flags: Bytes) -> Stage
 
 // After flags for a batch of so many.
 fn after_known(from: usize, next: usize, asked: u16, flags: Bytes) -> Option<Step>
-    ensures { (w : Work) (all : List (List ℕ)) → length (take batch_limit (drop from all)) ≡ asked → drop next all ≡ drop batch_limit (drop from all)
+    ensures { (w : Work) (all : List (List ℕ)) → length (take batch_limit (drop from all)) ≡ asked
+        → drop next all ≡ drop batch_limit (drop from all)
         → StepIs w all (Asking (take batch_limit (drop from all)) (in_batches (drop batch_limit (drop from all)))) (Known flags) result }
 {
     if flags.len() != asked as usize {
@@ -127,7 +130,8 @@ fn after_known(from: usize, next: usize, asked: u16, flags: Bytes) -> Option<Ste
 
 // What a reply does to the lane that asks for a batch of so many, behind which the next one begins.
 fn after_query(from: usize, next: usize, asked: u16, reply: Reply) -> Option<Step>
-    ensures { (w : Work) (all : List (List ℕ)) → length (take batch_limit (drop from all)) ≡ asked → drop next all ≡ drop batch_limit (drop from all)
+    ensures { (w : Work) (all : List (List ℕ)) → length (take batch_limit (drop from all)) ≡ asked
+        → drop next all ≡ drop batch_limit (drop from all)
         → StepIs w all (Asking (take batch_limit (drop from all)) (in_batches (drop batch_limit (drop from all)))) reply result }
 {
     match reply {
@@ -145,6 +149,7 @@ fn after_query(from: usize, next: usize, asked: u16, reply: Reply) -> Option<Ste
         Reply::Shares { .. } => None,
         Reply::NotYours { .. } => None,
         Reply::Entries { .. } => None,
+        Reply::Deleted => None,
         Reply::Full { .. } => None,
         Reply::Rotten { .. } => None,
         Reply::Malformed { .. } => None,
@@ -153,7 +158,8 @@ fn after_query(from: usize, next: usize, asked: u16, reply: Reply) -> Option<Ste
 
 // After so many shares that were new, of those that were sent.
 fn after_stored(next: usize, sent: u16, new: u16) -> Option<Step>
-    ensures { (w : Work) (all batch : List (List ℕ)) (flags : List ℕ) (rest : List (List (List ℕ))) → length (unflagged batch flags) ≡ sent → in_batches (drop next all) ≡ rest
+    ensures { (w : Work) (all batch : List (List ℕ)) (flags : List ℕ) (rest : List (List (List ℕ)))
+        → length (unflagged batch flags) ≡ sent → in_batches (drop next all) ≡ rest
         → StepIs w all (Sending batch flags rest) (Stored new) result }
 {
     if new <= sent {
@@ -168,7 +174,8 @@ fn after_stored(next: usize, sent: u16, new: u16) -> Option<Step>
 
 // What a reply does to the lane that sends so many shares, behind whose batch the next one begins.
 fn after_put(next: usize, sent: u16, reply: Reply) -> Option<Step>
-    ensures { (w : Work) (all batch : List (List ℕ)) (flags : List ℕ) (rest : List (List (List ℕ))) → length (unflagged batch flags) ≡ sent → in_batches (drop next all) ≡ rest
+    ensures { (w : Work) (all batch : List (List ℕ)) (flags : List ℕ) (rest : List (List (List ℕ)))
+        → length (unflagged batch flags) ≡ sent → in_batches (drop next all) ≡ rest
         → StepIs w all (Sending batch flags rest) reply result }
 {
     match reply {
@@ -200,6 +207,7 @@ fn after_put(next: usize, sent: u16, reply: Reply) -> Option<Step>
         Reply::Shares { .. } => None,
         Reply::NotYours { .. } => None,
         Reply::Entries { .. } => None,
+        Reply::Deleted => None,
         Reply::Rotten { .. } => None,
         Reply::Malformed { .. } => None,
     }
@@ -207,7 +215,8 @@ fn after_put(next: usize, sent: u16, reply: Reply) -> Option<Step>
 
 // After the place of an item that the cloud lacks: back to the first batch.
 fn after_lacking(items: u32, place: u32) -> Option<Step>
-    ensures { (w : Work) (all : List (List ℕ)) → w.items ≡ items → w.batches ≡ in_batches all → StepIs w all Committing (Lacking place) result }
+    ensures { (w : Work) (all : List (List ℕ)) → w.items ≡ items → w.batches ≡ in_batches all
+        → StepIs w all Committing (Lacking place) result }
 {
     if place < items {
         moves(LaneNews::Lacking { place }, Stage::Bringing { from: 0 })
@@ -218,7 +227,8 @@ fn after_lacking(items: u32, place: u32) -> Option<Step>
 
 // What a reply does to the lane that enters a recipe of so many items.
 fn after_commit(items: u32, reply: Reply) -> Option<Step>
-    ensures { (w : Work) (all : List (List ℕ)) → w.items ≡ items → w.batches ≡ in_batches all → StepIs w all Committing reply result }
+    ensures { (w : Work) (all : List (List ℕ)) → w.items ≡ items → w.batches ≡ in_batches all
+        → StepIs w all Committing reply result }
 {
     match reply {
         Reply::Committed => moves(LaneNews::Committed, Stage::Done),
@@ -252,13 +262,15 @@ fn after_commit(items: u32, reply: Reply) -> Option<Step>
         Reply::Shares { .. } => None,
         Reply::NotYours { .. } => None,
         Reply::Entries { .. } => None,
+        Reply::Deleted => None,
         Reply::Malformed { .. } => None,
     }
 }
 
 // The step of a lane that asks, or enters the recipe.
 fn after_bringing(wanted: &[Wanted], items: u32, from: usize, reply: Reply) -> Option<Step>
-    ensures { (w : Work) (all : List (List ℕ)) → length all ≡ length wanted.now → w.items ≡ items → w.batches ≡ in_batches all
+    ensures { (w : Work) (all : List (List ℕ)) → length all ≡ length wanted.now → w.items ≡ items
+        → w.batches ≡ in_batches all
         → StepIs w all (state_in all (stages.Bringing from)) reply result }
 {
     if from < wanted.len() {
@@ -281,7 +293,8 @@ fn after_sending(wanted: &[Wanted], from: usize, flags: &[u8], reply: Reply) -> 
 
 /// What a reply does to the lane, or None where no server that keeps to the rules gives it to the lane's request.
 pub fn step_of(lane: &Lane, reply: Reply) -> Option<Step>
-    ensures { (w : Work) (all : List (List ℕ)) → length all ≡ vec_len lane.now.wanted → w.items ≡ lane.now.items → w.batches ≡ in_batches all
+    ensures { (w : Work) (all : List (List ℕ)) → length all ≡ vec_len lane.now.wanted → w.items ≡ lane.now.items
+        → w.batches ≡ in_batches all
         → StepIs w all (state_in all lane.now.stage) reply result }
 {
     match &lane.stage {
@@ -323,4 +336,22 @@ pub fn are_done(lanes: &[Lane]) -> bool
     ensures { IsTrue result ↔ All (λ lane. lane.stage ≡ stages.Done) lanes.now }
 {
     lanes.iter().all(|lane| is_done(lane))
+}
+
+// Ends the lane of this cloud: its version is entered.
+fn end_lane(lanes: &mut Vec<Lane>, cloud: CloudNo)
+    requires { cloud.0 < length lanes.old.items }
+    ensures { lanes.new.items ≡ staged_at lanes.old.items cloud.0 stages.Done }
+{
+    lanes[cloud.0 as usize].stage = Stage::Done;
+}
+
+/// Ends the lanes of these clouds: their version is entered.
+pub fn end_lanes(lanes: &mut Vec<Lane>, clouds: &[CloudNo])
+    requires { All (λ cloud. cloud < length lanes.old.items) (numbers_of clouds.now) }
+    ensures { lanes.new.items ≡ done_at lanes.old.items (numbers_of clouds.now) }
+{
+    for cloud in clouds {
+        end_lane(lanes, *cloud);
+    }
 }

@@ -37,6 +37,7 @@ RecipeBytes (requests.Commit user tag version recipe) = AreBytes recipe
 RecipeBytes (requests.GetRecipe user tag version) = Unit {0}
 RecipeBytes (requests.GetShares user fps) = Unit {0}
 RecipeBytes (requests.List user after) = Unit {0}
+RecipeBytes (requests.Delete user tag version) = Unit {0}
 
 recipe_bytes : (content : List ℕ) (r : Request) → AreBytes content → content ≡ request_bytes r → RecipeBytes r
 recipe_bytes content requests.Hello known e = tt
@@ -46,6 +47,7 @@ recipe_bytes content (requests.Commit user tag version recipe) known e = end_byt
 recipe_bytes content (requests.GetRecipe user tag version) known e = tt
 recipe_bytes content (requests.GetShares user fps) known e = tt
 recipe_bytes content (requests.List user after) known e = tt
+recipe_bytes content (requests.Delete user tag version) known e = tt
 
 commit_read : (request r : Request) (found : Result Recipe ℕ) → recipe_read request found ≡ Ok r → (request ≡ r) × ((recipe : Recipe) × (found ≡ Ok recipe))
 commit_read request r (Ok recipe) e = (ok_same request r e, (recipe, refl))
@@ -61,6 +63,7 @@ whole_from shape (requests.Commit user tag version recipe) r known e =
 whole_from shape (requests.GetRecipe user tag version) r known e = (ok_same (requests.GetRecipe user tag version) r e, tt)
 whole_from shape (requests.GetShares user fps) r known e = (ok_same (requests.GetShares user fps) r e, tt)
 whole_from shape (requests.List user after) r known e = (ok_same (requests.List user after) r e, tt)
+whole_from shape (requests.Delete user tag version) r known e = (ok_same (requests.Delete user tag version) r e, tt)
 
 whole_has : (shape : Shape) (q : Request) → RecipeBytes q → HasRecipe shape q → whole_read shape (Ok q) ≡ Ok q
 whole_has shape requests.Hello known has = refl
@@ -71,6 +74,7 @@ whole_has shape (requests.Commit user tag version recipe) known has =
 whole_has shape (requests.GetRecipe user tag version) known has = refl
 whole_has shape (requests.GetShares user fps) known has = refl
 whole_has shape (requests.List user after) known has = refl
+whole_has shape (requests.Delete user tag version) known has = refl
 
 asked_from : (shape : Shape) (content : List ℕ) (r : Request) (found : Result Request ℕ) → request_at content ≡ found → AreBytes content → whole_read shape found ≡ Ok r → IsAsked shape content r
 asked_from shape content r (Err at) is known e = absurd (let f : Err at ≡ read r = e in cc)

@@ -1,10 +1,21 @@
-pub mod Owned
-pub mod New
-pub mod Views
-pub mod Replies
-pub mod Sound
-pub mod Pages
 pub mod Asked
-pub mod Suiting
+mod CompactRows
+pub mod CompactSound
+pub mod Compacting
+pub mod Deleting
+pub mod Entries
 pub mod Execs
+pub mod Filtered
+pub mod Growing
+pub mod New
+pub mod Once
+pub mod Owned
+pub mod Pages
+pub mod Replies
 mod Rows
+pub mod Sorting
+pub mod Sound
+pub mod Spending
+pub mod Suiting
+pub mod Views
+pub mod Within

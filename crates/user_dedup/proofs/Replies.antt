@@ -40,6 +40,7 @@ by_view shape cloud v f g (requests.GetShares user fps) h =
     ap only (same_shares v.own fps (λ fp. unwrap_or (f fp) []) (λ fp. unwrap_or (g fp) []) (first_lacking v.own fps) (finds v.own fps)
     (λ fp c o. ap (λ s. unwrap_or s []) (h fp c o)))
 by_view shape cloud v f g (requests.List user after) h = refl
+by_view shape cloud v f g (requests.Delete user tag version) h = refl
 
 pub same_reply : (shape : Shape) (cloud : ℕ) (one two : List Command) (request : Request)
     → user_view shape two (asker request) ≡ user_view shape one (asker request)
@@ -61,6 +62,7 @@ held_alike shape list more user (requests.GetShares u fps) = λ fp c o.
     let held = owned_is_held shape list user fp o in
     held.1 ∙ sym (held_more list more fp held.0 held.1)
 held_alike shape list more user (requests.List u after) = tt
+held_alike shape list more user (requests.Delete u tag version) = tt
 
 pub isolated : (shape : Shape) (cloud : ℕ) (list : List Command) (command : Command) (request : Request) → (user_of command).0 ≢ (asker request).0
     → answer_over shape cloud (list ++ command ∷ []) request ≡ answer_over shape cloud list request

@@ -1,95 +1,41 @@
 -- What holds of sound lists.
-use Rattle.std.proofs.Common.{◌≡◌, ℕ, zero, suc, Bool, true, false, cond, List, [], ◌∷◌, ◌++◌, length, map, Option, Some, None, refl, sym, ap, ◌∙◌, subst, arith, inl, inr, ◌⊎◌, eq-eqb}
-use Rattle.std.specs.Prelude.{slice_get, bytes_eq, All, ◌&&◌, ◌==◌}
+use Rattle.std.proofs.Common.{◌≡◌, ℕ, List, [], ◌∷◌, ◌++◌, length, get_or, map, Option, Some, None, refl, sym, ap, subst, arith, inl, inr, ◌⊎◌}
+use Rattle.std.specs.Prelude.{All, IsSome}
 use Rattle.std.specs.List.{Contains}
-use Rattle.std.specs.Cmp.Lexicographic.{nat_list_eq_equiv}
-use Rattle.std.proofs.lemmas.Bool.{cases_eq, eqb-true, and_parts}
-use Rattle.std.proofs.lemmas.Slice.Eq.{bytes_eq-Decides}
+use Rattle.std.proofs.lemmas.Bool.{cases_eq}
 use Rattle.std.proofs.lemmas.List.{length-append}
-use Rattle.std.proofs.lemmas.List.Elements.{All-weaker, Contains-append_left, Contains-push_cases}
+use Rattle.std.proofs.lemmas.List.Elements.{All-weaker, All-contains, Contains-get_or, Contains-append_left, Contains-push_cases}
 use Rattle.cd_base.specs.declared.ids.Tag.{Tag}
 use Rattle.cd_base.specs.declared.ids.UserId.{UserId}
 use Rattle.cd_base.specs.declared.ids.Version.{Version}
 use Rattle.cd_base.specs.declared.shape.Shape.{Shape}
-use Rattle.messages.specs.declared.request.Request.{Request}
 use Rattle.messages.specs.declared.request.Request.TheVariants as requests
-use Rattle.user_dedup.specs.declared.command.Command.{Command}
-use Rattle.user_dedup.specs.declared.command.Command.TheVariants as commands
+use Rattle.messages.specs.declared.request.Request.{Request}
 use Rattle.user_dedup.specs.declared.file_list.FileEntry.{FileEntry}
 use Rattle.user_dedup.specs.declared.view.View.{View}
-use Rattle.user_dedup.specs.Cloud.{fingerprint, user_of, view_after, user_view}
 use Rattle.user_dedup.specs.Owning.{first_lacking, FindsLacking, new_strings}
-use Rattle.user_dedup.specs.Pages.{key_of, is_at, entry_at, AreApart}
+use Rattle.user_dedup.specs.Pages.{entry_at, AreApart}
 use Rattle.user_dedup.specs.Requests.{fps_of, asker}
-use Rattle.user_dedup.specs.Dedup.{put_outcome, commit_outcome, answer_over, IsSound, Begun, Added, IsAdded}
 use Rattle.user_dedup.proofs.Owned.{finds, contains_nothing}
-use Rattle.user_dedup.proofs.Views.{own_adds, others_stay, found_passes}
-
--- ---- entries
-
-at_its_key : (entry : FileEntry) (key : Tag × Version) → key_of entry ≡ key → is_at key entry ≡ true
-at_its_key entry key e = subst (λ k. is_at k entry ≡ true) e (both (bytes_eq entry.tag.0 entry.tag.0) (entry.version.0 == entry.version.0) (nat_list_eq_equiv.refl entry.tag.0) (eq-eqb entry.version.0 entry.version.0 refl))
-  where
-    both : (a b : Bool) → a ≡ true → b ≡ true → (a && b) ≡ true
-    both true b p q = q
-    both false b p q = cc
-
-its_key : (entry : FileEntry) (key : Tag × Version) → is_at key entry ≡ true → key_of entry ≡ key
-its_key entry key e =
-    let p = and_parts (bytes_eq entry.tag.0 key.0.0) _ e in
-    let tag : entry.tag.0 ≡ key.0.0 = (bytes_eq-Decides entry.tag.0 key.0.0).0 p.0 in
-    let version : entry.version.0 ≡ key.1.0 = eqb-true _ _ p.1 in
-    λ i. (record { 0 = tag i }, record { 0 = version i })
-
--- what is found has the key
-pub found_entry : (files : List FileEntry) (key : Tag × Version) (entry : FileEntry) → entry_at files key ≡ Some entry → (key_of entry ≡ key) × Contains files entry
-found_entry files key entry e = let f = found_passes (is_at key) files entry e in (its_key entry key f.0, f.1)
-
--- where none is found no entry has the key
-pub no_entry : (files : List FileEntry) (key : Tag × Version) → entry_at files key ≡ None → (i : ℕ) (entry : FileEntry) → slice_get files i ≡ Some entry → key_of entry ≡ key → ⊥
-no_entry [] key none i entry at same = let no : None ≡ Some entry = at in cc
-no_entry (x ∷ files) key none i entry at same = by_test (is_at key x) refl (no_entry files key) none i at
-  where
-    by_test : (b : Bool) → is_at key x ≡ b
-        → (entry_at files key ≡ None → (i : ℕ) (entry : FileEntry) → slice_get files i ≡ Some entry → key_of entry ≡ key → ⊥)
-        → cond b (Some x) (entry_at files key) ≡ None → (i : ℕ) → slice_get (x ∷ files) i ≡ Some entry → ⊥
-    by_test true h rest none i at = let no : Some x ≡ None = none in cc
-    by_test false h rest none zero at =
-        let x_is : Some x ≡ Some entry = at in
-        let x_same : x ≡ entry = cc in
-        let yes : is_at key x ≡ true = at_its_key x key (ap key_of x_same ∙ same) in
-        cc
-    by_test false h rest none (suc i) at = rest none i entry at same
-
-get_push : {A : Type 0} (xs : List A) (y : A) (i : ℕ) (a : A) → slice_get (xs ++ y ∷ []) i ≡ Some a → (slice_get xs i ≡ Some a) ⊎ ((i ≡ length xs) × (y ≡ a))
-get_push [] y zero a e = inr (refl, let f : Some y ≡ Some a = e in cc)
-get_push [] y (suc i) a e = absurd (let no : None ≡ Some a = e in cc)
-get_push (x ∷ xs) y zero a e = inl e
-get_push (x ∷ xs) y (suc i) a e =
-    elim (get_push xs y i a e) [
-      | inl f ↦ inl f
-      | inr f ↦ inr (let h = f.0 in omega arith, f.1)
-    ]
-
-apart_push : (files : List FileEntry) (entry : FileEntry) → AreApart files → entry_at files (key_of entry) ≡ None → AreApart (files ++ entry ∷ [])
-apart_push files entry apart none i j a b at_i at_j same =
-    elim (get_push files entry i a at_i) [
-      | inl old_i ↦ elim (get_push files entry j b at_j) [
-        | inl old_j ↦ apart i j a b old_i old_j same
-        | inr new_j ↦ absurd (no_entry files (key_of entry) none i a old_i (same ∙ ap key_of (sym new_j.1)))
-      ]
-      | inr new_i ↦ elim (get_push files entry j b at_j) [
-        | inl old_j ↦ absurd (no_entry files (key_of entry) none j b old_j (sym same ∙ ap key_of (sym new_i.1)))
-        | inr new_j ↦ new_i.0 ∙ sym new_j.0
-      ]
-    ]
+pub use Rattle.user_dedup.proofs.Entries.{found_entry, no_entry}
+use Rattle.user_dedup.proofs.Entries.{apart_push}
+use Rattle.user_dedup.specs.declared.command.Command.{Command}
+use Rattle.user_dedup.specs.declared.command.Command.TheVariants as commands
+use Rattle.user_dedup.specs.Cloud.{fingerprint, no_view, user_of, view_after, user_view, without_entry, deletion}
+use Rattle.user_dedup.specs.Dedup.{put_outcome, commit_outcome, delete_outcome, answer_over, IsSound, Begun, Added, IsAdded}
+use Rattle.user_dedup.proofs.Views.{own_adds, others_stay}
+use Rattle.user_dedup.proofs.Deleting.{entries_left, apart_left, own_named}
 
 -- ---- one command
 
--- where a view's user enters a version, nothing is lacking and no entry has its key
+-- where a view's user enters a version, nothing is lacking and no entry has its key; where the user takes one out, it is there
 abbrev LawfulIn : Shape → View → Command → Type 0
 LawfulIn shape v (commands.Put user shares) = Unit {0}
 LawfulIn shape v (commands.Commit user tag version recipe) = (first_lacking v.own (fps_of shape recipe) ≡ None) × (entry_at v.files (tag, version) ≡ None)
+LawfulIn shape v (commands.Delete user tag version) = IsSome (entry_at v.files (tag, version))
+
+abbrev AddsFor : Shape → List Command → UserId → Command → Type 0
+AddsFor shape list user command = LawfulIn shape (user_view shape list (user_of command)) command × (user_of command ≡ user)
 
 pub put_adds : (user : UserId) (ss : List (List ℕ)) (command : Command) → (put_outcome user ss).adds ≡ Some command → command ≡ commands.Put user ss
 put_adds user [] command e = absurd (let no : None ≡ Some command = e in cc)
@@ -101,8 +47,9 @@ commit_adds (Some place) entry c recipe command e = absurd (let no : None ≡ So
 commit_adds None (Some entry) c recipe command e = absurd (let no : None ≡ Some command = e in cc)
 commit_adds None None c recipe command e = (refl, refl, let f : Some c ≡ Some command = e in cc)
 
-abbrev AddsFor : Shape → List Command → UserId → Command → Type 0
-AddsFor shape list user command = LawfulIn shape (user_view shape list (user_of command)) command × (user_of command ≡ user)
+pub deletes_from : (entry : Option FileEntry) (c command : Command) → (delete_outcome entry c).adds ≡ Some command → IsSome entry × (command ≡ c)
+deletes_from None c command e = absurd (let no : None ≡ Some command = e in cc)
+deletes_from (Some entry) c command e = (refl, let f : Some c ≡ Some command = e in cc)
 
 adds_for : (shape : Shape) (cloud : ℕ) (list : List Command) (request : Request) (command : Command) → (answer_over shape cloud list request).adds ≡ Some command
     → AddsFor shape list (asker request) command
@@ -116,17 +63,25 @@ adds_for shape cloud list (requests.Commit user tag version recipe) command e =
 adds_for shape cloud list (requests.GetRecipe user tag version) command e = absurd (let no : None ≡ Some command = e in cc)
 adds_for shape cloud list (requests.GetShares user fps) command e = absurd (let no : None ≡ Some command = e in cc)
 adds_for shape cloud list (requests.List user after) command e = absurd (let no : None ≡ Some command = e in cc)
+adds_for shape cloud list (requests.Delete user tag version) command e =
+    let d = deletes_from (entry_at (user_view shape list user).files (tag, version)) (commands.Delete user tag version) command e in
+    subst (AddsFor shape list user) (sym d.1) (d.0, refl)
 
 pub by_asker : (shape : Shape) (cloud : ℕ) (list : List Command) (request : Request) (command : Command) → (answer_over shape cloud list request).adds ≡ Some command
     → user_of command ≡ asker request
 by_asker shape cloud list request command e = (adds_for shape cloud list request command e).1
 
+-- ---- rules
+
 record KeepsRules (shape : Shape) (v : View) : Type 0 where
   pub apart : AreApart v.files
   pub owned : (entry : FileEntry) → Contains v.files entry → All (Contains v.own) (fps_of shape entry.recipe)
 
-rules_begun : (shape : Shape) → KeepsRules shape (record { own = []; files = [] })
+rules_begun : (shape : Shape) → KeepsRules shape no_view
 rules_begun shape = record { apart = λ i j a b at_i at_j same. absurd (let no : None ≡ Some a = at_i in cc); owned = λ entry c. absurd (contains_nothing entry c) }
+
+pub contained : {X : Type 0} (P : X → Type 0) (xs : List X) → ((x : X) → Contains xs x → P x) → All P xs
+contained P xs each k d below = each (get_or xs k d) (Contains-get_or xs k d below)
 
 rules_step : (shape : Shape) (v : View) (command : Command) → LawfulIn shape v command → KeepsRules shape v → KeepsRules shape (view_after shape v command)
 rules_step shape v (commands.Put user shares) lawful k = record {
@@ -140,6 +95,14 @@ rules_step shape v (commands.Commit user tag version recipe) lawful k = record {
         | inl old ↦ k.owned entry old
         | inr same ↦ subst (λ (x : FileEntry). All (Contains v.own) (fps_of shape x.recipe)) same (subst (FindsLacking v.own (fps_of shape recipe)) lawful.0 (finds v.own (fps_of shape recipe)))
       ];
+}
+rules_step shape v (commands.Delete user tag version) lawful k = record {
+  apart = apart_left (tag, version) v.files k.apart;
+  owned = λ entry c.
+      let left = entries_left (tag, version) v.files entry c in
+      contained (Contains (without_entry shape (tag, version) v).own) (fps_of shape entry.recipe)
+      (λ fp names. own_named shape (tag, version) v fp (All-contains (Contains v.own) (fps_of shape entry.recipe) fp (k.owned entry left.0) names)
+      (record { entry = entry; here = left.0; other = left.1; names = names }));
 }
 
 -- ---- lists
@@ -167,7 +130,7 @@ entries_owned shape cloud list user entry sound c = (rules shape cloud list soun
 nothing_behind : {A : Type 0} (xs : List A) (x : A) → [] ≡ xs ++ x ∷ [] → ⊥
 nothing_behind xs x e = let n = ap length e in omega (arith, length-append xs (x ∷ []), n)
 
-last_same : {A : Type 0} (xs ys : List A) (x y : A) → xs ++ x ∷ [] ≡ ys ++ y ∷ [] → (xs ≡ ys) × (x ≡ y)
+pub last_same : {A : Type 0} (xs ys : List A) (x y : A) → xs ++ x ∷ [] ≡ ys ++ y ∷ [] → (xs ≡ ys) × (x ≡ y)
 last_same [] [] x y e = (refl, let f : x ∷ [] ≡ y ∷ [] = e in cc)
 last_same [] (b ∷ ys) x y e = absurd (nothing_behind ys y (let f : x ∷ [] ≡ b ∷ (ys ++ y ∷ []) = e in cc))
 last_same (a ∷ xs) [] x y e = absurd (nothing_behind xs x (let f : y ∷ [] ≡ a ∷ (xs ++ x ∷ []) = sym e in cc))
@@ -188,3 +151,10 @@ sound_before shape cloud list command sound = go (list ++ command ∷ []) sound 
         let s = last_same before list last command e in
         subst (IsAdded shape cloud list) s.1 (subst (λ (l : List Command). IsAdded shape cloud l last) s.0
         (record { sound = sound; request = request; fits = fits; recipe = recipe; adds = adds }))
+
+-- what a sound list takes out was there
+pub was_there : (shape : Shape) (cloud : ℕ) (list : List Command) (user : UserId) (key : Tag × Version) → IsSound shape cloud (list ++ deletion user key ∷ [])
+    → IsSome (entry_at (user_view shape list user).files key)
+was_there shape cloud list user key sound =
+    let added = sound_before shape cloud list (deletion user key) sound in
+    (adds_for shape cloud list added.request (deletion user key) added.adds).0

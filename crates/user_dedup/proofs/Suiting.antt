@@ -31,12 +31,13 @@ use Rattle.user_dedup.specs.Owning.{is_among, flag, first_lacking, FindsLacking,
 use Rattle.user_dedup.specs.Pages.{key_of, entry_at, page_of}
 use Rattle.user_dedup.specs.Requests.{fps_read, fps_of, HasRecipe}
 use Rattle.messages.specs.Answering.{IsReplyTo}
-use Rattle.user_dedup.specs.Dedup.{put_outcome, commit_outcome, recipe_reply, shares_reply, answer_over, FullRoom, room_for, by_room, IsSound, Begun, Added}
+use Rattle.user_dedup.specs.Dedup.{put_outcome, commit_outcome, delete_outcome, recipe_reply, shares_reply, answer_over, FullRoom, room_for, by_room, IsSound, Begun, Added}
 use Rattle.user_dedup.specs.Exec.{Suits, items_of, served}
 use Rattle.user_dedup.proofs.Owned.{finds, contains_here, contains_later, contains_nothing, contains_cases}
 use Rattle.user_dedup.proofs.New.{are_new}
 use Rattle.user_dedup.proofs.Views.{own_adds, others_stay, held_is, owned_is_held}
-use Rattle.user_dedup.proofs.Sound.{put_adds, commit_adds, found_entry}
+use Rattle.user_dedup.proofs.Deleting.{entries_left}
+use Rattle.user_dedup.proofs.Sound.{put_adds, commit_adds, deletes_from, found_entry}
 use Rattle.user_dedup.proofs.Pages.{is_page}
 
 all_from : {A : Type 0} (P : A → Type 0) (xs : List A) → ((x : A) → Contains xs x → P x) → All P xs
@@ -50,6 +51,7 @@ IsKept shape entry = IsKey (key_of entry) × ((r : Recipe) × IsRecipe shape ent
 abbrev BringsKept : Shape → Command → Type 0
 BringsKept shape (commands.Put user shares) = All IsShare shares
 BringsKept shape (commands.Commit user tag version recipe) = IsKept shape (record { tag = tag; version = version; recipe = recipe })
+BringsKept shape (commands.Delete user tag version) = Unit {0}
 
 brings_kept : (shape : Shape) (cloud : ℕ) (list : List Command) (request : Request) (command : Command) → FitsRequest request → HasRecipe shape request
     → (answer_over shape cloud list request).adds ≡ Some command → BringsKept shape command
@@ -66,10 +68,13 @@ brings_kept shape cloud list (requests.Commit user tag version recipe) command f
 brings_kept shape cloud list (requests.GetRecipe user tag version) command fits has e = absurd (let f : None ≡ Some command = e in cc)
 brings_kept shape cloud list (requests.GetShares user fps) command fits has e = absurd (let f : None ≡ Some command = e in cc)
 brings_kept shape cloud list (requests.List user after) command fits has e = absurd (let f : None ≡ Some command = e in cc)
+brings_kept shape cloud list (requests.Delete user tag version) command fits has e =
+    subst (BringsKept shape) (sym (deletes_from (entry_at (user_view shape list user).files (tag, version)) (commands.Delete user tag version) command e).1) tt
 
 strings_brought : (shape : Shape) (command : Command) → BringsKept shape command → All IsShare (strings_of command ++ [])
 strings_brought shape (commands.Put user shares) b = subst (All IsShare) (sym (append-nil shares)) b
 strings_brought shape (commands.Commit user tag version recipe) b = All-nil IsShare
+strings_brought shape (commands.Delete user tag version) b = All-nil IsShare
 
 strings_kept : (shape : Shape) (cloud : ℕ) (list : List Command) → IsSound shape cloud list → All IsShare (flat_map strings_of list)
 strings_kept shape cloud list Begun = All-nil IsShare
@@ -88,6 +93,7 @@ files_step shape list (commands.Commit u tag version recipe) user b k entry c =
       | inl old ↦ k entry old
       | inr same ↦ subst (IsKept shape) same b
     ]
+files_step shape list (commands.Delete u tag version) user b k entry c = k entry (entries_left (tag, version) (user_view shape list user).files entry c).0
 
 files_kept : (shape : Shape) (cloud : ℕ) (list : List Command) → IsSound shape cloud list → (user : UserId) → AreKept shape (user_view shape list user).files
 files_kept shape cloud list Begun user = λ entry c. absurd (contains_nothing entry c)
@@ -196,6 +202,11 @@ shares_held shape cloud list user fps sound all =
     subst (λ (r : Option (List ℕ)). IsShare (unwrap_or r [])) (sym held.1)
     (All-contains IsShare (flat_map strings_of list) held.0 (strings_kept shape cloud list sound) (held_is list fp held.0 held.1).1)) fps all)
 
+delete_suits : (shape : Shape) (user : UserId) (tag : Tag) (version : Version) (entry : Option FileEntry)
+    → Suits shape (requests.Delete user tag version) (delete_outcome entry (commands.Delete user tag version)).reply
+delete_suits shape user tag version None = record { fits = tt; writable = tt; kind = tt }
+delete_suits shape user tag version (Some entry) = record { fits = tt; writable = tt; kind = tt }
+
 pub suits : (shape : Shape) (cloud : ℕ) (list : List Command) (request : Request) → IsSound shape cloud list → cloud < 256 → FitsRequest request → HasRecipe shape request
     → Suits shape request (answer_over shape cloud list request).reply
 suits shape cloud list requests.Hello sound small fits has =
@@ -238,6 +249,8 @@ suits shape cloud list (requests.List user after) sound small fits has =
       writable = page.few;
       kind = page.rising;
     }
+suits shape cloud list (requests.Delete user tag version) sound small fits has =
+    delete_suits shape user tag version (entry_at (user_view shape list user).files (tag, version))
 
 -- ---- where a room may be full
 
@@ -250,6 +263,7 @@ full_suits shape cloud list (requests.Commit user tag version recipe) command f 
 full_suits shape cloud list (requests.GetRecipe user tag version) command f e = absurd (let g : None ≡ Some command = e in cc)
 full_suits shape cloud list (requests.GetShares user fps) command f e = absurd (let g : None ≡ Some command = e in cc)
 full_suits shape cloud list (requests.List user after) command f e = absurd (let g : None ≡ Some command = e in cc)
+full_suits shape cloud list (requests.Delete user tag version) command f e = tt
 
 pub served_suits : (shape : Shape) (cloud : ℕ) (full : List Command → Command → Option FullRoom) (list : List Command) (request : Request) → IsSound shape cloud list → cloud < 256 → FitsRequest request → HasRecipe shape request
     → IsReplyTo (items_of shape request) request (served shape cloud full list request).reply

@@ -14,6 +14,8 @@ use Rattle.user_dedup.specs.declared.command.Command.{Command}
 use Rattle.user_dedup.specs.declared.command.Command.TheVariants as commands
 use Rattle.user_dedup.specs.declared.file_list.FileEntry.{FileEntry}
 use Rattle.user_dedup.specs.declared.view.View.{View}
+use Rattle.cd_base.specs.declared.ids.Tag.{Tag}
+use Rattle.cd_base.specs.declared.ids.Version.{Version}
 use Rattle.user_dedup.specs.Cloud.{user_view, held_string}
 use Rattle.user_dedup.specs.Owning.{flags, first_lacking, new_strings}
 use Rattle.user_dedup.specs.Pages.{entry_at, page_of}
@@ -39,6 +41,11 @@ commit_outcome (Some place) entry command recipe = only (replies.Lacking place)
 commit_outcome None (Some entry) command recipe = only (if bytes_eq entry.recipe recipe then replies.Committed else replies.Exists)
 commit_outcome None None command recipe = record { reply = replies.Committed; adds = Some command }
 
+-- by the entry that is there
+abbrev pub delete_outcome : Option FileEntry → Command → Outcome
+delete_outcome None command = only replies.Missing
+delete_outcome (Some entry) command = record { reply = replies.Deleted; adds = Some command }
+
 abbrev pub recipe_reply : Option FileEntry → Reply
 recipe_reply (Some entry) = replies.Recipe entry.recipe
 recipe_reply None = replies.Missing
@@ -59,6 +66,8 @@ answer_by_view shape cloud v held (requests.GetRecipe user tag version) = only (
 answer_by_view shape cloud v held (requests.GetShares user fps) =
     only (shares_reply (first_lacking v.own fps) (map (λ fp. unwrap_or (held fp) []) fps))
 answer_by_view shape cloud v held (requests.List user after) = only (replies.Entries (page_of v.files after))
+answer_by_view shape cloud v held (requests.Delete user tag version) =
+    delete_outcome (entry_at v.files (tag, version)) (commands.Delete user tag version)
 
 -- the reply of a cloud with this list
 abbrev pub answer_over : Shape → ℕ → List Command → Request → Outcome
@@ -73,6 +82,7 @@ HeldAlike v one two (requests.Commit user tag version recipe) = Unit {0}
 HeldAlike v one two (requests.GetRecipe user tag version) = Unit {0}
 HeldAlike v one two (requests.GetShares user fps) = (fp : Fp) → Contains fps fp → Contains v.own fp → one fp ≡ two fp
 HeldAlike v one two (requests.List user after) = Unit {0}
+HeldAlike v one two (requests.Delete user tag version) = Unit {0}
 
 -- Each command is one that the cloud adds for some request after those before it.
 pub data IsSound (shape : Shape) (cloud : ℕ) : List Command → Type 0 where
@@ -89,6 +99,12 @@ pub record IsAdded (shape : Shape) (cloud : ℕ) (list : List Command) (command 
   pub fits : FitsRequest request
   pub recipe : HasRecipe shape request
   pub adds : (answer_over shape cloud list request).adds ≡ Some command
+
+-- the command takes the version of the user's file out
+abbrev pub Ends : UserId → Tag × Version → Command → Type 0
+Ends user key (commands.Put u shares) = ⊥
+Ends user key (commands.Commit u tag version recipe) = ⊥
+Ends user key (commands.Delete u tag version) = (u ≡ user) × (◌≡◌ {A = Tag × Version} (tag, version) key)
 
 -- a room that a command would pass: how much of it is used, how much more the command needs, and its limit
 pub record FullRoom : Type 0 where

@@ -1,7 +1,10 @@
 pub mod Cloud
-pub mod Requests
-pub mod Owning
-pub mod Pages
+pub mod Compact
 pub mod Dedup
 pub mod Exec
 pub mod Link
+pub mod Owning
+pub mod Pages
+pub mod Requests
+pub mod Spending
+pub mod Strings

@@ -88,6 +88,7 @@ AddsNothing (requests.Commit user tag version recipe) = ⊥
 AddsNothing (requests.GetRecipe user tag version) = Unit {0}
 AddsNothing (requests.GetShares user fps) = Unit {0}
 AddsNothing (requests.List user after) = Unit {0}
+AddsNothing (requests.Delete user tag version) = ⊥
 
 -- the content is a request that adds nothing
 abbrev pub IsReading : List ℕ → Type 0

@@ -3,7 +3,7 @@ use Rattle.std.specs.Prelude.{◌≡◌, ℕ, suc, Bool, List, [], ◌∷◌, �
 use Rattle.std.specs.List.{list_any, Contains}
 use Rattle.cd_base.specs.declared.ids.Fp.{Fp}
 use Rattle.recipe.specs.declared.items.Item.{Item}
-use Rattle.user_dedup.specs.Cloud.{fingerprint}
+use Rattle.user_dedup.specs.Strings.{fingerprint}
 
 -- the fingerprint is one of these
 abbrev pub is_among : List Fp → Fp → Bool

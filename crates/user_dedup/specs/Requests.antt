@@ -29,6 +29,7 @@ HasRecipe shape (requests.Commit user tag version recipe) = (r : Recipe) × IsRe
 HasRecipe shape (requests.GetRecipe user tag version) = Unit {0}
 HasRecipe shape (requests.GetShares user fps) = Unit {0}
 HasRecipe shape (requests.List user after) = Unit {0}
+HasRecipe shape (requests.Delete user tag version) = Unit {0}
 
 -- The content asks this of a store of this shape.
 pub record IsAsked (shape : Shape) (content : List ℕ) (request : Request) : Type 0 where
@@ -53,6 +54,7 @@ whole_read shape (Ok (requests.Commit user tag version recipe)) = recipe_read (r
 whole_read shape (Ok (requests.GetRecipe user tag version)) = Ok (requests.GetRecipe user tag version)
 whole_read shape (Ok (requests.GetShares user fps)) = Ok (requests.GetShares user fps)
 whole_read shape (Ok (requests.List user after)) = Ok (requests.List user after)
+whole_read shape (Ok (requests.Delete user tag version)) = Ok (requests.Delete user tag version)
 
 -- the request that the content asks, or the first place at which it is none
 abbrev pub asked_at : Shape → List ℕ → Result Request ℕ
@@ -67,3 +69,4 @@ asker (requests.Commit user tag version recipe) = user
 asker (requests.GetRecipe user tag version) = user
 asker (requests.GetShares user fps) = user
 asker (requests.List user after) = user
+asker (requests.Delete user tag version) = user

@@ -3,7 +3,8 @@
 use cd_base::{Bytes, Tag, UserId, Version};
 use message_fields::ShareList;
 
-/// What changed a cloud. A cloud is the list of its commands since its store was begun, in order.
+/// What changed a cloud. A cloud is the list of its commands since its store was begun, in order; a migration or a reclaim puts
+/// a shorter list in its place, of which the users see the same.
 #[derive(Debug, Drop)]
 pub enum Command {
     /// The user sent these shares, each of them new to the user.
@@ -17,5 +18,11 @@ pub enum Command {
         tag: Tag,
         version: Version,
         recipe: Bytes,
+    },
+    /// The user took a version of a file out.
+    Delete {
+        user: UserId,
+        tag: Tag,
+        version: Version,
     },
 }

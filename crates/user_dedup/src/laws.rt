@@ -1,6 +1,6 @@
 //! The laws of lists, views and replies, for the proofs of callers. The calls do nothing.
 
-ghost use Rattle.std.specs.Prelude.{◌≡◌, ◌≢◌, ◌↔◌, ◌<◌, ℕ, List, [], ◌∷◌, ◌++◌, IsTrue, Some, None, Ok, true, Option, All, slice_get};
+ghost use Rattle.std.specs.Prelude.{◌≡◌, ◌≢◌, ◌↔◌, ◌<◌, ℕ, List, [], ◌∷◌, ◌++◌, IsTrue, IsSome, Some, None, Ok, true, Option, All, slice_get};
 ghost use Rattle.cd_base.specs.Reading.{AreBytes};
 ghost use Rattle.cd_base.specs.declared.ids.Tag.{Tag};
 ghost use Rattle.cd_base.specs.declared.ids.Version.{Version};
@@ -11,7 +11,7 @@ ghost use Rattle.cd_base.specs.declared.ids.UserId.{UserId};
 ghost use Rattle.cd_base.specs.declared.shape.Shape.{Shape};
 ghost use Rattle.messages.specs.declared.request.Request.{Request};
 ghost use Rattle.user_dedup.specs.declared.command.Command.{Command};
-ghost use Rattle.user_dedup.specs.Cloud.{fingerprint, user_of, no_view, view_after, user_view, strings_of, held_string};
+ghost use Rattle.user_dedup.specs.Cloud.{fingerprint, user_of, no_view, view_after, user_view, strings_of, held_string, without_entry, deletion, IsNamedBeside};
 ghost use Rattle.user_dedup.specs.Owning.{is_among, new_strings, AreNew};
 ghost use Rattle.user_dedup.specs.Pages.{key_of, entry_at, AreApart, page_of, IsPage};
 ghost use Rattle.user_dedup.specs.declared.file_list.FileEntry.{FileEntry};
@@ -19,7 +19,8 @@ ghost use Rattle.user_dedup.specs.Requests.{asker, fps_of, HasRecipe, IsAsked, a
 ghost use Rattle.user_dedup.specs.Exec.{Suits, Peer, Exec, StandsSound, items_of, served};
 ghost use Rattle.messages.specs.Answering.{IsReplyTo};
 ghost use Rattle.messages.specs.declared.reply.Reply.{Reply};
-ghost use Rattle.user_dedup.specs.Dedup.{answer_over, HeldAlike, IsSound, IsAdded, FullRoom};
+ghost use Rattle.user_dedup.specs.declared.view.View.{View};
+ghost use Rattle.user_dedup.specs.Dedup.{answer_over, HeldAlike, IsSound, IsAdded, FullRoom, Ends};
 
 /// A user's view is made of that user's commands alone, each in its turn.
 pub fn law_of_views()
@@ -29,6 +30,38 @@ pub fn law_of_views()
     // A command of one user leaves the view of every other user.
     ensures others { (shape : Shape) (list : List Command) (command : Command) (user : UserId) → (user_of command).0 ≢ user.0
         → user_view shape (list ++ command ∷ []) user ≡ user_view shape list user }
+{}
+
+/// A deletion takes the entry of its key, and what no entry left names.
+pub fn law_of_deletions()
+    ensures view { (shape : Shape) (list : List Command) (user : UserId) (key : Tag × Version)
+        → user_view shape (list ++ deletion user key ∷ []) user ≡ without_entry shape key (user_view shape list user) }
+    ensures gone { (shape : Shape) (key : Tag × Version) (v : View)
+        → entry_at (without_entry shape key v).files key ≡ None }
+    // It leaves the entries of other keys.
+    ensures others { (shape : Shape) (key other : Tag × Version) (v : View) → other ≢ key
+        → entry_at (without_entry shape key v).files other ≡ entry_at v.files other }
+    ensures entries { (shape : Shape) (key : Tag × Version) (v : View) (entry : FileEntry)
+        → Contains (without_entry shape key v).files entry ↔ (Contains v.files entry × (key_of entry ≢ key)) }
+    // It takes nothing that another entry names, and nothing that its own entry doesn't name.
+    ensures named { (shape : Shape) (key : Tag × Version) (v : View) (fp : Fp) → Contains v.own fp
+        → IsNamedBeside shape key v.files fp → Contains (without_entry shape key v).own fp }
+    ensures foreign { (shape : Shape) (key : Tag × Version) (v : View) (entry : FileEntry) (fp : Fp)
+        → entry_at v.files key ≡ Some entry → ¬ (Contains (fps_of shape entry.recipe) fp)
+        → Contains v.own fp → Contains (without_entry shape key v).own fp }
+    // It takes all that its own entry alone names, and gives nothing.
+    ensures taken { (shape : Shape) (key : Tag × Version) (v : View) (entry : FileEntry) (fp : Fp)
+        → entry_at v.files key ≡ Some entry → Contains (fps_of shape entry.recipe) fp
+        → ¬ (IsNamedBeside shape key v.files fp) → ¬ (Contains (without_entry shape key v).own fp) }
+    ensures own { (shape : Shape) (key : Tag × Version) (v : View) (fp : Fp)
+        → Contains (without_entry shape key v).own fp → Contains v.own fp }
+{}
+
+/// A version of a user's file stays, with its recipe, until a command takes it out.
+pub fn law_of_versions()
+    ensures { (shape : Shape) (list : List Command) (command : Command) (user : UserId) (key : Tag × Version)
+        (entry : FileEntry) → ¬ (Ends user key command) → entry_at (user_view shape list user).files key ≡ Some entry
+        → entry_at (user_view shape (list ++ command ∷ []) user).files key ≡ Some entry }
 {}
 
 /// What is owned, and what is held.
@@ -69,14 +102,15 @@ pub fn law_of_replies()
 
 /// So is the reply of a cloud that may have no room for a command.
 pub fn law_of_served_replies()
-    ensures { (shape : Shape) (cloud : ℕ) (full : List Command → Command → Option FullRoom) (list : List Command) (request : Request) → IsSound shape cloud list → cloud < 256
-        → FitsRequest request → HasRecipe shape request → IsReplyTo (items_of shape request) request (served shape cloud full list request).reply }
+    ensures { (shape : Shape) (cloud : ℕ) (full : List Command → Command → Option FullRoom) (list : List Command)
+        (request : Request) → IsSound shape cloud list → cloud < 256 → FitsRequest request → HasRecipe shape request
+        → IsReplyTo (items_of shape request) request (served shape cloud full list request).reply }
 {}
 
 /// A cloud whose list is told executes a request of sound lists, and its lists stay sound, whatever happens on the way.
 pub fn law_of_execution()
-    ensures { (shape : Shape) (cloud : ℕ) (full : List Command → Command → Option FullRoom) (old new : Peer) (request : Request) (reply : Reply)
-        → StandsSound shape cloud old → FitsRequest request → HasRecipe shape request
+    ensures { (shape : Shape) (cloud : ℕ) (full : List Command → Command → Option FullRoom) (old new : Peer)
+        (request : Request) (reply : Reply) → StandsSound shape cloud old → FitsRequest request → HasRecipe shape request
         → Exec shape true (served shape cloud full) old request reply new → StandsSound shape cloud new }
 {}
 
@@ -97,17 +131,20 @@ pub fn law_of_entries()
 pub fn law_of_sound_lists()
     ensures begun { (shape : Shape) (cloud : ℕ) → IsSound shape cloud [] }
     // An added command keeps a list sound, and the last command of a sound list was added to a sound one.
-    ensures added { (shape : Shape) (cloud : ℕ) (list : List Command) (request : Request) (command : Command) → IsSound shape cloud list
-        → FitsRequest request → HasRecipe shape request → (answer_over shape cloud list request).adds ≡ Some command
-        → IsSound shape cloud (list ++ command ∷ []) }
-    ensures before { (shape : Shape) (cloud : ℕ) (list : List Command) (command : Command) → IsSound shape cloud (list ++ command ∷ [])
-        → IsAdded shape cloud list command }
+    ensures added { (shape : Shape) (cloud : ℕ) (list : List Command) (request : Request) (command : Command)
+        → IsSound shape cloud list → FitsRequest request → HasRecipe shape request
+        → (answer_over shape cloud list request).adds ≡ Some command → IsSound shape cloud (list ++ command ∷ []) }
+    ensures before { (shape : Shape) (cloud : ℕ) (list : List Command) (command : Command)
+        → IsSound shape cloud (list ++ command ∷ []) → IsAdded shape cloud list command }
+    // What is deleted was there.
+    ensures there { (shape : Shape) (cloud : ℕ) (list : List Command) (user : UserId) (key : Tag × Version)
+        → IsSound shape cloud (list ++ deletion user key ∷ []) → IsSome (entry_at (user_view shape list user).files key) }
     // A key has one entry.
     ensures apart { (shape : Shape) (cloud : ℕ) (list : List Command) (user : UserId) → IsSound shape cloud list
         → AreApart (user_view shape list user).files }
     // The fingerprints of an entry's items are owned; and what is owned is held.
-    ensures owned { (shape : Shape) (cloud : ℕ) (list : List Command) (user : UserId) (entry : FileEntry) → IsSound shape cloud list
-        → Contains (user_view shape list user).files entry
+    ensures owned { (shape : Shape) (cloud : ℕ) (list : List Command) (user : UserId) (entry : FileEntry)
+        → IsSound shape cloud list → Contains (user_view shape list user).files entry
         → All (Contains (user_view shape list user).own) (fps_of shape entry.recipe) }
 {}
 

@@ -7,6 +7,7 @@ mod file_list;
 pub mod laws;
 mod link;
 mod owning;
+pub mod spent;
 mod view;
 
 pub use command::Command;

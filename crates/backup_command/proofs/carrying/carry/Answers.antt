@@ -1,8 +1,8 @@
 use Rattle.std.proofs.Common.{◌≡◌, ℕ, List, length, Ok, IsTrue, refl, sym, ◌∙◌, subst}
 use Rattle.std.specs.List.{Contains}
 use Rattle.cd_edges.specs.Causes.{Rose}
-use Rattle.hellos.specs.declared.judging.Asked.TheVariants.{Backup}
-use Rattle.hellos.specs.Hellos.{GreetsAll}
+use Rattle.ports_link.specs.declared.judging.Asked.TheVariants.{Backup}
+use Rattle.ports_link.specs.Hellos.{GreetsAll}
 use Rattle.backup_command.specs.BackedUp.{Call}
 use Rattle.backup_command.proofs.Finishing.{carried, are_numbered, have_met, greeted_on}
 use Rattle.backup_command.proofs.carrying.carry.Goals as goal

@@ -4,7 +4,7 @@ use Rattle.std.proofs.lemmas.List.Elements.{All-head, All-tail}
 use Rattle.std.specs.List.{Contains}
 use Rattle.cd_base.specs.declared.ids.CloudNo.{CloudNo}
 use Rattle.cd_base.specs.declared.shape.Shape.{Shape}
-use Rattle.lane_requests.specs.Reached.{IsReached}
+use Rattle.lane_steps.specs.Reached.{IsReached}
 use Rattle.ports_link.specs.Tells.{telling}
 use Rattle.backup_command.specs.Steps.{AreReady, IsReady, LanesWent, ports_of}
 use Rattle.backup_command.proofs.Joining.{went_none, went_more, went_stopped, rest_ready, not_first, not_later}

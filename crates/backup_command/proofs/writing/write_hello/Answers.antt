@@ -1,5 +1,5 @@
 use Rattle.std.proofs.Common.{List, ℕ, ◌++◌, ap, ◌∙◌, subst}
-use Rattle.hellos.specs.Refusals.{refused_text}
+use Rattle.ports_link.specs.Refusals.{refused_text}
 use Rattle.backup_command.specs.Writing.{Writes, output_of}
 use Rattle.backup_command.proofs.writing.write_hello.Goals as goal
 

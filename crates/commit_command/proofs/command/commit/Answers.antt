@@ -109,7 +109,7 @@ does_new g c list agrees =
     let state = c.args.state.now in let number = state.header.cloud.0 in let before = g.V.Shelf.cloud_at c.args.shelf.now number in let after = g.V.Shelf.cloud_at c.enter.new.shelf number in
     subst (λ (bytes : List ℕ). Does state c.enter.new.state before after list (requests.Commit c.args.user c.args.tag.now c.args.version bytes) c.enter.new.reply c.enter.result) c.bytes-in-None-entry.ensures
     (c.enter.ensures.does list agrees
-    (answered_new state.header list c.args.user c.args.tag.now c.args.version c.args.recipe.now c.bytes-in-None-entry.result.now c.requires.recipe c.bytes-in-None-entry.ensures
+    (answered_new state.header list c.args.user c.args.tag.now c.args.version c.args.recipe.now c.bytes-in-None-entry.result.now c.requires.recipe c.bytes-in-None-entry.ensures agrees.on.has.undeleted
     (sym (c.first_foreign.ensures.value state.header.shape list agrees.remembers) ∙ c.in-None.is)
     (sym (c.entry.ensures.meaning state.header.shape list agrees.remembers) ∙ c.in-None-entry.is)))
 

@@ -1,5 +1,5 @@
 use Rattle.file_index.proofs.Order.{key_total}
-use Rattle.index_base.specs.Slots.{listed-shown}
+use Rattle.pool_map.specs.Slots.{listed-shown}
 use Rattle.file_index.proofs.FileIndex.entry_at.Goals as goal
 
 pub returns-in-Some-clause-each : goal.returns-in-Some-clause-each

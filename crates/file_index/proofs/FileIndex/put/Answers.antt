@@ -4,7 +4,7 @@ use Rattle.slot_pool.specs.Pool.{Pool}
 use Rattle.pool_map.specs.declared.Entry.{Entry as Pair}
 use Rattle.pool_map.specs.Table.{contents}
 use Rattle.pool_map.specs.Shown.{shown, shown-insert}
-use Rattle.index_base.specs.Accounts.{account_for, IsKnown}
+use Rattle.pool_map.specs.Accounts.{account_for, IsKnown}
 use Rattle.file_index.specs.declared.key.FileKey.{FileKey}
 use Rattle.file_index.specs.declared.key.Entry.{Entry}
 use Rattle.file_index.specs.Order.{key_cmp, key_exact}

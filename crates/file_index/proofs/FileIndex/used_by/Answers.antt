@@ -1,5 +1,5 @@
 use Rattle.std.proofs.Common.{◌≡◌, ◌∙◌, ap, sym, arith}
-use Rattle.index_base.specs.Accounts.{limit_for}
+use Rattle.pool_map.specs.Accounts.{limit_for}
 use Rattle.file_index.specs.Files.{Files, used_by}
 use Rattle.file_index.proofs.Keeping.{charges, limits_are, unused}
 use Rattle.file_index.proofs.FileIndex.used_by.Goals as goal

@@ -1,6 +1,6 @@
 use Rattle.std.proofs.Common.{◌∙◌, ap}
 use Rattle.pool_map.specs.Shown.{shown, shown-empty}
-use Rattle.index_base.specs.Slots.{contents-fresh}
+use Rattle.pool_map.specs.Slots.{contents-fresh}
 use Rattle.file_index.specs.Order.{key_cmp, key_exact}
 use Rattle.file_index.proofs.Order.{key_total}
 use Rattle.file_index.proofs.Keeping.{value, kept-fresh}

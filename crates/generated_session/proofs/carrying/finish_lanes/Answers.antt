@@ -1,7 +1,7 @@
 use Rattle.std.proofs.Common.{◌≡◌, ◌+◌, ◌<◌, ◌∙◌, ℕ, List, [], ◌∷◌, refl, sym, ap, subst, arith}
 use Rattle.std.specs.List.{range_with_len}
 use Rattle.cd_base.specs.declared.shape.Shape.{Shape}
-use Rattle.lane_requests.specs.Reached.{IsReached}
+use Rattle.lane_steps.specs.Reached.{IsReached}
 use Rattle.session.specs.Spelling.{IsJob}
 use Rattle.script_lines.specs.Finishing.{FinishedPart}
 use Rattle.script_lines.proofs.Going.{leaves_all, leaves_join}

@@ -2,7 +2,7 @@ use Rattle.std.proofs.Common.{◌≡◌, ◌+◌, ◌<◌, ◌≤◌, ◌∙◌,
 use Rattle.std.specs.List.{range_with_len}
 use Rattle.cd_base.specs.declared.shape.Shape.{Shape}
 use Rattle.session.specs.declared.event.Event.{Event}
-use Rattle.vault.specs.Kept.{uploads}
+use Rattle.session_model.specs.Kept.{uploads}
 use Rattle.script_lines.proofs.Lines.{on_err}
 use Rattle.generated_session.specs.Lines.{get_line, generated_lines}
 use Rattle.generated_session.specs.Progress.{HasMade}

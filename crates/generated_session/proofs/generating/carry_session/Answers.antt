@@ -1,7 +1,7 @@
 use Rattle.std.proofs.Common.{◌≡◌, ◌*◌, ◌≤◌, ◌∙◌, ℕ, List, [], ◌∷◌, ◌++◌, Some, None, refl, sym, ap, subst, append-nil}
 use Rattle.cd_base.specs.declared.shape.Shape.{Shape}
 use Rattle.cd_edges.specs.Disk.{Cloud}
-use Rattle.vault.specs.Kept.{uploads}
+use Rattle.session_model.specs.Kept.{uploads}
 use Rattle.replay_core.specs.Opening.{PreparesAll, EndsUnopened, before_first}
 use Rattle.replay_core.proofs.Clouds.{all_same}
 use Rattle.replay_core.proofs.Begins.{same_all}

@@ -4,7 +4,7 @@ use Rattle.cd_base.specs.declared.rooms.Rooms.{Rooms}
 use Rattle.share_server.specs.declared.server.Server.{Server}
 use Rattle.local_link.specs.Steps.{IsClosedIn}
 use Rattle.local_link.specs.Tells.{server_at}
-use Rattle.vault.specs.Vault.{Setting}
+use Rattle.session_model.specs.Vault.{Setting}
 use Rattle.replay_core.specs.Opening.{before_first}
 use Rattle.replay_core.proofs.Clouds.{all_same}
 use Rattle.replay_core.proofs.Begins.{ready_by}

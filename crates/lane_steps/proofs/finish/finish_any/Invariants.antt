@@ -1,4 +1,4 @@
-use Rattle.lane_requests.specs.Runs.{left_of}
+use Rattle.lane_steps.specs.Runs.{left_of}
 use Rattle.lane_steps.proofs.Finishing.{here, Along}
 use Rattle.lane_steps.proofs.finish.finish_any.Given as goal
 

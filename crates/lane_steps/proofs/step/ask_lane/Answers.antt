@@ -2,8 +2,8 @@ use Rattle.std.proofs.Common.{◌≡◌, ◌<◌, ℕ, List, length, Ok, refl, s
 use Rattle.messages.specs.Requests.{request_bytes}
 use Rattle.user_dedup.specs.Requests.{asked_at}
 use Rattle.cd_base.specs.Reading.{AreBytes}
-use Rattle.lane_requests.specs.Runs.{lane_at}
-use Rattle.lane_requests.proofs.Alone.{any_sent, any_counts}
+use Rattle.lane_steps.specs.Runs.{lane_at}
+use Rattle.lane_steps.proofs.Alone.{any_sent, any_counts}
 use Rattle.lane_steps.specs.Steps.{TakesReply}
 use Rattle.lane_steps.proofs.Views.{request_here}
 use Rattle.lane_steps.proofs.Suits.{does_suit, is_answer}

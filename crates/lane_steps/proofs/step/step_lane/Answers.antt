@@ -1,4 +1,4 @@
-use Rattle.lane_requests.specs.Reached.{ForAll}
+use Rattle.lane_steps.specs.Reached.{ForAll}
 use Rattle.lane_steps.proofs.step.step_lane.Goals as goal
 
 pub step_any-requires-clause-way : goal.step_any-requires-clause-way

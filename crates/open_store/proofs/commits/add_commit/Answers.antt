@@ -6,14 +6,14 @@ use Rattle.cloud_memory.specs.Steps.{with_commit}
 use Rattle.journal_start.specs.declared.start.Header.{Header}
 use Rattle.record_bodies.specs.Spelling as bodies
 use Rattle.record_bodies.specs.Spelling.{Body, body_bytes}
-use Rattle.command_list.specs.declared.command.Command.TheVariants as asked
+use Rattle.user_dedup.specs.declared.command.Command.TheVariants as asked
 use Rattle.cloud_areas.specs.Adding.{with_record}
 use Rattle.cloud_areas.specs.Standing.{Chain}
 use Rattle.cloud_disk.specs.Disk.{IsOn, KeepsOrAdds, StandsForEither}
 use Rattle.cloud_disk.proofs.Standing.{images_on}
 use Rattle.cloud_memory.specs.Rooms.{memory_of, full_commit}
-use Rattle.checkpoint_records.specs.declared.whole.Unsettled.{Unsettled}
-use Rattle.checkpoint_records.specs.Known.{IfLong}
+use Rattle.checkpoints.specs.declared.whole.Unsettled.{Unsettled}
+use Rattle.checkpoints.specs.Known.{IfLong}
 use Rattle.open_store.specs.declared.store.OpenStore.{OpenStore}
 use Rattle.open_store.specs.Store.{Serves, Fits, chain_with_room}
 use Rattle.open_store.proofs.Rooming.{chain_next}

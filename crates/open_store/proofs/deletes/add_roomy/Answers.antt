@@ -2,7 +2,7 @@ use Rattle.std.proofs.Common.{[], ◌∷◌, ◌++◌, sym, ap, ◌∙◌, subst
 use Rattle.file_index.specs.Files.{key_of}
 use Rattle.record_bodies.specs.Spelling as bodies
 use Rattle.user_dedup.specs.Requests.{fps_of}
-use Rattle.command_list.specs.declared.command.Command.TheVariants as asked
+use Rattle.user_dedup.specs.declared.command.Command.TheVariants as asked
 use Rattle.cloud_areas.specs.Adding.{with_record}
 use Rattle.cloud_memory.specs.Fitting.{FitsRecords}
 use Rattle.cloud_memory.specs.Rooms.{memory_of}

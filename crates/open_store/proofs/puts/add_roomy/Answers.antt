@@ -2,7 +2,7 @@ use Rattle.std.proofs.Common.{List, [], ◌∷◌, ◌++◌, sym, ap, ◌∙◌,
 use Rattle.record_body.specs.declared.body.PutItem.{PutItem}
 use Rattle.record_bodies.specs.Spelling as bodies
 use Rattle.record_bodies.specs.Spelling.{body_bytes}
-use Rattle.command_list.specs.declared.command.Command.TheVariants as asked
+use Rattle.user_dedup.specs.declared.command.Command.TheVariants as asked
 use Rattle.cloud_areas.specs.Adding.{with_record}
 use Rattle.cloud_areas.specs.Chains.{IsRecord}
 use Rattle.cloud_memory.specs.Fitting.{FitsRecords}

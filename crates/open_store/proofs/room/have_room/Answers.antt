@@ -1,8 +1,8 @@
 use Rattle.std.proofs.Common.{inl, inr, ◌+◌, ◌<◌, Err, subst, arith}
-use Rattle.checkpoint_laying.specs.Laying.{records_len}
-use Rattle.checkpoint_records.specs.Records.{records_of}
-use Rattle.checkpoint_records.specs.declared.whole.Unsettled.{Unsettled}
-use Rattle.checkpoint_records.specs.Known.{IfLong}
+use Rattle.checkpoints.specs.Laying.{records_len}
+use Rattle.checkpoints.specs.Records.{records_of}
+use Rattle.checkpoints.specs.declared.whole.Unsettled.{Unsettled}
+use Rattle.checkpoints.specs.Known.{IfLong}
 use Rattle.cd_edges.specs.declared.area.Area.TheVariants.{Journal}
 use Rattle.cd_edges.specs.Disk.{IsAtArea}
 use Rattle.cd_edges.proofs.Moments.{started}

@@ -42,7 +42,7 @@ returns-in-Err-Rotten-clause-value g c = λ told agreed header list k.
     let entry = c.in-Some.entry in
     let e : entry_in list (key_of c.args.user.0 c.args.tag.now.0 c.args.version.0) ≡ Some entry = sym (c.entry.ensures.meaning header.shape list k.remembers) ∙ c.in-Some.is in
     let r = recipe_at (reads cloud.now) header list c.args.index.now c.args.user c.args.tag.now c.args.version entry k e in
-    let range = entry_range header.shape header.cloud.0 list c.args.user c.args.tag.now c.args.version entry k.sound e in
+    let range = entry_range header.shape header.cloud.0 list c.args.user c.args.tag.now c.args.version entry k.sound k.has.undeleted e in
     let b : Placed = record { place = entry.at; blob = r.recipe } in
     absurd (rotten_at c.in-Err-Rotten.field-0 _ _ (λ (named found : Fp). ⊥) c.in-Err-Rotten.field-0-is
     (c.in-Err-Rotten.ensures.whole told range.some range.few b refl r.long r.named (subst (λ (x : Area). IsAt (cloud.now x).read b) (sym c.requires.area) r.lies)))
@@ -69,7 +69,7 @@ returns-in-Err-Rotten-clause-kind g c =
 pub returns-in-None-clause-value : goal.returns-in-None-clause-value
 returns-in-None-clause-value g c = λ told agreed header list k.
     c.write_missing.ensures.spelled
-    ∙ ap reply_bytes (sym (recipe_missing header.shape list c.args.user c.args.tag.now c.args.version (sym (c.entry.ensures.meaning header.shape list k.remembers) ∙ c.in-None.is)))
+    ∙ ap reply_bytes (sym (recipe_missing header.shape list c.args.user c.args.tag.now c.args.version k.has.undeleted (sym (c.entry.ensures.meaning header.shape list k.remembers) ∙ c.in-None.is)))
 
 pub returns-in-None-clause-kind : goal.returns-in-None-clause-kind
 returns-in-None-clause-kind g c = record { reply = replies.Missing; is = c.write_missing.ensures; said = sym c.entry.ensures.kept ∙ c.in-None.is }

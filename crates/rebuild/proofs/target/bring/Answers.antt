@@ -3,8 +3,8 @@ use Rattle.cd_base.specs.declared.shape.Shape.{Shape}
 use Rattle.upload_job.specs.declared.news.LaneNews.{LaneNews}
 use Rattle.upload_job.specs.Upload.{FileVersion}
 use Rattle.upload_job.specs.Lanes.{LaneView, with_state}
-use Rattle.lane_requests.specs.Reached.{IsOnItsWay, ForOne, BegunAlone}
-use Rattle.lane_requests.specs.Runs.{Progress, starting, lane_at}
+use Rattle.lane_steps.specs.Reached.{IsOnItsWay, ForOne, BegunAlone}
+use Rattle.lane_steps.specs.Runs.{Progress, starting, lane_at}
 use Rattle.rebuild.specs.Rebuilding.{lane_of}
 use Rattle.rebuild.proofs.Landing.{target_leads, step_moves, lane_is, lanes_long, ended_moves, memory_moves, lane_still}
 use Rattle.rebuild.proofs.Turning.{no_others}

@@ -6,10 +6,10 @@ use Rattle.record_replay.proofs.Judged.{AreasFit, no_err, by_list, plain_put, pu
 use Rattle.record_replay.proofs.record.replay.Goals as goal
 
 pub returns-in-Err-clause-taken : goal.returns-in-Err-clause-taken
-returns-in-Err-clause-taken c = λ shape cloud list command remembers sound written within place shares recipes.
+returns-in-Err-clause-taken c = λ shape cloud list command remembers sound undeleted written within place shares recipes.
     let fit : AreasFit c.args.areas.now = record { shares = search rules; recipes = search rules } in
     absurd (no_err shape cloud c.args.rooms.now c.args.areas.now c.args.index.now c.args.at c.args.body.now list command
-    (record { remembers = remembers; sound = sound; written = written; within = within; place = place; shares = shares; recipes = recipes }) fit c.in-Err.err c.in-Err.ensures.reads)
+    (record { remembers = remembers; sound = sound; undeleted = undeleted; written = written; within = within; place = place; shares = shares; recipes = recipes }) fit c.in-Err.err c.in-Err.ensures.reads)
 
 pub replay_put-requires-clause-few : goal.replay_put-requires-clause-few
 replay_put-requires-clause-few c =
@@ -23,10 +23,10 @@ replay_commit-requires-clause-long c =
     ap length is.spelled ∙ length-commit c.in-Commit.commit is.fits
 
 pub returns-in-Put-clause-taken : goal.returns-in-Put-clause-taken
-returns-in-Put-clause-taken c = λ shape cloud list command remembers sound written within place shares recipes.
+returns-in-Put-clause-taken c = λ shape cloud list command remembers sound undeleted written within place shares recipes.
     let fit : AreasFit c.args.areas.now = record { shares = search rules; recipes = search rules } in
     by_list shape cloud c.args.rooms.now c.args.areas.now c.args.index.now c.args.at c.args.body.now list command
-    (record { remembers = remembers; sound = sound; written = written; within = within; place = place; shares = shares; recipes = recipes }) fit c.replay_put.new.index c.replay_put.result
+    (record { remembers = remembers; sound = sound; undeleted = undeleted; written = written; within = within; place = place; shares = shares; recipes = recipes }) fit c.replay_put.new.index c.replay_put.result
     (Put c.in-Put.user c.in-Put.items.items) (read_put c.args.body.now c.in-Ok.view c.in-Put.user c.in-Put.items c.in-Ok.ensures.reads c.in-Put.is) c.replay_put.ensures.judged
 
 pub returns-in-Put-clause-ends : goal.returns-in-Put-clause-ends
@@ -40,10 +40,10 @@ returns-in-Put-clause-judged c =
     (plain_put c.args.areas.now.shares c.args.at c.args.body.now c.in-Put.user c.args.rooms.now c.args.index.now c.replay_put.new.index c.in-Put.items.items c.replay_put.result c.replay_put.ensures.judged)
 
 pub returns-in-Commit-clause-taken : goal.returns-in-Commit-clause-taken
-returns-in-Commit-clause-taken c = λ shape cloud list command remembers sound written within place shares recipes.
+returns-in-Commit-clause-taken c = λ shape cloud list command remembers sound undeleted written within place shares recipes.
     let fit : AreasFit c.args.areas.now = record { shares = search rules; recipes = search rules } in
     by_list shape cloud c.args.rooms.now c.args.areas.now c.args.index.now c.args.at c.args.body.now list command
-    (record { remembers = remembers; sound = sound; written = written; within = within; place = place; shares = shares; recipes = recipes }) fit c.replay_commit.new.index c.replay_commit.result
+    (record { remembers = remembers; sound = sound; undeleted = undeleted; written = written; within = within; place = place; shares = shares; recipes = recipes }) fit c.replay_commit.new.index c.replay_commit.result
     (Commit c.in-Commit.commit) (read_commit c.args.body.now c.in-Ok.view c.in-Commit.commit c.in-Ok.ensures.reads c.in-Commit.is) c.replay_commit.ensures.judged
 
 pub returns-in-Commit-clause-ends : goal.returns-in-Commit-clause-ends

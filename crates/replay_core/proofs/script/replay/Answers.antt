@@ -1,6 +1,6 @@
 use Rattle.std.proofs.Common.{rules, ◌≡◌, refl, subst}
 use Rattle.replay_core.specs.declared.end.ReplayEnd.TheVariants as ends
-use Rattle.vault.specs.Vault.{Setting}
+use Rattle.session_model.specs.Vault.{Setting}
 use Rattle.replay_core.specs.Going.{Start, call_of}
 use Rattle.replay_core.specs.Replayed.{Replays}
 use Rattle.replay_core.proofs.Clouds.{all_same}

@@ -12,6 +12,7 @@ use Rattle.request_dispatch.specs.Asking.{IsFound, request_of}
 use Rattle.request_dispatch.specs.Leaving.{LeavesAll}
 use Rattle.request_dispatch.proofs.Leaving.{put_leaves, commit_leaves, commit_found}
 use Rattle.request_dispatch.proofs.Still.{leaves_alone, served_alone, greets}
+use Rattle.request_dispatch.proofs.Deletions.{adds_nothing, no_moments}
 use Rattle.request_dispatch.proofs.serving.dispatch.Goals as goal
 
 -- ---- no device is called
@@ -52,6 +53,28 @@ pub returns-in-Hello-clause-kind : goal.returns-in-Hello-clause-kind
 returns-in-Hello-clause-kind g c =
     let header = c.args.state.now.header in
     subst (λ (r : Request). Gives header.shape r c.hello.new.reply) (ap request_of (sym c.in-Hello.is)) (greets header c.hello.new.reply c.requires.settled.written (c.hello.ensures []))
+
+pub returns-in-Delete-clause-any_moment : goal.returns-in-Delete-clause-any_moment
+returns-in-Delete-clause-any_moment g c = λ list agrees within. leaves_alone c.args.state.now _ (request_of c.args.asked.now) list agrees
+
+pub returns-in-Delete-clause-served : goal.returns-in-Delete-clause-served
+returns-in-Delete-clause-served g c = λ list agrees within.
+    let state = c.args.state.now in
+    let cloud = g.V.Shelf.cloud_at c.args.shelf.now state.header.cloud.0 in
+    subst (λ (r : Request). Served state state cloud list r c.refuse_delete.new.reply) (ap request_of (sym c.in-Delete.is))
+    (served_alone state cloud (requests.Delete c.in-Delete.user c.in-Delete.tag c.in-Delete.version) c.refuse_delete.new.reply list agrees
+    (adds_nothing state list c.in-Delete.user c.in-Delete.tag c.in-Delete.version) (c.refuse_delete.ensures.value cloud list agrees))
+
+pub returns-in-Delete-clause-moments : goal.returns-in-Delete-clause-moments
+returns-in-Delete-clause-moments g c = λ list agrees within.
+    let state = c.args.state.now in
+    let cloud = g.V.Shelf.cloud_at c.args.shelf.now state.header.cloud.0 in
+    subst (λ (r : Request). moment cloud ≡ moment cloud + moments_of list (serves state list r).adds) (ap request_of (sym c.in-Delete.is))
+    (no_moments state list c.in-Delete.user c.in-Delete.tag c.in-Delete.version cloud)
+
+pub returns-in-Delete-clause-kind : goal.returns-in-Delete-clause-kind
+returns-in-Delete-clause-kind g c =
+    subst (λ (r : Request). Gives c.args.state.now.header.shape r c.refuse_delete.new.reply) (ap request_of (sym c.in-Delete.is)) c.refuse_delete.ensures.kind
 
 -- ---- a recipe
 
@@ -126,6 +149,9 @@ returns-in-Query-clause-untouched g c = λ answer leaves is. (refl, refl, refl)
 
 pub returns-in-List-clause-untouched : goal.returns-in-List-clause-untouched
 returns-in-List-clause-untouched g c = λ answer leaves is. (refl, refl, refl)
+
+pub returns-in-Delete-clause-untouched : goal.returns-in-Delete-clause-untouched
+returns-in-Delete-clause-untouched g c = λ answer leaves is. (refl, refl, refl)
 
 pub returns-in-Put-clause-untouched : goal.returns-in-Put-clause-untouched
 returns-in-Put-clause-untouched g c = λ answer leaves.

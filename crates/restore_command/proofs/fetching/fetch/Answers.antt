@@ -1,7 +1,7 @@
 use Rattle.std.proofs.Common.{ℕ, List, IsTrue, length, Ok, refl, sym, ◌∙◌, subst}
 use Rattle.cd_edges.specs.Causes.{Rose}
-use Rattle.hellos.specs.declared.judging.Asked.TheVariants as asked
-use Rattle.hellos.specs.Hellos.{GreetsAll}
+use Rattle.ports_link.specs.declared.judging.Asked.TheVariants as asked
+use Rattle.ports_link.specs.Hellos.{GreetsAll}
 use Rattle.restore_command.specs.Calls.{Call}
 use Rattle.restore_command.proofs.Unfetched.{not_fetched}
 use Rattle.restore_command.proofs.fetching.fetch.Goals as goal

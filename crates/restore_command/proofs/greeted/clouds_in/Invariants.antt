@@ -1,5 +1,5 @@
 use Rattle.std.proofs.Common.{◌≡◌, ◌++◌, length}
-use Rattle.hellos.specs.Hellos.{clouds_of}
+use Rattle.ports_link.specs.Hellos.{clouds_of}
 use Rattle.restore_command.proofs.greeted.clouds_in.Given as goal
 
 abbrev pub invariant-lines : goal.invariant-lines

@@ -2,7 +2,7 @@ use Rattle.std.proofs.Common.{rules, ◌≡◌, ◌≤◌, ◌<◌, ℕ, List, I
 use Rattle.std.specs.Prelude.{All}
 use Rattle.std.specs.List.{Contains}
 use Rattle.cd_edges.specs.Causes.{Rose}
-use Rattle.hellos.specs.Hellos.{HaveTalks, clouds_of}
+use Rattle.ports_link.specs.Hellos.{HaveTalks, clouds_of}
 use Rattle.ports_link.specs.declared.lines.Line.{Line}
 use Rattle.ports_link.specs.declared.link.PortsLink.{PortsLink}
 use Rattle.ports_link.specs.Lines.{lines_for}

@@ -1,6 +1,6 @@
 use Rattle.std.proofs.Common.{ℕ, List, inl, inr, refl, subst}
-use Rattle.hellos.specs.Refusals.{refused_text}
-use Rattle.restore_lines.specs.Refusals.{refusal_text}
+use Rattle.ports_link.specs.Refusals.{refused_text}
+use Rattle.subset_restore.specs.Refusals.{refusal_text}
 use Rattle.restore_command.specs.Ends.{Fails, Gives, Refuses, Writes}
 use Rattle.restore_command.proofs.restoring.restore.Goals as goal
 

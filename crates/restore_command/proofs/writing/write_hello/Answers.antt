@@ -1,5 +1,5 @@
 use Rattle.std.proofs.Common.{ℕ, List, ◌++◌, ap, ◌∙◌, subst}
-use Rattle.hellos.specs.Refusals.{refused_text}
+use Rattle.ports_link.specs.Refusals.{refused_text}
 use Rattle.restore_command.specs.Ends.{Writes}
 use Rattle.restore_command.proofs.writing.write_hello.Goals as goal
 

@@ -1,5 +1,5 @@
 use Rattle.std.proofs.Common.{ℕ, List, ◌++◌, ap, ◌∙◌, subst}
-use Rattle.restore_lines.specs.Refusals.{refusal_text}
+use Rattle.subset_restore.specs.Refusals.{refusal_text}
 use Rattle.restore_command.specs.Ends.{Writes}
 use Rattle.restore_command.proofs.writing.write_refusal.Goals as goal
 

@@ -1,5 +1,5 @@
 use Rattle.std.proofs.Common.{◌≡◌, ◌++◌, map, take}
-use Rattle.vault.specs.Steps.{step_line}
+use Rattle.session_model.specs.Steps.{step_line}
 use Rattle.session.specs.Texts.{text_of}
 use Rattle.script_lines.proofs.finish.put_told.Given as goal
 

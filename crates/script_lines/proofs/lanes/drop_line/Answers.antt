@@ -2,8 +2,8 @@ use Rattle.std.proofs.Common.{◌<◌, List, length, refl, sym, subst}
 use Rattle.cd_base.specs.declared.shape.Shape.{Shape}
 use Rattle.upload_job.specs.Lanes.{LaneView, request_at, IsAsked}
 use Rattle.session.specs.declared.event.Event.TheVariants as events
-use Rattle.vault.specs.Vault.{lanes_of}
-use Rattle.vault.specs.Steps.{lose_lines}
+use Rattle.session_model.specs.Vault.{lanes_of}
+use Rattle.session_model.specs.Steps.{lose_lines}
 use Rattle.script_lines.proofs.Reaching.{job_reached, lane_below}
 use Rattle.script_lines.proofs.Going.{cut_before, cut_behind}
 use Rattle.script_lines.proofs.Walking.{views_are}

@@ -1,6 +1,6 @@
 use Rattle.std.specs.Prelude.{Ok}
 use Rattle.session.specs.declared.event.Event.TheVariants as events
-use Rattle.vault.specs.Steps.{list_lines}
+use Rattle.session_model.specs.Steps.{list_lines}
 use Rattle.script_lines.proofs.Going.{cut_behind}
 use Rattle.script_lines.proofs.Lines.{on_ok, on_err}
 use Rattle.script_lines.proofs.Paged.{list_goes, list_text, no_page_does, no_page_cut}

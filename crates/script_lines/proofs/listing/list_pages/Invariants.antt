@@ -1,6 +1,6 @@
 use Rattle.std.proofs.Common.{◌≡◌, ℕ, ◌-◌, ◌^◌}
 use Rattle.user_dedup.specs.Exec.{Peer}
-use Rattle.vault.specs.Vault.{Setting}
+use Rattle.session_model.specs.Vault.{Setting}
 use Rattle.script_lines.specs.At.{LinkAt, Leaves}
 use Rattle.script_lines.proofs.Paged.{HasListed}
 use Rattle.script_lines.proofs.listing.list_pages.Given as goal

@@ -1,5 +1,5 @@
 use Rattle.std.proofs.Common.{◌≡◌, ◌++◌, map, take}
-use Rattle.vault.specs.Steps.{entry_line}
+use Rattle.session_model.specs.Steps.{entry_line}
 use Rattle.session.specs.Texts.{text_of}
 use Rattle.script_lines.proofs.listing.put_entries.Given as goal
 

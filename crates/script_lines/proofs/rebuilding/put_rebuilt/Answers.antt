@@ -3,7 +3,7 @@ use Rattle.std.specs.Prelude.{Result}
 use Rattle.rebuild.specs.declared.error.RebuildErr.{RebuildErr}
 use Rattle.rebuild.specs.declared.skips.Rebuilt.{Rebuilt}
 use Rattle.transcript.specs.declared.line.Line.TheVariants as lines
-use Rattle.vault.specs.Steps.{skip_line}
+use Rattle.session_model.specs.Steps.{skip_line}
 use Rattle.script_lines.specs.Rebuilding.{SaysRebuild}
 use Rattle.script_lines.proofs.Lines.{on_ok}
 use Rattle.script_lines.proofs.rebuilding.put_rebuilt.Goals as goal

@@ -3,7 +3,7 @@ use Rattle.cd_base.specs.declared.shape.Shape.{Shape}
 use Rattle.session.specs.declared.event.Event.TheVariants as events
 use Rattle.transcript.specs.declared.line.Line.TheVariants as lines
 use Rattle.upload_job.specs.Lanes.{lanes_begun}
-use Rattle.vault.specs.Steps.{version_of}
+use Rattle.session_model.specs.Steps.{version_of}
 use Rattle.script_lines.proofs.Going.{cut_before}
 use Rattle.script_lines.proofs.Lines.{on_ok, on_err}
 use Rattle.script_lines.proofs.Others.{upload_came}

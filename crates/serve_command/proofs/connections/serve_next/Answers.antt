@@ -1,6 +1,6 @@
 use Rattle.std.proofs.Common.{sym, ap, ◌∙◌, subst}
 use Rattle.cd_edges.specs.Ports.{Telling}
-use Rattle.cloud_serving.specs.Serving.{RepliesOne, ServesOne}
+use Rattle.serve_command.specs.Serving.{RepliesOne, ServesOne}
 use Rattle.share_server.specs.Serving.{server_serves}
 use Rattle.serve_command.specs.Steps.{OneServed}
 use Rattle.serve_command.proofs.Passing.{one_served}

@@ -1,6 +1,6 @@
 use Rattle.std.proofs.Common.{◌∙◌, ap}
 use Rattle.pool_map.specs.Shown.{shown, shown-empty}
-use Rattle.share_index.specs.Order.{fp_exact}
+use Rattle.cd_base.specs.Order.{fp_exact}
 use Rattle.share_index.specs.Indexed.{place_in}
 use Rattle.share_index.proofs.Placing.{fp_total}
 use Rattle.share_index.proofs.Indexing.{indexed-empty}

@@ -2,7 +2,7 @@ use Rattle.std.proofs.Common.{◌∙◌, ap, sym, arith, true≢false}
 use Rattle.std.specs.Prelude.{is_some, option_map}
 use Rattle.std.specs.FinMap.{get, remove}
 use Rattle.pool_map.specs.Shown.{shown, get-shown, shown-remove}
-use Rattle.share_index.specs.Order.{fp_exact}
+use Rattle.cd_base.specs.Order.{fp_exact}
 use Rattle.share_index.specs.Shares.{Shares}
 use Rattle.share_index.specs.Indexed.{place_in}
 use Rattle.share_index.proofs.Placing.{fp_total}

@@ -2,8 +2,8 @@ use Rattle.std.proofs.Common.{◌∙◌, ap, sym, refl, true≢false}
 use Rattle.std.specs.Prelude.{is_some, option_map}
 use Rattle.std.specs.FinMap.{get, insert}
 use Rattle.pool_map.specs.Shown.{shown, get-shown, shown-insert}
-use Rattle.index_base.specs.Slots.{rewritten-through}
-use Rattle.share_index.specs.Order.{fp_exact}
+use Rattle.pool_map.specs.Slots.{rewritten-through}
+use Rattle.cd_base.specs.Order.{fp_exact}
 use Rattle.share_index.specs.Shares.{Shares}
 use Rattle.share_index.specs.Indexed.{place_in}
 use Rattle.share_index.proofs.Placing.{fp_total}

@@ -1,9 +1,9 @@
 use Rattle.std.proofs.Common.{◌∙◌, ap, sym, refl, arith, true≢false}
 use Rattle.std.specs.FinMap.{get, insert}
 use Rattle.pool_map.specs.Shown.{shown, len-shown, shown-insert}
-use Rattle.index_base.specs.declared.IndexErr.TheVariants.{Full}
+use Rattle.pool_map.specs.declared.accounts.IndexErr.TheVariants.{Full}
 use Rattle.share_index.specs.declared.key.Kept.{Kept}
-use Rattle.share_index.specs.Order.{fp_exact}
+use Rattle.cd_base.specs.Order.{fp_exact}
 use Rattle.share_index.specs.Shares.{Shares, owners_of}
 use Rattle.share_index.specs.Indexed.{place_in}
 use Rattle.share_index.proofs.Placing.{fp_total}

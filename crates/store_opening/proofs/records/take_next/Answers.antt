@@ -2,8 +2,8 @@ use Rattle.std.proofs.Common.{◌≡◌, Bool, Result, Ok, Err, true, length, sy
 use Rattle.cd_edges.specs.declared.area.Area.TheVariants.{Journal, Recipes}
 use Rattle.cd_edges.specs.Disk.{Areas}
 use Rattle.cd_edges.proofs.Moments.{told_on}
-use Rattle.half_records.specs.declared.errors.JournalErr.{JournalErr}
-use Rattle.half_records.specs.Outcomes.{StepIs}
+use Rattle.journal_halves.specs.declared.errors.JournalErr.{JournalErr}
+use Rattle.journal_halves.specs.Outcomes.{StepIs}
 use Rattle.half_journal.specs.declared.errors.OpenErr.{OpenErr}
 use Rattle.half_journal.specs.declared.errors.OpenErr.TheVariants.{Damaged}
 use Rattle.half_journal.specs.Openings.{OnFault}

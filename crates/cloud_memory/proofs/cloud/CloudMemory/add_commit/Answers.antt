@@ -2,7 +2,7 @@ use Rattle.std.proofs.Common.{◌≡◌, ◌+◌, ◌<◌, ◌^◌, ◌∙◌, �
 use Rattle.std.specs.Prelude.{option_map, slice_set, max}
 use Rattle.cd_base.specs.declared.ids.Fp.{Fp}
 use Rattle.std.specs.FinMap.{FinMap}
-use Rattle.command_list.specs.declared.command.Command.TheVariants as commands
+use Rattle.user_dedup.specs.declared.command.Command.TheVariants as commands
 use Rattle.record_body.specs.declared.body.CommitBody.{CommitBody}
 use Rattle.record_bodies.specs.Spelling as bodies
 use Rattle.share_index.specs.Order.{owner_cmp}

@@ -1,6 +1,6 @@
 use Rattle.std.proofs.Common.{◌+◌, ◌<◌, ◌^◌, ◌∙◌, ℕ, List, [], ◌∷◌, ◌++◌, sym, ap, subst, refl, length, arith}
 use Rattle.std.specs.Prelude.{option_map}
-use Rattle.command_list.specs.declared.command.Command.TheVariants as commands
+use Rattle.user_dedup.specs.declared.command.Command.TheVariants as commands
 use Rattle.cloud_areas.specs.Chains.{IsRecord}
 use Rattle.cloud_areas.specs.Laid.{AreLaid}
 use Rattle.cloud_areas.specs.Placing.{places_given, places_of}

@@ -1,9 +1,9 @@
 use Rattle.std.proofs.Common.{◌≡◌, Option, sym, subst, map, length, ◌∙◌}
 use Rattle.std.specs.Prelude.{◌↔◌, IsSome}
 use Rattle.std.specs.List.{Contains}
-use Rattle.share_index.specs.declared.key.Place.{Place}
+use Rattle.cd_base.specs.declared.place.Place.{Place}
 use Rattle.user_dedup.specs.Cloud.{fingerprint}
-use Rattle.command_list.specs.Commands.{strings_in, held_bytes}
+use Rattle.user_dedup.specs.Cloud.{strings_in, held_bytes}
 use Rattle.cloud_memory.proofs.Answering.{if_some}
 use Rattle.cloud_memory.proofs.cloud.CloudMemory.place_of.Goals as goal
 

@@ -1,7 +1,7 @@
 use Rattle.std.proofs.Common.{refl}
 use Rattle.cd_edges.specs.declared.area.Area.TheVariants.{Journal}
 use Rattle.journal_halves.specs.Journals.{all_bodies}
-use Rattle.half_records.specs.States as records
+use Rattle.journal_halves.specs.States as records
 use Rattle.half_journal.specs.declared.journal.Stage.TheVariants.{AtEnd}
 use Rattle.half_journal.specs.States.{State, state_of}
 use Rattle.half_journal.proofs.Steps.{appending, ended_more}

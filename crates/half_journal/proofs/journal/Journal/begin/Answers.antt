@@ -4,11 +4,12 @@ use Rattle.cd_edges.specs.Disk.{LeavesOnly, IsAtArea}
 use Rattle.cd_edges.proofs.Moments.{told_on}
 use Rattle.journal_start.specs.Spelling.{start_bytes}
 use Rattle.journal_halves.specs.Journals.{all_bodies}
-use Rattle.current_half.specs.Findings.{part_of}
+use Rattle.journal_halves.specs.Findings.{part_of}
 use Rattle.half_journal.specs.declared.journal.Stage.TheVariants.{Reading}
-use Rattle.half_records.specs.States.{IsAdded, begun_at}
-use Rattle.half_records.specs.States as records
-use Rattle.half_journal.specs.States.{State, state_of, new_of}
+use Rattle.journal_halves.specs.States.{IsAdded, begun_at}
+use Rattle.journal_halves.specs.States as records
+use Rattle.half_journal.specs.States.{State, state_of}
+use Rattle.journal_halves.specs.Beginnings.{new_of}
 use Rattle.half_journal.proofs.Opening.{closed_first, beginning, ready_ended, begun_new, reading_at}
 use Rattle.half_journal.proofs.journal.Journal.begin.Goals as goal
 

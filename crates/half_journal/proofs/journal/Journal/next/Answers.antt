@@ -1,6 +1,6 @@
 use Rattle.cd_edges.specs.declared.area.Area.TheVariants.{Journal}
 use Rattle.journal_halves.specs.Journals.{all_bodies}
-use Rattle.half_records.specs.States as records
+use Rattle.journal_halves.specs.States as records
 use Rattle.half_journal.specs.States.{state_of}
 use Rattle.half_journal.proofs.Steps.{half_stays, took_is, step_is, err_is}
 use Rattle.half_journal.proofs.journal.Journal.next.Goals as goal

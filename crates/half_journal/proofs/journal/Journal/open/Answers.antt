@@ -2,11 +2,12 @@ use Rattle.std.proofs.Common.{◌≡◌, true, false, IsTrue, List, Err, refl, s
 use Rattle.cd_edges.specs.declared.area.Area.TheVariants.{Journal}
 use Rattle.cd_edges.specs.Disk.{Store, Areas}
 use Rattle.cd_edges.proofs.Moments.{told_on}
-use Rattle.current_half.specs.declared.found.FindErr.{FindErr}
-use Rattle.current_half.specs.Findings.{FindIs}
+use Rattle.journal_halves.specs.declared.found.FindErr.{FindErr}
+use Rattle.journal_halves.specs.Findings.{FindIs}
 use Rattle.half_journal.specs.declared.errors.OpenErr.TheVariants.{Fault, NotBegun, Damaged}
 use Rattle.half_journal.specs.States.{state_of}
-use Rattle.half_journal.specs.Openings.{IsUnbegun, IsSynced, IsFree}
+use Rattle.half_journal.specs.Openings.{IsSynced, IsFree}
+use Rattle.journal_halves.specs.Beginnings.{IsUnbegun}
 use Rattle.half_journal.proofs.Opening.{not_opened, found_taken, began_ok, began_err}
 use Rattle.half_journal.proofs.journal.Journal.open.Goals as goal
 

@@ -1,8 +1,8 @@
 use Rattle.std.proofs.Common.{◌≡◌, ◌-◌, ℕ, refl, sym, ◌∙◌, ap, subst}
 use Rattle.cd_edges.specs.declared.area.Area.TheVariants.{Journal}
-use Rattle.checkpoint_writing.specs.States as writer
-use Rattle.half_records.specs.States.{begun_at}
-use Rattle.half_records.specs.States as records
+use Rattle.half_journal.specs.Turning as writer
+use Rattle.journal_halves.specs.States.{begun_at}
+use Rattle.journal_halves.specs.States as records
 use Rattle.half_journal.specs.declared.journal.Stage.TheVariants.{AtEnd}
 use Rattle.half_journal.specs.States.{State, state_of}
 use Rattle.half_journal.proofs.Steps.{settled}

@@ -1,7 +1,7 @@
 use Rattle.std.proofs.Common.{◌≡◌, ◌≢◌, ◌+◌, ℕ, length, refl, ◌∙◌, ap, rules}
 use Rattle.journal_start.specs.Spelling.{start_bytes}
-use Rattle.half_records.specs.States.{begun_at}
-use Rattle.half_records.specs.States as records
+use Rattle.journal_halves.specs.States.{begun_at}
+use Rattle.journal_halves.specs.States as records
 use Rattle.half_journal.specs.declared.journal.Stage.TheVariants.{Reading}
 use Rattle.half_journal.specs.States.{State, state_of}
 use Rattle.half_journal.proofs.Opening.{opened_at}

@@ -4,7 +4,7 @@ use Rattle.journal_start.specs.declared.start.Start.{Start}
 use Rattle.journal_start.specs.Spelling.{start_bytes, records_of}
 use Rattle.journal_start.proofs.Lengths.{second}
 use Rattle.journal_halves.specs.Journals.{MayFollow}
-use Rattle.checkpoint_writing.specs.States as writer
+use Rattle.half_journal.specs.Turning as writer
 use Rattle.half_journal.specs.declared.journal.Stage.TheVariants.{Laying}
 use Rattle.half_journal.specs.States.{State, state_of, next_start}
 use Rattle.half_journal.proofs.Steps.{stands_of, other_of, may_follow, turned}

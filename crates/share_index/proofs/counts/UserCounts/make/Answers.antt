@@ -1,6 +1,6 @@
 use Rattle.std.proofs.Common.{◌≡◌, ◌∙◌, ap, sym, subst, ◌<◌, ◌^◌, [], ◌∷◌}
 use Rattle.pool_map.specs.Shown.{shown, shown-empty}
-use Rattle.index_base.specs.Slots.{contents-fresh}
+use Rattle.pool_map.specs.Slots.{contents-fresh}
 use Rattle.share_index.specs.Counts.{number_cmp}
 use Rattle.share_index.specs.Counting.{room_of}
 use Rattle.share_index.proofs.Counting.{plain, number_total, number_exact, counting-empty}

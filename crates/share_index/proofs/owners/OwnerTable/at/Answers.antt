@@ -1,4 +1,4 @@
-use Rattle.index_base.specs.Slots.{listed-shown}
+use Rattle.pool_map.specs.Slots.{listed-shown}
 use Rattle.share_index.proofs.Owning.{owner_total}
 use Rattle.share_index.proofs.owners.OwnerTable.at.Goals as goal
 

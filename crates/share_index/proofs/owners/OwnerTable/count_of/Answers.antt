@@ -1,5 +1,5 @@
 use Rattle.std.proofs.Common.{◌≡◌, ◌∙◌, ◌<◌, ap, sym, subst, take, count_by}
-use Rattle.index_base.specs.Slots.{IsListed}
+use Rattle.pool_map.specs.Slots.{IsListed}
 use Rattle.share_index.specs.Owning.{Owners, shows_fp}
 use Rattle.share_index.specs.Shares.{owners_of}
 use Rattle.share_index.proofs.Scanning.{scanned}

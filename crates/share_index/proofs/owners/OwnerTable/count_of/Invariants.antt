@@ -1,5 +1,5 @@
 use Rattle.std.proofs.Common.{◌≡◌, ◌≤◌, ◌<◌, take, count_by}
-use Rattle.index_base.specs.Slots.{IsListed}
+use Rattle.pool_map.specs.Slots.{IsListed}
 use Rattle.share_index.specs.Owning.{shows_fp}
 use Rattle.share_index.proofs.owners.OwnerTable.count_of.Given as goal
 

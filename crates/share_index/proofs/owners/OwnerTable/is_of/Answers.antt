@@ -1,5 +1,5 @@
 use Rattle.std.proofs.Common.{◌∙◌, ap}
-use Rattle.index_base.specs.Slots.{slot_of, listed-shown}
+use Rattle.pool_map.specs.Slots.{slot_of, listed-shown}
 use Rattle.share_index.specs.Owning.{Owners, shows_fp}
 use Rattle.share_index.proofs.Owning.{owner_total}
 use Rattle.share_index.proofs.Scanning.{same-test, shows-held}

@@ -1,5 +1,5 @@
 use Rattle.std.proofs.Common.{◌∙◌, ap}
-use Rattle.index_base.specs.Accounts.{keys_of}
+use Rattle.pool_map.specs.Accounts.{keys_of}
 use Rattle.share_index.specs.declared.key.Owner.{Owner}
 use Rattle.share_index.specs.Owning.{Owners}
 use Rattle.share_index.proofs.owners.OwnerTable.owned_by.Goals as goal

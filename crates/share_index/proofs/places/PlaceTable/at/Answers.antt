@@ -1,4 +1,4 @@
-use Rattle.index_base.specs.Slots.{listed-shown}
+use Rattle.pool_map.specs.Slots.{listed-shown}
 use Rattle.share_index.proofs.Placing.{fp_total}
 use Rattle.share_index.proofs.places.PlaceTable.at.Goals as goal
 

@@ -1,6 +1,6 @@
 use Rattle.std.proofs.Common.{◌∙◌, ap, sym, subst, ◌<◌, ◌^◌, [], ◌∷◌}
 use Rattle.pool_map.specs.Shown.{shown, shown-empty}
-use Rattle.share_index.specs.Order.{fp_exact}
+use Rattle.cd_base.specs.Order.{fp_exact}
 use Rattle.share_index.specs.Counting.{room_of}
 use Rattle.share_index.proofs.Placing.{fp_total, kept_of, placing-empty}
 use Rattle.share_index.proofs.places.PlaceTable.clear.Goals as goal

@@ -1,9 +1,9 @@
 use Rattle.std.proofs.Common.{◌∙◌, ap, sym}
 use Rattle.std.specs.Prelude.{is_some}
 use Rattle.std.specs.FinMap.{get}
-use Rattle.index_base.specs.Slots.{slot-shown, present-shown}
+use Rattle.pool_map.specs.Slots.{slot-shown, present-shown}
 use Rattle.share_index.specs.declared.key.Kept.{Kept}
-use Rattle.share_index.specs.Order.{fp_cmp}
+use Rattle.cd_base.specs.Order.{fp_cmp}
 use Rattle.share_index.specs.Placing.{Places}
 use Rattle.share_index.proofs.places.PlaceTable.find.Goals as goal
 

@@ -2,7 +2,7 @@ use Rattle.std.proofs.Common.{◌∙◌, ap, sym}
 use Rattle.std.specs.FinMap.{len}
 use Rattle.pool_map.specs.Table.{contents}
 use Rattle.pool_map.specs.Shown.{len-shown}
-use Rattle.share_index.specs.Order.{fp_cmp}
+use Rattle.cd_base.specs.Order.{fp_cmp}
 use Rattle.share_index.specs.Placing.{Places}
 use Rattle.share_index.proofs.Placing.{kept_of}
 use Rattle.share_index.proofs.places.PlaceTable.len.Goals as goal

@@ -1,7 +1,7 @@
 use Rattle.std.proofs.Common.{◌≡◌, ◌∙◌, ap, sym, subst, ◌<◌, ◌^◌, [], ◌∷◌}
 use Rattle.pool_map.specs.Shown.{shown, shown-empty}
-use Rattle.index_base.specs.Slots.{contents-fresh}
-use Rattle.share_index.specs.Order.{fp_cmp, fp_exact}
+use Rattle.pool_map.specs.Slots.{contents-fresh}
+use Rattle.cd_base.specs.Order.{fp_cmp, fp_exact}
 use Rattle.share_index.specs.Counting.{room_of}
 use Rattle.share_index.proofs.Placing.{fp_total, kept_of, placing-empty}
 use Rattle.share_index.proofs.places.PlaceTable.make.Goals as goal

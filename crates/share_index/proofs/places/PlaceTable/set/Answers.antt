@@ -4,8 +4,8 @@ use Rattle.std.specs.FinMap.{get, insert}
 use Rattle.slot_pool.specs.Pool.{Pool}
 use Rattle.pool_map.specs.declared.Entry.{Entry as Pair}
 use Rattle.share_index.specs.declared.key.Kept.{Kept}
-use Rattle.index_base.specs.Slots.{rewritten-shown}
-use Rattle.share_index.specs.Order.{fp_exact}
+use Rattle.pool_map.specs.Slots.{rewritten-shown}
+use Rattle.cd_base.specs.Order.{fp_exact}
 use Rattle.share_index.specs.Placing.{Places}
 use Rattle.std.proofs.Common.{List, ℕ}
 use Rattle.share_index.proofs.Placing.{present, value-is, set-is, set-sub-fits, set-add-fits, placing-set}

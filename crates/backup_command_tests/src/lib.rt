@@ -1,7 +1,0 @@
-//! Backups over ports in memory.
-#![tactic(auto)]
-
-#[cfg(test)]
-mod command;
-#[cfg(test)]
-mod refusals;

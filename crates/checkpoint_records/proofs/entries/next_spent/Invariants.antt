@@ -1,6 +1,0 @@
-use Rattle.std.proofs.Common.{◌≡◌}
-use Rattle.checkpoint_records.specs.Records.{spents_from}
-use Rattle.checkpoint_records.proofs.entries.next_spent.Given as goal
-
-abbrev pub invariant-loop-user : goal.invariant-loop-user
-invariant-loop-user l = spents_from l.table l.from ≡ spents_from l.table l.user

@@ -1,5 +1,0 @@
-use Rattle.checkpoint_records.proofs.Unowned.{Taking}
-use Rattle.checkpoint_records.proofs.kept.take_batch.Given as goal
-
-abbrev pub invariant-loop-count : goal.invariant-loop-count
-invariant-loop-count l = Taking l.shares l.from l.items l.at l.count

@@ -1,9 +1,0 @@
-use Rattle.std.proofs.Common.{refl}
-use Rattle.checkpoint_records.proofs.Unmarked.{unmarked}
-use Rattle.checkpoint_records.proofs.marks.Marks.make.Goals as goal
-
-pub returns : goal.returns
-returns c = unmarked c.in_ok-marks.marks.items 524288 c.in_ok-marks.ensures refl
-
-pub invariant_of-result : goal.invariant_of-result
-invariant_of-result c = (unmarked c.in_ok-marks.marks.items 524288 c.in_ok-marks.ensures refl).long

@@ -1,5 +1,0 @@
-//! Checkpoints over clouds in memory.
-#![tactic(auto)]
-
-#[cfg(test)]
-mod tests;

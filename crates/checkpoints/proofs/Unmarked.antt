@@ -1,0 +1,43 @@
+-- Marks that are taken away.
+use Rattle.std.proofs.Common.{◌≡◌, ℕ, zero, suc, Bool, false, List, length, get_or, replicate, refl, sym, ap, ◌∙◌, subst, arith}
+use Rattle.std.proofs.Common.{◌≤◌}
+use Rattle.file_index.specs.Files.{Files}
+use Rattle.pool_map.specs.Slots.{IsListed}
+use Rattle.share_index.specs.Shares.{Shares}
+use Rattle.spent_table.specs.declared.Spent.{Spent as Row}
+use Rattle.checkpoints.specs.Marked.{slots_limit, AreUnmarked}
+use Rattle.checkpoints.specs.Records.{first_of}
+use Rattle.cloud_memory.specs.Fitting.{AreShares, AreRecipes}
+use Rattle.checkpoints.specs.Ready.{IsReady}
+use Rattle.checkpoints.specs.declared.position.Position.{Position}
+
+none_in : (n slot : ℕ) → get_or (replicate n false) slot false ≡ false
+none_in zero slot = refl
+none_in (suc n) zero = refl
+none_in (suc n) (suc slot) = none_in n slot
+
+long_of : (n : ℕ) → length (replicate n false) ≡ n
+long_of zero = refl
+long_of (suc n) = ap suc (long_of n)
+
+pub unmarked : (marks : List Bool) (n : ℕ) → marks ≡ replicate n false → n ≡ slots_limit → AreUnmarked marks
+unmarked marks n is limit = record {
+  long = ap length is ∙ long_of n ∙ limit;
+  none = λ slot. ap (λ (m : List Bool). get_or m slot false) is ∙ none_in n slot;
+}
+
+-- Before the first record nothing is listed.
+pub ready_first : (shares : Shares) (files : Files) (rows : List Row) (marks : List Bool) (p : Position) → AreShares shares.places → AreRecipes files.files → length rows ≤ 256
+    → length shares.place_slots ≤ 524288 → AreUnmarked marks → IsListed shares.places shares.place_slots → IsListed files.files files.slots → p ≡ first_of (length rows) → IsReady shares files rows marks p
+ready_first shares files rows marks p fit recipes few slots unmarked stand entries is =
+    subst (IsReady shares files rows marks) (sym is) (record {
+      puts = record {
+        fit = fit;
+        stand = stand;
+        listing = record { long = omega (arith, slots, unmarked.long); marked = λ s fp place at. unmarked.none s };
+        few = omega (arith, few);
+      };
+      recipes = recipes;
+      entries = entries;
+      few = few;
+    })

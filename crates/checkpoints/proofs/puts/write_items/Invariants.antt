@@ -1,0 +1,11 @@
+use Rattle.std.proofs.Common.{◌≡◌, ◌+◌, ◌++◌, ◌≤◌, ◌*◌, length, drop}
+use Rattle.std.specs.List.{flat_map}
+use Rattle.record_body.specs.Spelling.{item_bytes}
+use Rattle.record_bodies.specs.Spelling.{Put, body_bytes}
+use Rattle.checkpoints.proofs.puts.write_items.Given as goal
+
+abbrev pub invariant-loop-item : goal.invariant-loop-item
+invariant-loop-item l = record {
+  bytes : body_bytes (Put (record { 0 = l.fn.user }) l.items) ≡ l.buffer ++ flat_map item_bytes (drop l.item-index l.items);
+  long : length l.buffer ≤ 7 + 45 * l.item-index;
+}

@@ -1,0 +1,18 @@
+use Rattle.std.proofs.Common.{List, length, sym, ap, ◌∙◌, subst, arith}
+use Rattle.file_index.specs.Files.{Files}
+use Rattle.share_index.specs.Shares.{Shares}
+use Rattle.spent_table.specs.declared.Spent.{Spent as Row}
+use Rattle.checkpoints.specs.Records.{first_of}
+use Rattle.cloud_memory.specs.Fitting.{AreShares, AreRecipes}
+use Rattle.checkpoints.proofs.Unmarked.{ready_first}
+use Rattle.checkpoints.proofs.records.MemoryRecords.of.Goals as goal
+
+pub returns-clause-ready : goal.returns-clause-ready
+returns-clause-ready c =
+    let shares = c.shares-shares.ensures in
+    ready_first c.shares-shares.result.now c.files-files.result.now c.spent_table-spent.result.now c.clear.new.self c.first.result
+    (subst (λ (s : Shares). AreShares s.places) (sym shares) c.requires.fit.shares)
+    (subst (λ (f : Files). AreRecipes f.files) (sym c.files-files.ensures) c.requires.fit.recipes)
+    (omega (arith, c.requires.users, ap (λ (rows : List Row). length rows) c.spent_table-spent.ensures))
+    (omega (arith, c.requires.slots, ap (λ (s : Shares). length s.place_slots) shares))
+    c.clear.ensures c.place_at.ensures.each c.entry_at.ensures.each (c.first.ensures ∙ ap first_of c.users.ensures)

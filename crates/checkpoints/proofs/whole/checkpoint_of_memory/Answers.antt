@@ -1,0 +1,147 @@
+use Rattle.std.proofs.Common.{ℕ, ◌+◌, ◌≤◌, List, length, sym, ap, ◌∙◌, subst, arith}
+use Rattle.std.specs.Prelude.{All}
+use Rattle.record_bodies.specs.Spelling.{Body, FitsBody, body_bytes}
+use Rattle.checkpoints.specs.Laying.{records_len}
+use Rattle.checkpoints.specs.Records.{coming, records_of}
+use Rattle.checkpoints.specs.Known.{recipes_of}
+use Rattle.checkpoints.proofs.Summed.{listed_of, short, roomy, is_summed, next_holds, placed_by, summed_as, on_as}
+use Rattle.checkpoints.proofs.whole.checkpoint_of_memory.Goals as goal
+
+pub returns-in-None-clause-short : goal.returns-in-None-clause-short
+returns-in-None-clause-short g c list chain k =
+    let header = c.args.header.now in let memory = c.args.memory.now in let disk = c.args.disk.now in
+    let c0 = g.V.Shelf.cloud_at c.args.shelf.now c.args.cloud.0 in
+    let listed = listed_of memory c.shares.result.now c.shares-2.result.now c.files.result.now c.shares.ensures c.shares-2.ensures c.files.ensures c.place_at.ensures.each c.owner_at.ensures.each c.entry_at.ensures.each in
+    let fit : All FitsBody (records_of memory) = subst (All FitsBody) c.of-records.ensures.records c.count_within.ensures.fit in
+    let is = short header list chain c.args.commands c.args.region memory disk c0 k listed c.requires.format c.law_of_checkpoints.ensures.room fit in
+    subst (λ (n : ℕ). 63 + records_len (records_of memory) ≤ n) (sym c.requires.limit) is
+
+pub returns-in-None-clause-roomy : goal.returns-in-None-clause-roomy
+returns-in-None-clause-roomy g c list chain body k fits =
+    let header = c.args.header.now in let memory = c.args.memory.now in let disk = c.args.disk.now in
+    let c0 = g.V.Shelf.cloud_at c.args.shelf.now c.args.cloud.0 in
+    let listed = listed_of memory c.shares.result.now c.shares-2.result.now c.files.result.now c.shares.ensures c.shares-2.ensures c.files.ensures c.place_at.ensures.each c.owner_at.ensures.each c.entry_at.ensures.each in
+    let fit : All FitsBody (records_of memory) = subst (All FitsBody) c.of-records.ensures.records c.count_within.ensures.fit in
+    let is = roomy header list chain c.args.commands c.args.region memory disk c0 k listed c.requires.format c.law_of_checkpoints.ensures.room fit body fits in
+    subst (λ (n : ℕ). 63 + records_len (records_of memory) + (length (body_bytes body) + 5) ≤ n) (sym c.requires.limit) is
+
+pub returns-in-Ok-clause-roomy : goal.returns-in-Ok-clause-roomy
+returns-in-Ok-clause-roomy g c list chain body k fits =
+    let header = c.args.header.now in let memory = c.args.memory.now in let disk = c.args.disk.now in
+    let c0 = g.V.Shelf.cloud_at c.args.shelf.now c.args.cloud.0 in
+    let listed = listed_of memory c.shares.result.now c.shares-2.result.now c.files.result.now c.shares.ensures c.shares-2.ensures c.files.ensures c.place_at.ensures.each c.owner_at.ensures.each c.entry_at.ensures.each in
+    let fit : All FitsBody (records_of memory) = subst (All FitsBody) c.of-records.ensures.records c.count_within.ensures.fit in
+    let is = roomy header list chain c.args.commands c.args.region memory disk c0 k listed c.requires.format c.law_of_checkpoints.ensures.room fit body fits in
+    subst (λ (n : ℕ). 63 + records_len (records_of memory) + (length (body_bytes body) + 5) ≤ n) (sym c.requires.limit) is
+
+pub returns-in-Err-clause-roomy : goal.returns-in-Err-clause-roomy
+returns-in-Err-clause-roomy g c list chain body k fits =
+    let header = c.args.header.now in let memory = c.args.memory.now in let disk = c.args.disk.now in
+    let c0 = g.V.Shelf.cloud_at c.args.shelf.now c.args.cloud.0 in
+    let listed = listed_of memory c.shares.result.now c.shares-2.result.now c.files.result.now c.shares.ensures c.shares-2.ensures c.files.ensures c.place_at.ensures.each c.owner_at.ensures.each c.entry_at.ensures.each in
+    let fit : All FitsBody (records_of memory) = subst (All FitsBody) c.of-records.ensures.records c.count_within.ensures.fit in
+    let is = roomy header list chain c.args.commands c.args.region memory disk c0 k listed c.requires.format c.law_of_checkpoints.ensures.room fit body fits in
+    subst (λ (n : ℕ). 63 + records_len (records_of memory) + (length (body_bytes body) + 5) ≤ n) (sym c.requires.limit) is
+
+pub returns-in-None-clause-any_moment : goal.returns-in-None-clause-any_moment
+returns-in-None-clause-any_moment g c list chain k =
+    let header = c.args.header.now in let memory = c.args.memory.now in let disk = c.args.disk.now in
+    let c0 = g.V.Shelf.cloud_at c.args.shelf.now c.args.cloud.0 in
+    let listed = listed_of memory c.shares.result.now c.shares-2.result.now c.files.result.now c.shares.ensures c.shares-2.ensures c.files.ensures c.place_at.ensures.each c.owner_at.ensures.each c.entry_at.ensures.each in
+    let fit : All FitsBody (records_of memory) = subst (All FitsBody) c.of-records.ensures.records c.count_within.ensures.fit in
+    let is = short header list chain c.args.commands c.args.region memory disk c0 k listed c.requires.format c.law_of_checkpoints.ensures.room fit in
+    let beyond = c.in-None.ensures.count in
+    let same = ap records_len c.of-records.ensures.records in
+    let limit = c.limit-limit.ensures ∙ ap (λ s. s.limit) c.journal.ensures ∙ c.requires.limit in
+    absurd (omega (arith, is, beyond, same, limit))
+
+pub returns-in-None-clause-only_journal : goal.returns-in-None-clause-only_journal
+returns-in-None-clause-only_journal g c list chain k =
+    let header = c.args.header.now in let memory = c.args.memory.now in let disk = c.args.disk.now in
+    let c0 = g.V.Shelf.cloud_at c.args.shelf.now c.args.cloud.0 in
+    let listed = listed_of memory c.shares.result.now c.shares-2.result.now c.files.result.now c.shares.ensures c.shares-2.ensures c.files.ensures c.place_at.ensures.each c.owner_at.ensures.each c.entry_at.ensures.each in
+    let fit : All FitsBody (records_of memory) = subst (All FitsBody) c.of-records.ensures.records c.count_within.ensures.fit in
+    let is = short header list chain c.args.commands c.args.region memory disk c0 k listed c.requires.format c.law_of_checkpoints.ensures.room fit in
+    let beyond = c.in-None.ensures.count in
+    let same = ap records_len c.of-records.ensures.records in
+    let limit = c.limit-limit.ensures ∙ ap (λ s. s.limit) c.journal.ensures ∙ c.requires.limit in
+    absurd (omega (arith, is, beyond, same, limit))
+
+pub returns-in-Ok-clause-any_moment : goal.returns-in-Ok-clause-any_moment
+returns-in-Ok-clause-any_moment g c list chain k =
+    let header = c.args.header.now in let memory = c.args.memory.now in let disk = c.args.disk.now in
+    let c0 = g.V.Shelf.cloud_at c.args.shelf.now c.args.cloud.0 in
+    let listed = listed_of memory c.shares.result.now c.shares-2.result.now c.files.result.now c.shares.ensures c.shares-2.ensures c.files.ensures c.place_at.ensures.each c.owner_at.ensures.each c.entry_at.ensures.each in
+    let fit : All FitsBody (records_of memory) = subst (All FitsBody) c.of-records.ensures.records c.count_within.ensures.fit in
+    let summed = is_summed header list chain c.args.commands c.args.region memory disk c0 k listed c.requires.format c.law_of_checkpoints.ensures.room fit c.law_of_checkpoints.ensures.holds in
+    let counted = c.in-Some.ensures.count.0 ∙ ap (λ (r : List Body). length r) c.of-records.ensures.records in
+    let made = c.of-records-2.result in
+    let bodies = coming made.shares.now made.files.now made.spent.now made.at in
+    let recipes = recipes_of header.shape list memory in
+    let known = summed_as header list chain c.args.commands c.args.region memory c.in-Some.count bodies counted c.of-records-2.ensures.records disk c0 summed in
+    c.checkpoint-laid.ensures.any_moment list chain recipes known
+
+pub returns-in-Ok-clause-only_journal : goal.returns-in-Ok-clause-only_journal
+returns-in-Ok-clause-only_journal g c list chain k =
+    let header = c.args.header.now in let memory = c.args.memory.now in let disk = c.args.disk.now in
+    let c0 = g.V.Shelf.cloud_at c.args.shelf.now c.args.cloud.0 in
+    let listed = listed_of memory c.shares.result.now c.shares-2.result.now c.files.result.now c.shares.ensures c.shares-2.ensures c.files.ensures c.place_at.ensures.each c.owner_at.ensures.each c.entry_at.ensures.each in
+    let fit : All FitsBody (records_of memory) = subst (All FitsBody) c.of-records.ensures.records c.count_within.ensures.fit in
+    let summed = is_summed header list chain c.args.commands c.args.region memory disk c0 k listed c.requires.format c.law_of_checkpoints.ensures.room fit c.law_of_checkpoints.ensures.holds in
+    let counted = c.in-Some.ensures.count.0 ∙ ap (λ (r : List Body). length r) c.of-records.ensures.records in
+    let made = c.of-records-2.result in
+    let bodies = coming made.shares.now made.files.now made.spent.now made.at in
+    let recipes = recipes_of header.shape list memory in
+    let known = summed_as header list chain c.args.commands c.args.region memory c.in-Some.count bodies counted c.of-records-2.ensures.records disk c0 summed in
+    c.checkpoint-laid.ensures.only_journal list chain recipes known
+
+pub returns-in-Ok-clause-settled : goal.returns-in-Ok-clause-settled
+returns-in-Ok-clause-settled g c list chain k =
+    let header = c.args.header.now in let memory = c.args.memory.now in let disk = c.args.disk.now in
+    let c0 = g.V.Shelf.cloud_at c.args.shelf.now c.args.cloud.0 in
+    let listed = listed_of memory c.shares.result.now c.shares-2.result.now c.files.result.now c.shares.ensures c.shares-2.ensures c.files.ensures c.place_at.ensures.each c.owner_at.ensures.each c.entry_at.ensures.each in
+    let fit : All FitsBody (records_of memory) = subst (All FitsBody) c.of-records.ensures.records c.count_within.ensures.fit in
+    let summed = is_summed header list chain c.args.commands c.args.region memory disk c0 k listed c.requires.format c.law_of_checkpoints.ensures.room fit c.law_of_checkpoints.ensures.holds in
+    let counted = c.in-Some.ensures.count.0 ∙ ap (λ (r : List Body). length r) c.of-records.ensures.records in
+    let made = c.of-records-2.result in
+    let bodies = coming made.shares.now made.files.now made.spent.now made.at in
+    let recipes = recipes_of header.shape list memory in
+    let known = summed_as header list chain c.args.commands c.args.region memory c.in-Some.count bodies counted c.of-records-2.ensures.records disk c0 summed in
+    let law = c.law_of_checkpoints.ensures in
+    let holds = next_holds header list chain c.args.commands c.args.region memory disk c0 k listed c.requires.format law.room fit law.holds in
+    record {
+      on =
+          on_as header list chain c.args.commands c.args.region memory c.in-Some.count bodies counted c.of-records-2.ensures.records c.checkpoint-laid.new.disk
+          (g.V.Shelf.cloud_at c.checkpoint-laid.new.shelf c.args.cloud.0) (c.in-Ok.ensures.settled list chain recipes known);
+      placed =
+          placed_by header list chain c.args.commands c.args.region memory disk c0 k listed c.requires.format law.room fit law.holds
+          (λ fp. c.law_of_places.ensures.placed header _ list _ fp holds);
+    }
+
+pub returns-in-Err-clause-any_moment : goal.returns-in-Err-clause-any_moment
+returns-in-Err-clause-any_moment g c list chain k =
+    let header = c.args.header.now in let memory = c.args.memory.now in let disk = c.args.disk.now in
+    let c0 = g.V.Shelf.cloud_at c.args.shelf.now c.args.cloud.0 in
+    let listed = listed_of memory c.shares.result.now c.shares-2.result.now c.files.result.now c.shares.ensures c.shares-2.ensures c.files.ensures c.place_at.ensures.each c.owner_at.ensures.each c.entry_at.ensures.each in
+    let fit : All FitsBody (records_of memory) = subst (All FitsBody) c.of-records.ensures.records c.count_within.ensures.fit in
+    let summed = is_summed header list chain c.args.commands c.args.region memory disk c0 k listed c.requires.format c.law_of_checkpoints.ensures.room fit c.law_of_checkpoints.ensures.holds in
+    let counted = c.in-Some.ensures.count.0 ∙ ap (λ (r : List Body). length r) c.of-records.ensures.records in
+    let made = c.of-records-2.result in
+    let bodies = coming made.shares.now made.files.now made.spent.now made.at in
+    let recipes = recipes_of header.shape list memory in
+    let known = summed_as header list chain c.args.commands c.args.region memory c.in-Some.count bodies counted c.of-records-2.ensures.records disk c0 summed in
+    c.checkpoint-laid.ensures.any_moment list chain recipes known
+
+pub returns-in-Err-clause-only_journal : goal.returns-in-Err-clause-only_journal
+returns-in-Err-clause-only_journal g c list chain k =
+    let header = c.args.header.now in let memory = c.args.memory.now in let disk = c.args.disk.now in
+    let c0 = g.V.Shelf.cloud_at c.args.shelf.now c.args.cloud.0 in
+    let listed = listed_of memory c.shares.result.now c.shares-2.result.now c.files.result.now c.shares.ensures c.shares-2.ensures c.files.ensures c.place_at.ensures.each c.owner_at.ensures.each c.entry_at.ensures.each in
+    let fit : All FitsBody (records_of memory) = subst (All FitsBody) c.of-records.ensures.records c.count_within.ensures.fit in
+    let summed = is_summed header list chain c.args.commands c.args.region memory disk c0 k listed c.requires.format c.law_of_checkpoints.ensures.room fit c.law_of_checkpoints.ensures.holds in
+    let counted = c.in-Some.ensures.count.0 ∙ ap (λ (r : List Body). length r) c.of-records.ensures.records in
+    let made = c.of-records-2.result in
+    let bodies = coming made.shares.now made.files.now made.spent.now made.at in
+    let recipes = recipes_of header.shape list memory in
+    let known = summed_as header list chain c.args.commands c.args.region memory c.in-Some.count bodies counted c.of-records-2.ensures.records disk c0 summed in
+    c.checkpoint-laid.ensures.only_journal list chain recipes known

@@ -1,0 +1,31 @@
+-- What holds while the records of a memory are written.
+use Rattle.std.specs.Prelude.{◌≡◌, ℕ, ◌+◌, ◌≤◌, Bool, false, List, length, slice_index_or, Some}
+use Rattle.cd_base.specs.declared.ids.Fp.{Fp}
+use Rattle.file_index.specs.Files.{Files}
+use Rattle.pool_map.specs.Slots.{slot_of, IsListed}
+use Rattle.cd_base.specs.declared.place.Place.{Place}
+use Rattle.share_index.specs.Shares.{Shares}
+use Rattle.spent_table.specs.declared.Spent.{Spent as Row}
+use Rattle.user_dedup.specs.Owning.{is_among}
+use Rattle.cloud_memory.specs.Fitting.{AreShares, AreRecipes}
+use Rattle.checkpoints.specs.Records.{listed}
+use Rattle.checkpoints.specs.declared.position.Position.{Position}
+
+-- The slots of just these fingerprints are marked.
+pub record AreMarked (shares : Shares) (marks : List Bool) (fps : List Fp) : Type 0 where
+  pub long : length shares.place_slots ≤ length marks
+  pub marked : (s : ℕ) (fp : List ℕ) (place : Place) → slot_of shares.place_slots s ≡ Some (fp, place) → slice_index_or marks s false ≡ is_among fps (record { 0 = fp })
+
+-- The Puts may go on at these: the slots of what is listed are marked.
+pub record IsAtPuts (shares : Shares) (marks : List Bool) (left user at : ℕ) : Type 0 where
+  pub fit : AreShares shares.places
+  pub stand : IsListed shares.places shares.place_slots
+  pub listing : AreMarked shares marks (listed shares.owner_slots user at)
+  pub few : user + left ≤ 256
+
+-- The next record may be written.
+pub record IsReady (shares : Shares) (files : Files) (rows : List Row) (marks : List Bool) (p : Position) : Type 0 where
+  pub puts : IsAtPuts shares marks p.left p.user p.owner
+  pub recipes : AreRecipes files.files
+  pub entries : IsListed files.files files.slots
+  pub few : length rows ≤ 256

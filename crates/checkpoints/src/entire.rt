@@ -1,0 +1,85 @@
+//! A checkpoint of a disk.
+
+ghost use Rattle.std.specs.Prelude.{◌≡◌, ℕ, ◌+◌, ◌≤◌, List, length, IsTrue, OnOk, OnErr};
+ghost use Rattle.cd_edges.specs.Shelf.{IsCall, HasFailed, KeepsCounts};
+ghost use Rattle.container_log.specs.Laying.{Placed};
+ghost use Rattle.journal_start.specs.Ranges.{IsHeader};
+ghost use Rattle.half_journal.specs.Leaving.{OthersStay};
+ghost use Rattle.half_journal.specs.declared.journal.Stage.TheVariants.{AtEnd};
+ghost use Rattle.half_journal.specs.Outcomes.{stage_after};
+ghost use Rattle.user_dedup.specs.declared.command.Command.{Command};
+ghost use Rattle.cloud_areas.specs.Standing.{Chain};
+ghost use Rattle.cloud_disk.specs.Disk.{IsOn};
+ghost use Rattle.checkpoints.specs.Laying.{records_len};
+ghost use Rattle.checkpoints.specs.Settling.{checkpoint_of, IsSummed, KeepsList, KeepsOthers};
+
+use crate::{CheckpointRecords, lay_checkpoint};
+use cd_base::CloudNo;
+use cd_edges::{Failed, Shelf};
+use cloud_disk::CloudDisk;
+use journal_start::Header;
+use record_bodies::BodyBuf;
+
+/// Puts a checkpoint of so many records, which stands for so many commands and whose blobs lie in this region, in the place of
+/// the chain of a cloud's journal. Where the checkpoint says the list that the chain says, the cloud stands for it whenever a
+/// crash comes, and after Ok the disk stands for it by the checkpoint's chain. No area but the journal is written.
+///
+/// Failed comes only where the cloud's count of faults rose, and then the journal is shut. The logs are as they were. It takes
+/// no memory.
+pub fn checkpoint<V: Shelf, R: CheckpointRecords>(
+    disk: &mut CloudDisk,
+    shelf: &mut V,
+    cloud: CloudNo,
+    header: &Header,
+    commands: u64,
+    count: u32,
+    region: u8,
+    records: &mut R,
+    buffer: &mut BodyBuf,
+) -> Result<(), Failed>
+    requires at_end { disk.old.journal.stage ≡ AtEnd }
+    requires header { IsHeader header.now }
+    requires format { header.now.format ≡ 2 }
+    requires region { region ≤ 1 }
+    requires ready { R.is_ready records.old }
+    requires count { length (R.to_come records.old) ≡ count }
+    requires room { 63 + records_len (R.to_come records.old) ≤ disk.old.journal.limit }
+
+    ensures any_moment { (list : List Command) (c : Chain) (recipes : List Placed)
+        → IsSummed header.now list c (checkpoint_of c header.now commands count region (R.to_come records.old) recipes)
+        disk.old (V.cloud_at shelf.old cloud.0)
+        → KeepsList header.now list (V.cloud_at shelf.old cloud.0) (V.cloud_at shelf.new cloud.0) }
+    ensures only_journal { (list : List Command) (c : Chain) (recipes : List Placed)
+        → IsSummed header.now list c (checkpoint_of c header.now commands count region (R.to_come records.old) recipes)
+        disk.old (V.cloud_at shelf.old cloud.0)
+        → KeepsOthers (V.cloud_at shelf.old cloud.0) (V.cloud_at shelf.new cloud.0) }
+    ensures settled { (list : List Command) (c : Chain) (recipes : List Placed)
+        → IsSummed header.now list c (checkpoint_of c header.now commands count region (R.to_come records.old) recipes)
+        disk.old (V.cloud_at shelf.old cloud.0)
+        → OnOk result (IsOn header.now list
+        (checkpoint_of c header.now commands count region (R.to_come records.old) recipes)
+        disk.new (V.cloud_at shelf.new cloud.0)) }
+    ensures others { OthersStay (V.cloud_at shelf.old cloud.0) (V.cloud_at shelf.new cloud.0) result }
+    ensures stage { disk.new.journal.stage ≡ stage_after AtEnd result }
+    ensures gate { OnOk result (disk.new.journal.current.gate + 1 ≡ 63 + records_len (R.to_come records.old)) }
+    ensures limit { disk.new.journal.limit ≡ disk.old.journal.limit }
+    ensures logs { (disk.new.shares ≡ disk.old.shares) × (disk.new.recipes ≡ disk.old.recipes) }
+    ensures call { IsCall (V.cloud_at shelf.old) (V.cloud_at shelf.new) cloud.0
+        (V.faults shelf.old) (V.faults shelf.new) }
+    ensures failed { OnErr result (HasFailed (V.cloud_at shelf.old cloud.0) (V.cloud_at shelf.new cloud.0)
+        (V.faults shelf.old) (V.faults shelf.new)) }
+    ensures uncounted { OnOk result (KeepsCounts (V.cloud_at shelf.old cloud.0) (V.cloud_at shelf.new cloud.0)
+        (V.faults shelf.old) (V.faults shelf.new)) }
+{
+    lay_checkpoint(
+        disk.journal_mut(),
+        shelf,
+        cloud,
+        header,
+        commands,
+        count,
+        region,
+        records,
+        buffer,
+    )
+}

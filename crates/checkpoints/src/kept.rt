@@ -1,0 +1,108 @@
+//! The shares that no user owns.
+
+ghost use Rattle.std.specs.Prelude.{◌≡◌, ◌+◌, ◌++◌, ◌≤◌, [], length, map, take, MatchOption, IfSome};
+ghost use Rattle.pool_map.specs.Slots.{slot_of};
+ghost use Rattle.record_bodies.specs.Spelling.{Kept, FitsKept, body_bytes, kept_bytes};
+ghost use Rattle.checkpoints.specs.Laying.{IsNext};
+ghost use Rattle.checkpoints.specs.Picking.{IsNextPicked, batches};
+ghost use Rattle.checkpoints.specs.Records.{kept_at, kept_from};
+ghost use Rattle.cloud_memory.specs.Fitting.{AreShares};
+ghost use Rattle.checkpoints.specs.Steps.{AreKept};
+
+use cd_base::{Fp, Place};
+use record_bodies::{BodyBuf, KeptItem};
+use share_index::ShareIndex;
+
+// The share in a slot, where there is one that no user owns.
+fn kept_at(shares: &ShareIndex, slot: u32) -> Option<KeptItem>
+    requires { AreShares shares.now.places }
+    ensures kept { result ≡ kept_at shares.now.owners (slot_of shares.now.place_slots slot) }
+    ensures fits { IfSome result FitsKept }
+{
+    match shares.place_at(slot) {
+        Some((fp, place)) => {
+            if shares.is_owned(&fp) {
+                None
+            } else {
+                Some(KeptItem { fp, place })
+            }
+        }
+        None => None,
+    }
+}
+
+// The next share that no user owns from a slot on, and the slot behind it.
+fn next_kept(shares: &ShareIndex, from: u32) -> Option<(KeptItem, u32)>
+    requires { AreShares shares.now.places }
+    ensures next { IsNextPicked (kept_at shares.now.owners) shares.now.place_slots from result }
+    ensures fits { IfSome result (λ found. FitsKept found.0) }
+{
+    for slot in from..shares.place_slots() {
+        match kept_at(shares, slot) {
+            Some(item) => return Some((item, slot + 1)),
+            None => {}
+        }
+    }
+    None
+}
+
+// Takes up to 256 shares that no user owns from a slot on: how many they are, and the slot behind them.
+fn take_batch(shares: &ShareIndex, from: u32, items: &mut [KeptItem]) -> (usize, u32)
+    requires fit { AreShares shares.now.places }
+    requires room { length items.old ≡ 256 }
+    ensures batch { AreKept shares.now from (take result.0 items.new) result.1 }
+    ensures few { result.0 ≤ 256 }
+{
+    let mut at = from;
+    for count in 0..256usize {
+        match next_kept(shares, at) {
+            Some((item, behind)) => {
+                items[count] = item;
+                at = behind;
+            }
+            None => return (count, at),
+        }
+    }
+    (256, at)
+}
+
+// Appends a share.
+fn put_one(buffer: &mut BodyBuf, item: KeptItem)
+    requires { length buffer.old + 44 ≤ 65535 }
+    ensures value { buffer.new ≡ buffer.old ++ kept_bytes item }
+    ensures len { length buffer.new ≤ length buffer.old + 44 }
+{
+    buffer.put_kept(&item);
+}
+
+// Writes the Kept of these shares.
+fn write_items(buffer: &mut BodyBuf, items: &[KeptItem])
+    requires { length items.now ≤ 256 }
+    ensures { buffer.new ≡ body_bytes (Kept items.now) }
+{
+    buffer.start_kept(items.len() as u16);
+    for item in items {
+        put_one(buffer, *item);
+    }
+}
+
+// Writes the next Kept from a slot on, if there is one, and answers the slot behind its shares.
+pub(crate) fn write_kept(shares: &ShareIndex, from: u32, buffer: &mut BodyBuf) -> Option<u32>
+    requires { AreShares shares.now.places }
+    ensures { MatchOption result (kept_from shares.now from ≡ [])
+        (λ behind. IsNext (map Kept (batches (kept_from shares.now from)))
+        (map Kept (batches (kept_from shares.now behind))) buffer.new) }
+{
+    let mut items = [KeptItem {
+        fp: Fp([0; 32]),
+        place: Place { at: 0, len: 0 },
+    }; 256];
+    let (count, behind) = take_batch(shares, from, &mut items);
+    if count > 0 {
+        let (batch, _) = items.split_at(count);
+        write_items(buffer, batch);
+        Some(behind)
+    } else {
+        None
+    }
+}

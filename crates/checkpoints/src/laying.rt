@@ -1,0 +1,64 @@
+//! A checkpoint, from its first gate to its last.
+
+ghost use Rattle.std.specs.Prelude.{◌≡◌, ◌≢◌, ℕ, ◌+◌, ◌≤◌, List, length, IsTrue, OnOk, OnErr};
+ghost use Rattle.cd_edges.specs.Shelf.{IsCall, HasFailed, KeepsCounts};
+ghost use Rattle.journal_start.specs.Ranges.{IsHeader};
+ghost use Rattle.half_journal.specs.Leaving.{OthersStay};
+ghost use Rattle.half_journal.specs.declared.journal.Stage.TheVariants.{AtEnd};
+ghost use Rattle.half_journal.specs.States.{state_of};
+ghost use Rattle.half_journal.specs.Outcomes.{stage_after};
+ghost use Rattle.checkpoints.specs.Laying.{records_len, KeepsOrSettles, HasSettled};
+
+use crate::CheckpointRecords;
+use cd_base::CloudNo;
+use cd_edges::{Failed, Shelf};
+use half_journal::Journal;
+use journal_start::Header;
+use record_bodies::BodyBuf;
+
+/// Puts a checkpoint of so many records, which stands for so many commands and whose blobs lie in this region, in the place of
+/// a journal's chain: begins it in the half that isn't current, lays each record, and settles it.
+///
+/// Whenever a crash comes, the journal has its chain, or the checkpoint's; after Ok it has the checkpoint's, and records may be
+/// added behind it. Failed comes only where the cloud's count of faults rose, and then the journal is shut. It takes no memory.
+pub fn lay_checkpoint<V: Shelf, R: CheckpointRecords>(
+    journal: &mut Journal,
+    shelf: &mut V,
+    cloud: CloudNo,
+    header: &Header,
+    commands: u64,
+    count: u32,
+    region: u8,
+    records: &mut R,
+    buffer: &mut BodyBuf,
+) -> Result<(), Failed>
+    requires at_end { (state_of journal.old).stage ≡ AtEnd }
+    requires header { IsHeader header.now }
+    requires format { header.now.format ≡ 2 }
+    requires region { region ≤ 1 }
+    requires ready { R.is_ready records.old }
+    requires count { length (R.to_come records.old) ≡ count }
+    requires room { 63 + records_len (R.to_come records.old) ≤ (state_of journal.old).limit }
+
+    ensures any_moment { KeepsOrSettles (state_of journal.old) header.now commands count region (R.to_come records.old)
+        (V.cloud_at shelf.old cloud.0) (V.cloud_at shelf.new cloud.0) }
+    ensures settled { HasSettled (state_of journal.old) (state_of journal.new) header.now commands count region
+        (R.to_come records.old) (V.cloud_at shelf.old cloud.0) (V.cloud_at shelf.new cloud.0) result }
+    ensures others { OthersStay (V.cloud_at shelf.old cloud.0) (V.cloud_at shelf.new cloud.0) result }
+    ensures stage { (state_of journal.new).stage ≡ stage_after AtEnd result }
+    ensures gate { OnOk result ((state_of journal.new).current.gate + 1 ≡ 63 + records_len (R.to_come records.old)) }
+    ensures limit { (state_of journal.new).limit ≡ (state_of journal.old).limit }
+    ensures call { IsCall (V.cloud_at shelf.old) (V.cloud_at shelf.new) cloud.0
+        (V.faults shelf.old) (V.faults shelf.new) }
+    ensures failed { OnErr result (HasFailed (V.cloud_at shelf.old cloud.0) (V.cloud_at shelf.new cloud.0)
+        (V.faults shelf.old) (V.faults shelf.new)) }
+    ensures uncounted { OnOk result (KeepsCounts (V.cloud_at shelf.old cloud.0) (V.cloud_at shelf.new cloud.0)
+        (V.faults shelf.old) (V.faults shelf.new)) }
+{
+    journal.turn(shelf, cloud, header, commands, count, region)?;
+    for _i in 0..count {
+        records.write_next(buffer);
+        journal.lay(shelf, cloud, buffer.as_slice())?;
+    }
+    journal.settle(shelf, cloud)
+}

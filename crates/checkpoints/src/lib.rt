@@ -1,0 +1,23 @@
+//! A server's memory as the records of a checkpoint: what its tables have, in the order of their slots, one record after
+//! another, and a checkpoint of them in the place of the journal's chain.
+#![tactic(auto)]
+
+mod entire;
+mod entries;
+mod kept;
+pub mod laws;
+mod laying;
+mod marks;
+mod position;
+mod puts;
+mod record_list;
+mod records;
+mod whole;
+
+pub use entire::checkpoint;
+pub use laying::lay_checkpoint;
+pub use marks::Marks;
+pub use position::Position;
+pub use record_list::CheckpointRecords;
+pub use records::MemoryRecords;
+pub use whole::{Unsettled, checkpoint_of_memory};

@@ -1,0 +1,151 @@
+//! What each user owns, user by user.
+
+ghost use Rattle.std.specs.Prelude.{◌≡◌, ◌+◌, ◌++◌, ◌<◌, ◌≤◌, [], ◌∷◌, List, length, map, take};
+ghost use Rattle.cd_base.specs.declared.ids.Fp.{Fp};
+ghost use Rattle.pool_map.specs.Slots.{slot_of, IsListed};
+ghost use Rattle.message_fields.specs.Fingerprints.{IsBatch};
+ghost use Rattle.record_body.specs.Spelling.{FitsItem, item_bytes};
+ghost use Rattle.record_bodies.specs.Spelling.{Put, body_bytes};
+ghost use Rattle.cloud_areas.specs.Checkpoints.{put_body};
+ghost use Rattle.checkpoints.specs.Picking.{IsNextPicked};
+ghost use Rattle.checkpoints.specs.Records.{owned_at, listed, item_of, puts_from};
+ghost use Rattle.cloud_memory.specs.Fitting.{AreShares};
+ghost use Rattle.checkpoints.specs.Ready.{AreMarked, IsAtPuts};
+ghost use Rattle.checkpoints.specs.Steps.{AreListed, KeepsOthers, Steps};
+
+use crate::{Marks, Position};
+use cd_base::{Fp, UserId};
+use record_bodies::BodyBuf;
+use record_body::PutItem;
+use share_index::ShareIndex;
+
+// The user's fingerprint in a slot, if it has one there.
+fn owned_at(shares: &ShareIndex, user: u32, slot: u32) -> Option<Fp>
+    ensures { result ≡ owned_at user (slot_of shares.now.owner_slots slot) }
+{
+    match shares.owner_at(slot) {
+        Some((owner, fp)) => { if owner.0 == user { Some(fp) } else { None } }
+        None => None,
+    }
+}
+
+// The user's next fingerprint from a slot on, and the slot behind it. It is one step for a user that owns nothing.
+fn next_owned(shares: &ShareIndex, user: u32, from: u32) -> Option<(Fp, u32)>
+    ensures { IsNextPicked (owned_at user) shares.now.owner_slots from result }
+{
+    if shares.owned_by(UserId(user)) == 0 {
+        // each owner stands in a slot
+        let _ = shares.owner_at(0);
+        return None;
+    }
+    for slot in from..shares.owner_slots() {
+        match owned_at(shares, user, slot) {
+            Some(fp) => return Some((fp, slot + 1)),
+            None => {}
+        }
+    }
+    None
+}
+
+// The share as it is listed next: with its place, where its slot wasn't marked. It is marked then.
+fn list_share(shares: &ShareIndex, marks: &mut Marks, fp: Fp) -> PutItem
+    requires stand { IsListed shares.now.places shares.now.place_slots }
+    requires fit { AreShares shares.now.places }
+    ensures item { (fps : List Fp) → AreMarked shares.now marks.old fps → result ≡ item_of shares.now.places fps fp }
+    ensures marks { (fps : List Fp) → AreMarked shares.now marks.old fps
+        → AreMarked shares.now marks.new (fps ++ fp ∷ []) }
+    ensures fits { FitsItem result }
+{
+    let place = shares.place_of(&fp);
+    match shares.place_slot(&fp) {
+        Some(slot) => {
+            if marks.mark(slot) {
+                PutItem { fp, place: None }
+            } else {
+                PutItem { fp, place }
+            }
+        }
+        None => PutItem { fp, place },
+    }
+}
+
+// Lists up to 256 shares of the user's from a slot on: how many they are, and the slot behind them.
+fn list_batch(
+    shares: &ShareIndex,
+    marks: &mut Marks,
+    user: u32,
+    from: u32,
+    items: &mut [PutItem],
+) -> (usize, u32)
+    requires stand { IsListed shares.now.places shares.now.place_slots }
+    requires fit { AreShares shares.now.places }
+    requires marks { AreMarked shares.now marks.old (listed shares.now.owner_slots user from) }
+    requires room { length items.old ≡ 256 }
+    ensures batch { AreListed shares.now user from (take result.0 items.new) result.1 }
+    ensures marks { AreMarked shares.now marks.new (listed shares.now.owner_slots user result.1) }
+    ensures few { result.0 ≤ 256 }
+{
+    let mut at = from;
+    for count in 0..256usize {
+        match next_owned(shares, user, at) {
+            Some((fp, behind)) => {
+                items[count] = list_share(shares, marks, fp);
+                at = behind;
+            }
+            None => return (count, at),
+        }
+    }
+    (256, at)
+}
+
+// Appends a share.
+fn put_one(buffer: &mut BodyBuf, item: PutItem)
+    requires { length buffer.old + 45 ≤ 65535 }
+    ensures value { buffer.new ≡ buffer.old ++ item_bytes item }
+    ensures len { length buffer.new ≤ length buffer.old + 45 }
+{
+    buffer.put_item(&item);
+}
+
+// Writes the Put of these shares.
+fn write_items(buffer: &mut BodyBuf, user: u32, items: &[PutItem])
+    requires { length items.now ≤ 256 }
+    ensures { buffer.new ≡ body_bytes (Put (record { 0 = user }) items.now) }
+{
+    buffer.start_put(UserId(user), items.len() as u16);
+    for item in items {
+        put_one(buffer, *item);
+    }
+}
+
+// Writes the next Put, if there is one.
+pub(crate) fn write_put(
+    shares: &ShareIndex,
+    marks: &mut Marks,
+    at: &mut Position,
+    buffer: &mut BodyBuf,
+) -> bool
+    requires { IsAtPuts shares.now marks.old at.old.left at.old.user at.old.owner }
+    ensures ready { IsAtPuts shares.now marks.new at.new.left at.new.user at.new.owner }
+    ensures step { Steps (map put_body (puts_from shares.now at.old.left at.old.user at.old.owner))
+        (map put_body (puts_from shares.now at.new.left at.new.user at.new.owner)) buffer.new result }
+    ensures others { KeepsOthers at.old at.new }
+{
+    let mut items = [PutItem {
+        fp: Fp([0; 32]),
+        place: None,
+    }; 256];
+    while at.left > 0 {
+        let (count, behind) = list_batch(shares, marks, at.user, at.owner, &mut items);
+        at.owner = behind;
+        if count > 0 {
+            let (batch, _) = items.split_at(count);
+            write_items(buffer, at.user, batch);
+            return true;
+        }
+        at.left -= 1;
+        at.user += 1;
+        at.owner = 0;
+    }
+    false
+}

@@ -1,0 +1,147 @@
+//! A checkpoint of a memory in the place of the journal's chain.
+
+ghost use Rattle.std.specs.Prelude.{◌≡◌, ◌<◌, ◌≤◌, ◌+◌, ℕ, List, length, All, OnOk};
+ghost use Rattle.cd_edges.specs.Disk.{Cloud};
+ghost use Rattle.cd_edges.specs.Shelf.{IsCall, HasFailed, KeepsCounts};
+ghost use Rattle.journal_halves.specs.Halves.{half_limit};
+ghost use Rattle.journal_start.specs.Ranges.{IsHeader};
+ghost use Rattle.half_journal.specs.Leaving.{OthersStay};
+ghost use Rattle.half_journal.specs.declared.journal.Stage.TheVariants.{AtEnd};
+ghost use Rattle.user_dedup.specs.declared.command.Command.{Command};
+ghost use Rattle.cloud_areas.specs.Standing.{Chain};
+ghost use Rattle.checkpoints.specs.Laying.{records_len};
+ghost use Rattle.checkpoints.specs.Settling.{KeepsList, KeepsOthers};
+ghost use Rattle.checkpoints.specs.Records.{coming, records_of};
+ghost use Rattle.cloud_memory.specs.Rooms.{memory_of};
+ghost use Rattle.cloud_memory.specs.Fitting.{FitsRecords};
+ghost use Rattle.checkpoints.specs.Ready.{IsReady};
+ghost use Rattle.checkpoints.specs.Known.{IsKnown, HasCheckpoint, CountsWithin, stage_behind};
+ghost use Rattle.checkpoints.specs.Known.{IfFailed, UnlessFailed, IfLong, UnlessLong};
+ghost use Rattle.record_bodies.specs.Spelling.{Body, FitsBody, body_bytes};
+
+use crate::{Marks, MemoryRecords, checkpoint};
+use cd_base::CloudNo;
+use cd_edges::Shelf;
+use cloud_areas::laws::{law_of_checkpoints, law_of_places};
+use cloud_disk::CloudDisk;
+use cloud_memory::CloudMemory;
+use journal_start::Header;
+use record_bodies::BodyBuf;
+
+/// Why there is no checkpoint.
+#[derive(Clone, Copy, Debug, PartialEq, Eq)]
+pub enum Unsettled {
+    /// The records are longer than a half of the journal may be. Nothing was done.
+    Long,
+    /// A device failed. The journal is shut.
+    Failed,
+}
+
+// How many records are still to come, where they fit so many bytes behind a start's 63. It writes each into the buffer.
+fn count_within(records: &mut MemoryRecords<'_>, limit: u64, buffer: &mut BodyBuf) -> Option<u32>
+    requires ready { IsReady records.old.shares.now records.old.files.now records.old.spent.now
+        records.old.marks.now records.old.at }
+    requires few { limit < 4294967296 }
+    ensures count { CountsWithin (coming records.old.shares.now records.old.files.now records.old.spent.now
+        records.old.at) limit result }
+    ensures fit { All FitsBody (coming records.old.shares.now records.old.files.now records.old.spent.now
+        records.old.at) }
+{
+    let mut len: u64 = 63;
+    let mut count: u32 = 0;
+    'each: while records.write_one(buffer) {
+        len = len.saturating_add(buffer.len() as u64 + 5);
+        count = count.saturating_add(1);
+    }
+    if len <= limit { Some(count) } else { None }
+}
+
+/// Puts a checkpoint of a memory, which stands for so many commands and whose blobs lie in this region, in the place of the
+/// chain of a cloud's journal. Where the memory is that of the list that the disk stands for, and is placed by the chain, the
+/// cloud stands for the list whenever a crash comes; after Ok the disk stands for it by the checkpoint's chain, and the memory
+/// is placed by its records.
+///
+/// Behind the records there is room for one more, whichever it is. `Long` comes exactly where the records are longer than a
+/// half may be, which those of a list within its rooms never are, and then nothing has changed. `Failed` comes only where the
+/// cloud's count of faults rose, and then the journal is shut. The memory and the logs are as they were, and no area but the
+/// journal is written. It takes no memory.
+pub fn checkpoint_of_memory<V: Shelf>(
+    memory: &CloudMemory,
+    disk: &mut CloudDisk,
+    shelf: &mut V,
+    cloud: CloudNo,
+    header: &Header,
+    commands: u64,
+    region: u8,
+    marks: &mut Marks,
+    buffer: &mut BodyBuf,
+) -> Result<(), Unsettled>
+    requires at_end { disk.old.journal.stage ≡ AtEnd }
+    requires limit { disk.old.journal.limit ≡ half_limit header.now.rooms }
+    requires header { IsHeader header.now }
+    requires format { header.now.format ≡ 2 }
+    requires region { region ≤ 1 }
+    requires fit { FitsRecords (memory_of memory.now) }
+    requires users { length memory.now.spent ≤ 256 }
+    requires slots { length memory.now.shares.place_slots ≤ 524288 }
+
+    ensures any_moment { (list : List Command) (c : Chain)
+        → IsKnown header.now list c commands region memory.now disk.old (V.cloud_at shelf.old cloud.0)
+        → KeepsList header.now list (V.cloud_at shelf.old cloud.0) (V.cloud_at shelf.new cloud.0) }
+    ensures only_journal { (list : List Command) (c : Chain)
+        → IsKnown header.now list c commands region memory.now disk.old (V.cloud_at shelf.old cloud.0)
+        → KeepsOthers (V.cloud_at shelf.old cloud.0) (V.cloud_at shelf.new cloud.0) }
+    ensures settled { (list : List Command) (c : Chain)
+        → IsKnown header.now list c commands region memory.now disk.old (V.cloud_at shelf.old cloud.0)
+        → OnOk result (HasCheckpoint header.now list c commands region memory.now
+        disk.new (V.cloud_at shelf.new cloud.0)) }
+    ensures short { (list : List Command) (c : Chain)
+        → IsKnown header.now list c commands region memory.now disk.old (V.cloud_at shelf.old cloud.0)
+        → 63 + records_len (records_of memory.now) ≤ disk.old.journal.limit }
+    ensures roomy { (list : List Command) (c : Chain) (body : Body)
+        → IsKnown header.now list c commands region memory.now disk.old (V.cloud_at shelf.old cloud.0)
+        → FitsBody body
+        → 63 + records_len (records_of memory.now) + (length (body_bytes body) + 5) ≤ disk.old.journal.limit }
+    ensures long { IfLong result (disk.old.journal.limit < 63 + records_len (records_of memory.now)) }
+    ensures fits { UnlessLong result (63 + records_len (records_of memory.now) ≤ disk.old.journal.limit) }
+    ensures same { IfLong result ((disk.new ≡ disk.old) × (shelf.new ≡ shelf.old)) }
+    ensures others { OthersStay (V.cloud_at shelf.old cloud.0) (V.cloud_at shelf.new cloud.0) result }
+    ensures stage { disk.new.journal.stage ≡ stage_behind result }
+    ensures gate { OnOk result (disk.new.journal.current.gate + 1 ≡ 63 + records_len (records_of memory.now)) }
+    ensures limit { disk.new.journal.limit ≡ disk.old.journal.limit }
+    ensures logs { (disk.new.shares ≡ disk.old.shares) × (disk.new.recipes ≡ disk.old.recipes) }
+    ensures call { IsCall (V.cloud_at shelf.old) (V.cloud_at shelf.new) cloud.0
+        (V.faults shelf.old) (V.faults shelf.new) }
+    ensures failed { IfFailed result (HasFailed (V.cloud_at shelf.old cloud.0) (V.cloud_at shelf.new cloud.0)
+        (V.faults shelf.old) (V.faults shelf.new)) }
+    ensures uncounted { UnlessFailed result (KeepsCounts (V.cloud_at shelf.old cloud.0) (V.cloud_at shelf.new cloud.0)
+        (V.faults shelf.old) (V.faults shelf.new)) }
+{
+    let limit = disk.journal().limit();
+    law_of_checkpoints();
+    law_of_places();
+    let _ = memory.shares().place_at(0);
+    let _ = memory.shares().owner_at(0);
+    let _ = memory.files().entry_at(0);
+    let mut records = MemoryRecords::of(memory, marks);
+    let count = match count_within(&mut records, limit, buffer) {
+        Some(count) => count,
+        None => return Err(Unsettled::Long),
+    };
+    let mut records = MemoryRecords::of(memory, marks);
+    let laid = checkpoint(
+        disk,
+        shelf,
+        cloud,
+        header,
+        commands,
+        count,
+        region,
+        &mut records,
+        buffer,
+    );
+    match laid {
+        Ok(()) => Ok(()),
+        Err(_) => Err(Unsettled::Failed),
+    }
+}

@@ -1,5 +1,0 @@
-//! Openings of clouds in memory.
-#![tactic(auto)]
-
-#[cfg(test)]
-mod tests;

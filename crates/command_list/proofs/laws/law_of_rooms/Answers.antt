@@ -1,6 +1,0 @@
-use Rattle.command_list.proofs.Spending.{none_within, front_within, each_within}
-use Rattle.command_list.proofs.Within.{next_within}
-use Rattle.command_list.proofs.laws.law_of_rooms.Goals as goal
-
-pub returns : goal.returns
-returns c = record { none = none_within; front = front_within; each = each_within; next = next_within }

@@ -1,4 +1,0 @@
-pub mod Commands
-pub mod Asking
-pub mod Spending
-pub mod Compact

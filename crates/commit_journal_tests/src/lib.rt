@@ -1,5 +1,0 @@
-//! The journal over clouds in memory.
-#![tactic(auto)]
-
-#[cfg(test)]
-mod tests;

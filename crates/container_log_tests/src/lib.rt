@@ -1,5 +1,0 @@
-//! The log over clouds in memory.
-#![tactic(auto)]
-
-#[cfg(test)]
-mod tests;

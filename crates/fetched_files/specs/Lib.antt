@@ -1,3 +1,0 @@
-pub mod Talks
-pub mod Fetched
-pub mod Stopped

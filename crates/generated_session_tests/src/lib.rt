@@ -1,5 +1,0 @@
-//! Generated sessions over clouds in memory.
-#![tactic(auto)]
-
-#[cfg(test)]
-mod small;

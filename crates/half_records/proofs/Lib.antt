@@ -1,3 +1,0 @@
-pub mod Halving
-pub mod Adding
-pub mod Reading

@@ -1,4 +1,0 @@
-pub mod Opening
-pub mod Chains
-pub mod Clouds
-pub mod Texts

@@ -1,4 +1,0 @@
-pub mod Dialled
-pub mod Greetings
-pub mod Hellos
-pub mod Refusals

@@ -1,5 +1,0 @@
-use Rattle.lane_requests.proofs.Alone.{any_sent}
-use Rattle.lane_requests.proofs.law_of_any_requests.Goals as goal
-
-pub returns : goal.returns
-returns c shape lanes i request way e = let sent = any_sent shape lanes i request way e in (sent.read, sent.some, sent.framed, sent.fits)

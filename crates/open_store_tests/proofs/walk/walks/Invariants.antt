@@ -1,5 +1,0 @@
-use Rattle.open_store.specs.Store.{IsSettled}
-use Rattle.open_store_tests.proofs.walk.walks.Given as goal
-
-abbrev pub invariant-loop-part : goal.invariant-loop-part
-invariant-loop-part l = IsSettled l.ground.store

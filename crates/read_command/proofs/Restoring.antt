@@ -1,0 +1,383 @@
+-- What a restore from opened clouds comes to.
+use Rattle.std.proofs.Common.{◌≡◌, ℕ, ◌<◌, ◌⊎◌, Bool, true, false, cond, nat_eq, List, [], ◌∷◌, ◌++◌, refl, sym, ap, ◌∙◌, subst, inl, inr}
+use Rattle.std.specs.Prelude.{IsTrue, Some, None, Result, Ok, Err, IfErr, All}
+use Rattle.std.specs.List.{Contains}
+use Rattle.std.proofs.lemmas.Bool.{cases_eq, eq-eqb, ne_eqb}
+use Rattle.cd_base.specs.declared.ids.CloudNo.{CloudNo}
+use Rattle.cd_base.specs.declared.ids.Tag.{Tag}
+use Rattle.cd_base.specs.declared.ids.UserId.{UserId}
+use Rattle.cd_base.specs.declared.ids.Version.{Version}
+use Rattle.cd_base.specs.declared.shape.Shape.{Shape}
+use Rattle.cd_edges.specs.Causes.{Rose}
+use Rattle.cd_edges.specs.Disk.{Cloud, IsImage, reads}
+use Rattle.cd_edges.proofs.Moments.{joined, weaker}
+use Rattle.caont_rs.specs.declared.opening.RecoverErr.TheVariants as opening
+use Rattle.user_dedup.specs.declared.command.Command.{Command}
+use Rattle.user_dedup.specs.Exec.{Peer, MaySettleAs}
+use Rattle.user_dedup.specs.Link.{Exchange, Passes, ReadsFrom, Talk}
+use Rattle.user_dedup.proofs.Owned.{contains_here, contains_later, contains_cases, contains_nothing}
+use Rattle.cloud_store.specs.Standing.{StandsForSome, ImagesSince}
+use Rattle.cloud_store.specs.Store.{StandsFor}
+use Rattle.share_server.specs.Serving.{settled_with}
+use Rattle.local_link.specs.declared.fate.Fate.TheVariants.{Deliver}
+use Rattle.local_link.specs.declared.link.LocalLink.{LocalLink}
+use Rattle.local_link.specs.Calls.{header_of}
+use Rattle.local_link.specs.Tells.{is_delivered, telling}
+use Rattle.local_link.proofs.Passing.{read_images, read_others}
+use Rattle.restore_job.specs.Asking.{PeersOf, OnlyRead, MayRead, Asked, is_lost, TellsAll}
+use Rattle.restore_job.specs.Brought.{Brought}
+use Rattle.restore_job.specs.Reading.{Ends}
+use Rattle.restore_job.specs.Refusals.{Names, Caused}
+use Rattle.restore_job.specs.Restored
+use Rattle.restore_job.specs.Restored.{Unrestored}
+use Rattle.restore_job.specs.declared.error.RestoreErr.{RestoreErr}
+use Rattle.restore_job.specs.declared.error.RestoreErr.TheVariants as errors
+use Rattle.transcript.specs.declared.refusal.Refusal.{Refusal}
+use Rattle.transcript.specs.declared.refusal.Refusal.TheVariants as refusals
+use Rattle.read_command.specs.Disks.{AreReadable, KeepsDisks}
+use Rattle.read_command.specs.Opening.{AreOpened}
+use Rattle.subset_restore.specs.Refusals.{refusal_of, refusal_text}
+use Rattle.subset_restore.specs.Ends.{Sought, AnyEnds, GivesNone, NoneCame, WasLost, any_outcome, outcome_of}
+use Rattle.subset_restore.specs.Ends.{IsNone as AnyNone}
+use Rattle.subset_restore.specs.Subsets.{subsets}
+use Rattle.subset_restore.specs.Tries.{Try}
+use Rattle.subset_restore.proofs.Calling.{among_chosen, none_by, none_lost}
+use Rattle.subset_restore.proofs.Choices.{subset_among}
+use Rattle.subset_restore.proofs.Elements.{all_of, contains_back, contains_front, of_all}
+use Rattle.subset_restore.proofs.Going.{any_at, any_none}
+use Rattle.read_command.specs.Ends.{Outside, HaveLists, RoseBy, Due, due_of, IsNone, HoldsFailed, IsFileDue, IsRefusalDue}
+use Rattle.read_command.specs.Ends.{IsFaultLine, IsLineOf, CameTo, CameDue}
+use Rattle.read_command.proofs.Row.{of_one}
+
+-- ---- which clouds are named, as a test
+
+abbrev among : List ℕ → ℕ → Bool
+among [] cloud = false
+among (x ∷ xs) cloud = cond (nat_eq x cloud) true (among xs cloud)
+
+has_among : (xs : List ℕ) (cloud : ℕ) → IsTrue (among xs cloud) → Contains xs cloud
+has_among [] cloud is = absurd (let never : false ≡ true = is in cc)
+has_among (x ∷ xs) cloud is = elim (cases_eq x cloud) [
+  | inl e ↦ subst (λ (c : ℕ). Contains (x ∷ xs) c) e (contains_here x xs)
+  | inr ne ↦ contains_later x xs cloud (has_among xs cloud (sym (ap (λ (b : Bool). cond b true (among xs cloud)) (ne_eqb x cloud ne)) ∙ is))
+]
+
+among_has : (xs : List ℕ) (cloud : ℕ) → Contains xs cloud → IsTrue (among xs cloud)
+among_has [] cloud has = absurd (contains_nothing cloud has)
+among_has (x ∷ xs) cloud has = elim (contains_cases x xs cloud has) [
+  | inl e ↦ ap (λ (b : Bool). cond b true (among xs cloud)) (eq-eqb x cloud e)
+  | inr more ↦ by_test (nat_eq x cloud) (among_has xs cloud more)
+]
+  where
+    by_test : (b : Bool) → among xs cloud ≡ true → cond b true (among xs cloud) ≡ true
+    by_test true e = refl
+    by_test false e = e
+
+-- ---- what is due
+
+-- a settled cloud that may have been read has its list
+same_list : (list : List Command) (cloud : Cloud) (after : Peer) → MayRead (settled_with list cloud) after → after.list ≡ list
+same_list list cloud after (inl stays, counts) = stays.list
+same_list list cloud after (inr settles, counts) = by_list settles.list
+  where
+    by_list : MaySettleAs (settled_with list cloud) after.list → after.list ≡ list
+    by_list (inl e) = e
+    by_list (inr x) = absurd x
+
+only_list : (list : List Command) (cloud : Cloud) (other : List Command) → MaySettleAs (settled_with list cloud) other → other ≡ list
+only_list list cloud other (inl e) = e
+only_list list cloud other (inr x) = absurd x
+
+-- the line of a refusal over told clouds is that of what they give, or of a failed device
+line_due : (c : Outside) (clouds : List ℕ) (given : Result (List ℕ) Unrestored) (e : RestoreErr) (was left : List ℕ)
+    (before after : ℕ → Peer)
+    → (let came : Result (Unit {0}) RestoreErr = Err e in Ends given clouds came was left before after)
+    → (let came : Result (Unit {0}) RestoreErr = Err e in is_lost came ≡ false) → RoseBy c e
+    → (why : Refusal) → refusal_of e ≡ Some why
+    → IsLineOf given (refusal_text why) ⊎ IsFaultLine c clouds (refusal_text why)
+line_due c clouds given (errors.Missing cloud) was left before after ends found rose why is =
+    inl (Restored.Missing cloud.0, why, ends, is, refl)
+line_due c clouds given (errors.RecipesDiffer a b place) was left before after ends found rose why is =
+    inl (Restored.RecipesDiffer a.0 b.0 place, why, ends, is, refl)
+line_due c clouds given (errors.ShareLength cloud secret wrong wanted) was left before after ends found rose why is =
+    inl (Restored.ShareLength cloud.0 secret wrong wanted, why, ends, is, refl)
+line_due c clouds given (errors.BadSecret secret name wrong) was left before after ends found rose why is =
+    inl (Restored.NotOpened secret (opening.BadSecret name wrong), why, ends, is, refl)
+line_due c clouds given (errors.BadPad secret at byte) was left before after ends found rose why is =
+    inl (Restored.NotOpened secret (opening.BadPad at byte), why, ends, is, refl)
+line_due c clouds given (errors.CloudFault cloud) was left before after ends found rose why is =
+    let same : Some (refusals.Fault cloud) ≡ Some why = is in
+    let text : refusals.Fault cloud ≡ why = cc in
+    inr (cloud.0, ends.0, ap refusal_text (sym text), rose)
+line_due c clouds given (errors.Lost cloud) was left before after ends found rose why is =
+    absurd (let never : true ≡ false = found in cc)
+line_due c clouds given errors.NoMemory was left before after ends found rose why is =
+    absurd (let never : None ≡ Some why = is in cc)
+line_due c clouds given (errors.CloudDamaged cloud at byte) was left before after ends found rose why is = absurd ends
+line_due c clouds given (errors.CloudRotten cloud name wrong) was left before after ends found rose why is = absurd ends
+line_due c clouds given (errors.CloudNoMemory cloud) was left before after ends found rose why is = absurd ends
+line_due c clouds given (errors.Strange cloud kind) was left before after ends found rose why is = absurd ends
+line_due c clouds given (errors.BadShare cloud secret name wrong) was left before after ends found rose why is =
+    absurd ends
+
+-- counts of peers that are those of the clouds
+record Counts (c : Outside) (named : List ℕ) (before after : ℕ → Peer) : Type 0 where
+  olds : (cloud : ℕ) → Contains named cloud → (before cloud).faults ≡ (c.old cloud).faults
+  news : (cloud : ℕ) → Contains named cloud → (after cloud).faults ≡ (c.new cloud).faults
+
+rises_too : (c : Outside) (named : List ℕ) (before after : ℕ → Peer) → Counts c named before after → (cloud : ℕ)
+    → Contains named cloud → Rose (before cloud).faults (after cloud).faults
+    → Rose (c.old cloud).faults (c.new cloud).faults
+rises_too c named before after counts cloud has rose =
+    subst (λ (n : ℕ). Rose n (c.new cloud).faults) (counts.olds cloud has)
+    (subst (λ (n : ℕ). Rose (before cloud).faults n) (counts.news cloud has) rose)
+
+-- over told clouds of which no ask was lost
+module _ (c : Outside) (s : Sought) (tries : List Try) (before after : ℕ → Peer)
+    (counts : Counts c s.clouds before after) (unlost : (cloud : ℕ) → WasLost tries cloud → ⊥) where
+  abbrev lists : ℕ → List Command
+  lists cloud = (after cloud).list
+
+  abbrev due : Due
+  due = due_of s.shape s.user (s.tag, s.version) s.clouds lists
+
+  abbrev Among : List ℕ → Type 0
+  Among subset = (cloud : ℕ) → Contains subset cloud → Contains s.clouds cloud
+
+  none_of : (subset : List ℕ) → Among subset → AnyNone s tries before after subset → IsNone c due subset
+  none_of subset among (inl gives) = inl gives
+  none_of subset among (inr (cloud, has, inl rose)) =
+      inr (cloud, has, rises_too c s.clouds before after counts cloud (among cloud has) rose)
+  none_of subset among (inr (cloud, has, inr lost)) = absurd (unlost cloud lost)
+
+  gives_none : (HoldsFailed c s.clouds → ⊥) → (subset : List ℕ) → Among subset → IsNone c due subset
+      → GivesNone s after subset
+  gives_none free subset among (inl gives) = gives
+  gives_none free subset among (inr (cloud, has, rose)) = absurd (free (cloud, among cloud has, rose))
+
+  -- the choices in front of one
+  front_among : (front rest : List (List ℕ)) (chosen : List ℕ) → subsets s.shape.k s.clouds ≡ front ++ chosen ∷ rest
+      → (x : List ℕ) → Contains front x → Among x
+  front_among front rest chosen split x has =
+      subset_among s.shape.k s.clouds x (subst (λ (l : List (List ℕ)). Contains l x) (sym split)
+      (contains_front front (chosen ∷ rest) x has))
+
+  file_due : (front rest : List (List ℕ)) (chosen : List ℕ) (file : List ℕ)
+      → subsets s.shape.k s.clouds ≡ front ++ chosen ∷ rest → outcome_of s after chosen ≡ Ok file
+      → All (AnyNone s tries before after) front → IsFileDue c s.clouds due file
+  file_due front rest chosen file split given none =
+      let each : (x : List ℕ) → Contains front x → IsNone c due x = λ x has.
+      none_of x (front_among front rest chosen split x has) (of_all (AnyNone s tries before after) front x none has) in
+      record {
+        front = front;
+        chosen = chosen;
+        rest = rest;
+        in_order = split;
+        given = given;
+        before = all_of (IsNone c due) front each;
+        exact = λ free. any_at s after front chosen rest file split
+            (λ x has. gives_none free x (front_among front rest chosen split x has) (each x has)) given;
+      }
+
+  refusal_due : (first : List ℕ) (rest : List (List ℕ)) (e : RestoreErr) (was left : List ℕ)
+      → subsets s.shape.k s.clouds ≡ first ∷ rest
+      → (let came : Result (Unit {0}) RestoreErr = Err e in Ends (outcome_of s after first) first came was left before after)
+      → All (AnyNone s tries before after) (subsets s.shape.k s.clouds)
+      → (let came : Result (Unit {0}) RestoreErr = Err e in is_lost came ≡ false) → RoseBy c e
+      → (why : Refusal) → refusal_of e ≡ Some why → IsRefusalDue c s.clouds due (refusal_text why)
+  refusal_due first rest e was left split ends none found rose why is =
+      let all = subsets s.shape.k s.clouds in
+      let each : (x : List ℕ) → Contains all x → IsNone c due x = λ x has.
+      none_of x (subset_among s.shape.k s.clouds x has) (of_all (AnyNone s tries before after) all x none has) in
+      let line = line_due c first (outcome_of s after first) e was left before after ends found rose why is in
+      record {
+        first = first;
+        rest = rest;
+        in_order = split;
+        none = all_of (IsNone c due) all each;
+        line = line;
+        exact = λ free. of_first free line
+            (any_none s after first rest split
+            (λ x has. gives_none free x (subset_among s.shape.k s.clouds x has) (each x has)));
+      }
+    where
+      of_first : (HoldsFailed c s.clouds → ⊥) → IsLineOf (outcome_of s after first) (refusal_text why)
+          ⊎ IsFaultLine c first (refusal_text why) → any_outcome s after ≡ outcome_of s after first
+          → IsLineOf (any_outcome s after) (refusal_text why)
+      of_first free (inl line) same = (line.0, line.1, same ∙ line.2, line.3, line.4)
+      of_first free (inr fault) same =
+          absurd (free (fault.0, among_chosen s.shape.k s.clouds first [] rest split fault.0 fault.1, fault.3))
+
+-- a device that failed is one whose cloud's count rose
+rose_by : (c : Outside) (named : List ℕ) (e : RestoreErr) (before after : ℕ → Peer) → Names (Contains named) e
+    → ((cloud : ℕ) → Contains named cloud → (before cloud).faults ≡ (c.old cloud).faults)
+    → ((cloud : ℕ) → Contains named cloud → (after cloud).faults ≡ (c.new cloud).faults)
+    → ((cloud : CloudNo) → e ≡ errors.CloudFault cloud → Rose (before cloud.0).faults (after cloud.0).faults) → RoseBy c e
+rose_by c named (errors.CloudFault cloud) before after names olds news caused =
+    subst (λ (n : ℕ). Rose n (c.new cloud.0).faults) (olds cloud.0 names)
+    (subst (λ (n : ℕ). Rose (before cloud.0).faults n) (news cloud.0 names) (caused cloud refl))
+rose_by c named (errors.Missing cloud) before after names olds news caused = tt
+rose_by c named (errors.RecipesDiffer a b place) before after names olds news caused = tt
+rose_by c named (errors.ShareLength cloud secret wrong wanted) before after names olds news caused = tt
+rose_by c named (errors.BadSecret secret name wrong) before after names olds news caused = tt
+rose_by c named (errors.BadPad secret at byte) before after names olds news caused = tt
+rose_by c named (errors.Lost cloud) before after names olds news caused = tt
+rose_by c named errors.NoMemory before after names olds news caused = tt
+rose_by c named (errors.CloudDamaged cloud at byte) before after names olds news caused = tt
+rose_by c named (errors.CloudRotten cloud name wrong) before after names olds news caused = tt
+rose_by c named (errors.CloudNoMemory cloud) before after names olds news caused = tt
+rose_by c named (errors.Strange cloud kind) before after names olds news caused = tt
+rose_by c named (errors.BadShare cloud secret name wrong) before after names olds news caused = tt
+
+module _ {V : Type 0} (clouds : V → ℕ → Cloud) (named : List ℕ) (shape : Shape) (total_before between total_after : ℕ) (old mid new : LocalLink V)
+    (same : old.servers.shape ≡ shape) (opened : AreOpened clouds total_before between old mid named) where
+  abbrev pub around : Outside
+  around = record { total_before = total_before; total_after = total_after; old = clouds old.shelf.now; new = clouds new.shelf.now }
+
+  shape_mid : mid.servers.shape ≡ shape
+  shape_mid = opened.shape ∙ same
+
+  lists_old : (lists : ℕ → List Command) → HaveLists around shape named lists → (cloud : ℕ) → Contains named cloud → IsTrue (clouds old.shelf.now cloud).told
+      → StandsFor (reads (clouds old.shelf.now cloud).now) (header_of old.servers.shape cloud) (lists cloud)
+  lists_old lists have cloud has told = subst (λ (s : Shape). StandsFor (reads (clouds old.shelf.now cloud).now) (header_of s cloud) (lists cloud)) (sym same) (have cloud has told)
+
+  told_back : (cloud : ℕ) → IsTrue (clouds mid.shelf.now cloud).told → IsTrue (clouds old.shelf.now cloud).told
+  told_back cloud told = subst (λ (b : Bool). IsTrue b) (opened.told cloud) told
+
+  told_on : (cloud : ℕ) → IsTrue (clouds old.shelf.now cloud).told → IsTrue (clouds mid.shelf.now cloud).told
+  told_on cloud told = subst (λ (b : Bool). IsTrue b) (sym (opened.told cloud)) told
+
+  abbrev peers : (ℕ → List Command) → ℕ → Peer
+  peers lists cloud = settled_with (lists cloud) (clouds mid.shelf.now cloud)
+
+  stand : (lists : ℕ → List Command) → HaveLists around shape named lists → PeersOf (telling clouds) mid (among named) (peers lists)
+  stand lists have cloud is =
+      let has = has_among named cloud is in record {
+        faults = refl;
+        armings = refl;
+        serving = λ told. ((opened.each cloud has).loaded (told_back cloud told) (lists cloud) (lists_old lists have cloud has (told_back cloud told))).serving told;
+        sound = λ told. ((opened.each cloud has).loaded (told_back cloud told) (lists cloud) (lists_old lists have cloud has (told_back cloud told))).sound told;
+      }
+
+  module _ (user : UserId) (tag : Tag) (version : Version) (talk : LocalLink V → ℕ → Talk → Type 0)
+      (result : Result (Unit {0}) RestoreErr) (was file : List ℕ) (none : was ≡ []) (fate : old.fate ≡ Deliver)
+      (asked : Asked (telling clouds) named mid new (is_lost result)) where
+    abbrev pub wanted : Sought
+    wanted = record { shape = shape; user = user; tag = tag; version = version; clouds = named }
+
+    lossless : IsTrue ((telling clouds).lossless mid)
+    lossless = ap is_delivered (opened.fate ∙ fate)
+
+    found : is_lost result ≡ false
+    found = (asked.lossless lossless).0
+
+    module _ (names : IfErr result (Names (Contains named)))
+        (restored : AnyEnds (telling clouds) talk wanted mid new was file result) where
+      counts_of : (lists : ℕ → List Command) (after : ℕ → Peer) → PeersOf (telling clouds) new (among named) after
+          → Counts around named (peers lists) after
+      counts_of lists after stand_now = record {
+        olds = λ cloud has. (opened.each cloud has).faults;
+        news = λ cloud has. (stand_now cloud (among_has named cloud has)).faults;
+      }
+
+      rose_in : (e : RestoreErr) → Names (Contains named) e → NoneCame (telling clouds) talk wanted mid new was e
+          → (lists : ℕ → List Command) → HaveLists around shape named lists → RoseBy around e
+      rose_in e n came lists have =
+          let went = came.leads (among named) (λ cloud has. among_has named cloud has) (peers lists) (stand lists have) in
+          let y : Try = record { subset = came.first; refusal = e } in
+          let here : Contains came.tries y = subst (λ (l : List Try). Contains l y) (sym came.tries_are)
+          (contains_here y came.more) in
+          let caused = of_all (λ (x : Try). Caused (telling clouds) mid shape user (tag, version) x.refusal (peers lists) went.0)
+          came.tries y went.3 here in
+          let counts = counts_of lists went.0 went.1 in
+          rose_by around named e (peers lists) went.0 n counts.olds counts.news
+          (λ cloud is. subst (λ (x : RestoreErr). Caused (telling clouds) mid shape user (tag, version) x (peers lists) went.0)
+          is caused)
+
+      pub came_to : CameTo around shape named result file
+      came_to = by_result result names restored found
+        where
+          by_result : (r : Result (Unit {0}) RestoreErr) → IfErr r (Names (Contains named))
+              → AnyEnds (telling clouds) talk wanted mid new was file r → is_lost r ≡ false
+              → CameTo around shape named r file
+          by_result (Ok u) n came f = (
+            came.subset,
+            subst (λ (l : List (List ℕ)). Contains l came.subset) (sym came.split)
+                (contains_back came.front (came.subset ∷ came.rest) came.subset (contains_here came.subset came.rest)),
+            subst (λ (l : List ℕ). Brought shape came.subset l file) none came.brought,
+          )
+          by_result (Err e) n came f = record {
+            names = n;
+            rose = none_by (telling clouds) talk wanted was mid new
+                (λ x. Names (Contains named) x → (lists : ℕ → List Command) → HaveLists around shape named lists
+                → RoseBy around x) (λ names lists have. tt) (λ x is names. rose_in x names is) e came n;
+            found = f;
+          }
+
+      pub is_due : (lists : ℕ → List Command) → AreReadable shape named (clouds old.shelf.now) lists
+          → CameDue around named (due_of shape user (tag, version) named lists) result file
+      is_due lists are = by_result result names restored found
+        where
+          have : HaveLists around shape named lists
+          have cloud has told = (are cloud has).stands
+
+          told : TellsAll (telling clouds) mid named
+          told cloud has = told_on cloud (are cloud has).told
+
+          same_lists : (after : ℕ → Peer) → OnlyRead named (peers lists) after → (λ cloud. (after cloud).list) ≡ lists
+          same_lists after read = λ i cloud. same_list (lists cloud) (clouds mid.shelf.now cloud) (after cloud) (read.read cloud) i
+
+          by_error : (e : RestoreErr) → NoneCame (telling clouds) talk wanted mid new was e → Names (Contains named) e
+              → (let r : Result (Unit {0}) RestoreErr = Err e in is_lost r ≡ false)
+              → (let r : Result (Unit {0}) RestoreErr = Err e in
+              CameDue around named (due_of shape user (tag, version) named lists) r file)
+          by_error e came n f why is =
+              let went = came.leads (among named) (λ cloud has. among_has named cloud has) (peers lists) (stand lists have) in
+              let counts = counts_of lists went.0 went.1 in
+              let unlost = none_lost (telling clouds) talk wanted was mid new came.tries came.refused lossless in
+              let known = went.4 told in
+              subst (λ (g : ℕ → List Command). IsRefusalDue around named (due_of shape user (tag, version) named g)
+              (refusal_text why)) (same_lists went.0 went.2)
+              (refusal_due around wanted came.tries (peers lists) went.0 counts unlost came.first came.rest e was was
+              came.first_is known.ends known.none f (rose_in e n came lists have) why is)
+
+          by_result : (r : Result (Unit {0}) RestoreErr) → IfErr r (Names (Contains named))
+              → AnyEnds (telling clouds) talk wanted mid new was file r → is_lost r ≡ false
+              → CameDue around named (due_of shape user (tag, version) named lists) r file
+          by_result (Ok u) n came f =
+              let went = came.leads (among named) (λ cloud has. among_has named cloud has) (peers lists) (stand lists have) in
+              let counts = counts_of lists went.0 went.1 in
+              let unlost = none_lost (telling clouds) talk wanted was mid came.mid came.tries came.refused lossless in
+              let known = went.4 told in
+              let ends = subst (λ (l : List ℕ). (bytes : List ℕ) × (file ≡ l ++ bytes)
+              × (outcome_of wanted went.0 came.subset ≡ Ok bytes)) none known.ends in
+              subst (λ (g : ℕ → List Command). IsFileDue around named (due_of shape user (tag, version) named g) file)
+              (same_lists went.0 went.2)
+              (file_due around wanted came.tries (peers lists) went.0 counts unlost came.front came.rest came.subset file
+              came.split (ends.2 ∙ ap Ok (sym ends.1)) known.front_none)
+          by_result (Err e) n came f =
+              none_by (telling clouds) talk wanted was mid new
+              (λ x. Names (Contains named) x → (let r : Result (Unit {0}) RestoreErr = Err x in is_lost r ≡ false)
+              → (let r : Result (Unit {0}) RestoreErr = Err x in
+              CameDue around named (due_of shape user (tag, version) named lists) r file))
+              (λ names unlost why is. absurd (let never : None ≡ Some why = is in cc))
+              (λ x is names unlost. by_error x is names unlost) e came n f
+
+  -- the images of all, and the clouds that weren't named
+  pub kept_on : (asks : List Exchange) → Passes (telling clouds) (ReadsFrom named) mid asks new → All (λ cloud. cloud < shape.n) named
+      → ((cloud : ℕ) → IsTrue (clouds old.shelf.now cloud).told → IsImage (clouds old.shelf.now cloud).now (reads (clouds old.shelf.now cloud).now))
+      → KeepsDisks old.servers.shape named (clouds old.shelf.now) (clouds mid.shelf.now) → KeepsDisks shape named (clouds old.shelf.now) (clouds new.shelf.now)
+  kept_on asks passed within reads_image kept = subst (λ (s : Shape). KeepsDisks s named (clouds old.shelf.now) (clouds new.shelf.now)) same (record {
+    chosen = λ cloud lists has told images.
+        let header = header_of old.servers.shape cloud in
+        let read = images (reads (clouds old.shelf.now cloud).now) (reads_image cloud told) in
+        let stands = (opened.each cloud has).loaded told read.0 read.2 in
+        joined (clouds old.shelf.now cloud) (clouds mid.shelf.now cloud) (clouds new.shelf.now cloud) (StandsForSome header (Contains lists))
+        (kept.chosen cloud lists has told images)
+        (weaker (clouds mid.shelf.now cloud) (clouds new.shelf.now cloud) (StandsForSome header (MaySettleAs (settled_with read.0 (clouds mid.shelf.now cloud)))) (StandsForSome header (Contains lists))
+        (subst (λ (s : Shape). ImagesSince (clouds mid.shelf.now cloud) (clouds new.shelf.now cloud) (header_of s cloud) (MaySettleAs (settled_with read.0 (clouds mid.shelf.now cloud)))) opened.shape
+        (read_images clouds named asks mid new cloud (settled_with read.0 (clouds mid.shelf.now cloud)) passed
+        (subst (λ (s : Shape). cloud < s.n) (sym shape_mid) (of_one (λ x. x < shape.n) named cloud within has)) (told_on cloud told) stands))
+        (λ image x. (x.0, subst (Contains lists) (sym (only_list read.0 (clouds mid.shelf.now cloud) x.0 x.1)) read.1, x.2)));
+    others = λ cloud not. read_others clouds named asks mid new cloud passed not ∙ kept.others cloud not;
+  })

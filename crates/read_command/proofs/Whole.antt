@@ -1,0 +1,71 @@
+-- What is written at the end of a read.
+use Rattle.std.proofs.Common.{ℕ, List, [], ◌∷◌, refl, sym, subst, inl, inr, ◌⊎◌, append-nil}
+use Rattle.std.specs.Prelude.{Option, Some, None, Result, Ok, Err}
+use Rattle.std.specs.Io.KnownBytes.{Appends}
+use Rattle.std.specs.List.{Contains}
+use Rattle.std.proofs.lemmas.List.Elements.{Contains-append_right}
+use Rattle.commit_journal.specs.declared.errors.OpenErr.TheVariants as errors
+use Rattle.user_dedup.proofs.Owned.{contains_here}
+use Rattle.user_dedup.specs.declared.command.Command.{Command}
+use Rattle.restore_job.specs.declared.error.RestoreErr.{RestoreErr}
+use Rattle.read_command.specs.declared.wanted.Wanted.{Wanted}
+use Rattle.read_command.specs.declared.end.ReadEnd.{ReadEnd}
+use Rattle.read_command.specs.declared.end.ReadEnd.TheVariants as ends
+use Rattle.read_command.specs.Disks.{AreReadable, StopsAt}
+use Rattle.read_command.specs.Opening.{EndsOpening, IsFree}
+use Rattle.subset_restore.specs.Refusals.{refusal_text}
+use Rattle.read_command.specs.Ends.{Outside, CameDue, Due, IsBrought, IsFileDue, IsRefusalDue, IsRefusalLine, IsText, IsWritten}
+use Rattle.read_command.specs.Ends.{Reads, Restored, given_of}
+
+pub nothing_more : (w : Option (List ℕ)) → Appends w w []
+nothing_more None = tt
+nothing_more (Some bytes) = sym (append-nil bytes)
+
+-- a whole text that came of a restore
+whole_said : (c : Outside) (r : Wanted) (came : Result (Unit {0}) RestoreErr) (file text : List ℕ) → Restored c r came file → IsText came file text
+    → IsBrought r.shape r.clouds.now text ⊎ IsRefusalLine c r.shape r.clouds.now text
+whole_said c r (Ok u) file text is same = inl (subst (IsBrought r.shape r.clouds.now) (sym same) is.came_to)
+whole_said c r (Err e) file text is same = inr (e, same.0, same.1, same.2, is.came_to)
+
+whole_due : (c : Outside) (r : Wanted) (came : Result (Unit {0}) RestoreErr) (file text : List ℕ) (due : Due) → CameDue c r.clouds.now due came file
+    → IsText came file text → IsFileDue c r.clouds.now due text ⊎ IsRefusalDue c r.clouds.now due text
+whole_due c r (Ok u) file text due is same = inl (subst (IsFileDue c r.clouds.now due) (sym same) is)
+whole_due c r (Err e) file text due is same = inr (subst (IsRefusalDue c r.clouds.now due) (sym same.2) (is same.0 same.1))
+
+-- what was written of a restore
+pub reads_whole : (c : Outside) (r : Wanted) (came : Result (Unit {0}) RestoreErr) (file : List ℕ) (old new : Option (List ℕ)) (end : ReadEnd)
+    → Restored c r came file → IsWritten came file old new end → Reads c r end old new
+reads_whole c r came file old new ends.Done is w =
+    let i = subst (λ (x : Result (Unit {0}) RestoreErr). Restored c r x file) w.1 is in
+    (file, w.2, (i.opened, i.came_to), λ lists are. i.due lists are)
+reads_whole c r came file old new ends.Refused is w =
+    let i = subst (λ (x : Result (Unit {0}) RestoreErr). Restored c r x file) w.2 is in
+    (refusal_text w.1, w.4, (i.opened, (w.0, w.1, w.3, refl, i.came_to)), λ lists are. i.due lists are w.1 w.3)
+reads_whole c r came file old new ends.SinkFault is w = (
+  w.1,
+  w.5,
+  (is.opened, (w.0, w.2, w.4, whole_said c r came file w.0 is w.3)),
+  λ lists are. (w.0, w.2, w.4, whole_due c r came file w.0 (given_of r lists) (is.due lists are) w.3),
+)
+reads_whole c r came file old new ends.NoMemory is w = ([], w, (refl, tt), λ lists are. tt)
+reads_whole c r came file old new (ends.NotBegun cloud len) is w = absurd w
+reads_whole c r came file old new (ends.Damaged cloud at byte) is w = absurd w
+reads_whole c r came file old new (ends.Other cloud found) is w = absurd w
+reads_whole c r came file old new (ends.Rooms cloud room limit) is w = absurd w
+reads_whole c r came file old new (ends.ShelfFault cloud) is w = absurd w
+
+-- the openings ended it
+pub reads_stopped : (c : Outside) (r : Wanted) (w : Option (List ℕ)) (end : ReadEnd) → EndsOpening r.shape r.clouds.now c.old c.new c.total_before c.total_after end
+    → ((lists : ℕ → List Command) → AreReadable r.shape r.clouds.now c.old lists → IsFree end) → Reads c r end w w
+reads_stopped c r w (ends.NotBegun cloud len) stops free = ([], nothing_more w, (refl, stops), λ lists are. free lists are)
+reads_stopped c r w (ends.Damaged cloud at byte) stops free = ([], nothing_more w, (refl, stops), λ lists are. free lists are)
+reads_stopped c r w (ends.Other cloud found) stops free = ([], nothing_more w, (refl, stops), λ lists are. free lists are)
+reads_stopped c r w (ends.Rooms cloud room limit) stops free = ([], nothing_more w, (refl, stops), λ lists are. free lists are)
+reads_stopped c r w (ends.ShelfFault cloud) stops free = ([], nothing_more w, (refl, stops), λ lists are. in_place cloud.0 stops.0)
+  where
+    in_place : (number : ℕ) → StopsAt r.shape r.clouds.now c.old c.new number errors.Fault → Contains r.clouds.now number
+    in_place number s = subst (λ (l : List ℕ). Contains l number) (sym s.place) (Contains-append_right s.front (number ∷ s.rest) number (contains_here number s.rest))
+reads_stopped c r w ends.NoMemory stops free = ([], nothing_more w, (refl, tt), λ lists are. tt)
+reads_stopped c r w ends.Done stops free = absurd stops
+reads_stopped c r w ends.Refused stops free = absurd stops
+reads_stopped c r w ends.SinkFault stops free = absurd stops

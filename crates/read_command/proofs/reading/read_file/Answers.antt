@@ -1,0 +1,49 @@
+use Rattle.std.proofs.Common.{rules, ◌≡◌, ℕ, List, [], refl, subst}
+use Rattle.user_dedup.specs.declared.command.Command.{Command}
+use Rattle.read_command.specs.Disks.{AreReadable}
+use Rattle.read_command.specs.Opening.{EndsOpening, IsFree}
+use Rattle.read_command.specs.Ends.{Outside, IsWritten, Restored}
+use Rattle.read_command.proofs.Whole.{nothing_more, reads_whole, reads_stopped}
+use Rattle.read_command.proofs.reading.read_file.Goals as goal
+
+pub returns-in_default-clause-reads : goal.returns-in_default-clause-reads
+returns-in_default-clause-reads g c = ([], nothing_more (g.K.Sink.written c.args.sink.now), (refl, tt), λ lists are. tt)
+
+pub returns-in-Ok-came-clause-reads : goal.returns-in-Ok-came-clause-reads
+returns-in-Ok-came-clause-reads g c =
+    let around : g.row.V.Denot → g.row.V.Denot → Outside = λ a b. record {
+      total_before = g.V.Shelf.faults a;
+      total_after = g.V.Shelf.faults b;
+      old = g.V.Shelf.cloud_at a;
+      new = g.V.Shelf.cloud_at b;
+    } in
+    let r = c.args.wanted.now in
+    let came = c.in-Ok-came.came in
+    let file = c.restore_opened-came.new.file in
+    let first = c.of-link.result.shelf.now in
+    let last = c.restore_opened-came.new.link.shelf.now in
+    let back : last ≡ c.shelf-1.given.0 = search rules in
+    let old = g.K.Sink.written c.args.sink.now in
+    let new = g.K.Sink.written c.write_came.new.sink in
+    reads_whole (around c.args.shelf.now c.shelf-1.given.0) r came file old new c.write_came.result
+    (subst (λ (a : g.row.V.Denot). Restored (around a c.shelf-1.given.0) r came file) c.of-link.ensures.shelf
+    (subst (λ (b : g.row.V.Denot). Restored (around first b) r came file) back c.in-Ok-came.ensures.came))
+    (subst (λ (bytes : List ℕ). IsWritten came bytes old new c.write_came.result) c.as_slice.ensures c.write_came.ensures.written)
+
+pub returns-clause-reads : goal.returns-clause-reads
+returns-clause-reads g c =
+    let around : g.row.V.Denot → g.row.V.Denot → Outside = λ a b. record {
+      total_before = g.V.Shelf.faults a;
+      total_after = g.V.Shelf.faults b;
+      old = g.V.Shelf.cloud_at a;
+      new = g.V.Shelf.cloud_at b;
+    } in
+    let r = c.args.wanted.now in
+    let end = c.in-Err.end in
+    let first = c.of-link.result.shelf.now in
+    let last = c.restore_opened-came.new.link.shelf.now in
+    let back : last ≡ c.shelf-1.given.0 = search rules in
+    let ended = λ (a b : g.row.V.Denot). EndsOpening r.shape r.clouds.now (g.V.Shelf.cloud_at a) (g.V.Shelf.cloud_at b) (g.V.Shelf.faults a) (g.V.Shelf.faults b) end in
+    reads_stopped (around c.args.shelf.now c.shelf-1.given.0) r (g.K.Sink.written c.args.sink.now) end
+    (subst (λ (a : g.row.V.Denot). ended a c.shelf-1.given.0) c.of-link.ensures.shelf (subst (λ (b : g.row.V.Denot). ended first b) back c.in-Err.ensures.end))
+    (subst (λ (a : g.row.V.Denot). (lists : ℕ → List Command) → AreReadable r.shape r.clouds.now (g.V.Shelf.cloud_at a) lists → IsFree end) c.of-link.ensures.shelf c.in-Err.ensures.free)

@@ -1,0 +1,61 @@
+use Rattle.std.proofs.Common.{ℕ, List, sym, ◌∙◌, subst}
+use Rattle.cd_base.specs.declared.ids.Tag.{Tag}
+use Rattle.cd_base.specs.declared.shape.Shape.{Shape}
+use Rattle.cd_base.specs.Numbers.{numbers_of}
+use Rattle.caont_rs.specs.Package.{tag as tag_at}
+use Rattle.local_link.specs.Calls.{header_of}
+use Rattle.local_link.proofs.Passing.{read_same}
+use Rattle.read_command.specs.Disks.{AreReadable, IsOpened, KeepsDisks}
+use Rattle.read_command.specs.Opening.{AreOpened}
+use Rattle.read_command.proofs.Restoring.{came_to, is_due, kept_on}
+use Rattle.read_command.proofs.reading.restore_opened.Goals as goal
+
+pub returns-in-Err-clause-free : goal.returns-in-Err-clause-free
+returns-in-Err-clause-free g c = λ lists are.
+    let olds = g.V.Shelf.cloud_at c.args.link.now.shelf.now in
+    c.in-Err.ensures.readable lists
+    (subst (λ (s : Shape). AreReadable s (numbers_of c.as_slice.result.now) olds lists) (sym c.requires.shape)
+    (subst (λ (l : List ℕ). AreReadable c.args.wanted.now.shape l olds lists) (sym c.as_slice.ensures) are))
+
+pub returns-clause-came : goal.returns-clause-came
+returns-clause-came g c =
+    let clouds = g.V.Shelf.cloud_at in
+    let r = c.args.wanted.now in
+    let named = r.clouds.now in
+    let old = c.args.link.now in
+    let mid = c.open_clouds.new.link in
+    let new = c.restore_any.new.link in
+    let before = g.V.Shelf.faults old.shelf.now in
+    let between = g.V.Shelf.faults mid.shelf.now in
+    let now = g.V.Shelf.faults new.shelf.now in
+    let opened = subst (AreOpened clouds before between old mid) c.as_slice.ensures c.in-Ok.ensures.opened in
+    let e = c.restore_any.ensures in
+    let tag : Tag = record { 0 = tag_at r.shape r.path.now } in
+    record {
+      opened = λ cloud has told. subst (λ (s : Shape). IsOpened (header_of s cloud) (clouds old.shelf.now cloud)) c.requires.shape ((opened.each cloud has).opened told);
+      came_to = came_to clouds named r.shape before between now old mid new c.requires.shape opened r.user tag r.version _
+          c.restore_any.result c.args.file.now c.restore_any.new.out c.requires.empty c.requires.fate e.asked e.named e.restored;
+      due = is_due clouds named r.shape before between now old mid new c.requires.shape opened r.user tag r.version _
+          c.restore_any.result c.args.file.now c.restore_any.new.out c.requires.empty c.requires.fate e.asked e.named e.restored;
+    }
+
+pub returns-clause-kept : goal.returns-clause-kept
+returns-clause-kept g c =
+    let clouds = g.V.Shelf.cloud_at in
+    let r = c.args.wanted.now in
+    let named = r.clouds.now in
+    let old = c.args.link.now in
+    let mid = c.open_clouds.new.link in
+    let new = c.restore_any.new.link in
+    let before = g.V.Shelf.faults old.shelf.now in
+    let between = g.V.Shelf.faults mid.shelf.now in
+    let now = g.V.Shelf.faults new.shelf.now in
+    let opened = subst (AreOpened clouds before between old mid) c.as_slice.ensures c.in-Ok.ensures.opened in
+    kept_on clouds named r.shape before between now old mid new c.requires.shape opened c.restore_any.ensures.asked.asks c.restore_any.ensures.asked.passed c.requires.within
+    (λ cloud told. g.met.V.Shelf.reads_image old.shelf.now cloud told)
+    (subst (λ (l : List ℕ). KeepsDisks old.servers.shape l (clouds old.shelf.now) (clouds mid.shelf.now)) c.as_slice.ensures c.in-Ok.ensures.kept)
+
+pub returns-clause-same_reference : goal.returns-clause-same_reference
+returns-clause-same_reference g c =
+    read_same g.V.Shelf.cloud_at c.args.wanted.now.clouds.now c.restore_any.ensures.asked.asks c.open_clouds.new.link c.restore_any.new.link c.restore_any.ensures.asked.passed
+    ∙ c.in-Ok.ensures.same_reference

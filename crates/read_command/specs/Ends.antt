@@ -1,0 +1,218 @@
+-- How a read ends, and what is written then.
+use Rattle.std.specs.Prelude.{◌≡◌, ℕ, ◌⊎◌, false, IsTrue, List, [], ◌∷◌, ◌++◌, Option, Some, Result, Ok, Err, All}
+use Rattle.std.specs.List.{Contains}
+use Rattle.std.specs.Io.KnownBytes.{Appends}
+use Rattle.cd_base.specs.declared.ids.Tag.{Tag}
+use Rattle.cd_base.specs.declared.ids.UserId.{UserId}
+use Rattle.cd_base.specs.declared.ids.Version.{Version}
+use Rattle.cd_base.specs.declared.shape.Shape.{Shape}
+use Rattle.cd_edges.specs.Causes.{Rose}
+use Rattle.cd_edges.specs.Disk.{Cloud, reads}
+use Rattle.user_dedup.specs.declared.command.Command.{Command}
+use Rattle.cloud_store.specs.Store.{StandsFor}
+use Rattle.kept_files.specs.Kept.{key_of}
+use Rattle.local_link.specs.Calls.{header_of}
+use Rattle.restore_job.specs.Asking.{is_lost}
+use Rattle.restore_job.specs.Brought.{Brought}
+use Rattle.restore_job.specs.Refusals.{Names}
+use Rattle.restore_job.specs.Restored.{Unrestored, restored_file}
+use Rattle.restore_job.specs.declared.error.RestoreErr.{RestoreErr}
+use Rattle.restore_job.specs.declared.error.RestoreErr.TheVariants as errors
+use Rattle.transcript.specs.declared.refusal.Refusal.{Refusal}
+use Rattle.transcript.specs.declared.refusal.Refusal.TheVariants as refusals
+use Rattle.subset_restore.specs.Refusals.{refusal_of, refusal_text}
+use Rattle.subset_restore.specs.Restored.{restored_any}
+use Rattle.subset_restore.specs.Subsets.{subsets}
+use Rattle.read_command.specs.declared.wanted.Wanted.{Wanted}
+use Rattle.read_command.specs.declared.end.ReadEnd.{ReadEnd}
+use Rattle.read_command.specs.declared.end.ReadEnd.TheVariants as ends
+use Rattle.read_command.specs.Disks.{AreReadable, IsOpened}
+use Rattle.read_command.specs.Opening.{EndsOpening}
+use Rattle.read_command.specs.Refusals.{cloud_no, reason_of}
+
+-- The shelf around a read: how many of its calls had failed in all, and its clouds.
+pub record Outside : Type 0 where
+  pub total_before : ℕ
+  pub total_after : ℕ
+  pub old : ℕ → Cloud
+  pub new : ℕ → Cloud
+
+-- What some clouds' lists give of a version: each choice of k of them, in order, what it gives, and what any k give.
+pub record Due : Type 0 where
+  pub choices : List (List ℕ)
+  pub given : List ℕ → Result (List ℕ) Unrestored
+  pub whole : Result (List ℕ) Unrestored
+
+abbrev pub due_of : Shape → UserId → Tag × Version → List ℕ → (ℕ → List Command) → Due
+due_of shape user key named lists = record {
+  choices = subsets shape.k named;
+  given = restored_file shape lists user key;
+  whole = restored_any shape lists user key named;
+}
+
+-- what lists give of what is wanted
+abbrev pub given_of : Wanted → (ℕ → List Command) → Due
+given_of r lists = due_of r.shape r.user (key_of r.shape r.path.now r.version) r.clouds.now lists
+
+-- ---- what a restore came to
+
+-- each named cloud that is told opened
+abbrev pub AllOpened : Outside → Shape → List ℕ → Type 0
+AllOpened c shape named =
+    (cloud : ℕ) → Contains named cloud → IsTrue (c.old cloud).told → IsOpened (header_of shape cloud) (c.old cloud)
+
+-- where a cloud's device failed its count rose
+abbrev pub RoseBy : Outside → RestoreErr → Type 0
+RoseBy c (errors.CloudFault cloud) = Rose (c.old cloud.0).faults (c.new cloud.0).faults
+RoseBy c e = Unit {0}
+
+-- the line of one of these clouds whose device failed
+abbrev pub IsFaultLine : Outside → List ℕ → List ℕ → Type 0
+IsFaultLine c clouds text = (cloud : ℕ) × Contains clouds cloud
+    × (text ≡ refusal_text (refusals.Fault (cloud_no cloud))) × Rose (c.old cloud).faults (c.new cloud).faults
+
+-- the line of the refusal that lists give
+abbrev pub IsLineOf : Result (List ℕ) Unrestored → List ℕ → Type 0
+IsLineOf given text =
+    (why : Unrestored) × (said : Refusal) × (given ≡ Err why) × (reason_of why ≡ Some said) × (text ≡ refusal_text said)
+
+-- the count rose of one of these clouds
+abbrev pub HoldsFailed : Outside → List ℕ → Type 0
+HoldsFailed c clouds = (cloud : ℕ) × Contains clouds cloud × Rose (c.old cloud).faults (c.new cloud).faults
+
+-- The file doesn't come from this choice: its lists give none, or the count rose of one of its clouds.
+abbrev pub IsNone : Outside → Due → List ℕ → Type 0
+IsNone c due clouds = ((why : Unrestored) × (due.given clouds ≡ Err why)) ⊎ HoldsFailed c clouds
+
+-- The file is what a choice gives, and from each choice in front of it none comes. It is what any k of the named clouds
+-- give where no count of these rose.
+pub record IsFileDue (c : Outside) (named : List ℕ) (due : Due) (file : List ℕ) : Type 0 where
+  pub front : List (List ℕ)
+  pub chosen : List ℕ
+  pub rest : List (List ℕ)
+  pub in_order : due.choices ≡ front ++ chosen ∷ rest
+  pub given : due.given chosen ≡ Ok file
+  pub before : All (IsNone c due) front
+  pub exact : (HoldsFailed c named → ⊥) → due.whole ≡ Ok file
+
+-- From no choice a file comes. The line is that of the refusal which the first choice gives, or of one of its clouds whose
+-- device failed. It is that of any k of the named clouds where no count of these rose.
+pub record IsRefusalDue (c : Outside) (named : List ℕ) (due : Due) (text : List ℕ) : Type 0 where
+  pub first : List ℕ
+  pub rest : List (List ℕ)
+  pub in_order : due.choices ≡ first ∷ rest
+  pub none : All (IsNone c due) due.choices
+  pub line : IsLineOf (due.given first) text ⊎ IsFaultLine c first text
+  pub exact : (HoldsFailed c named → ⊥) → IsLineOf due.whole text
+
+-- These lists stand at the named clouds that are told.
+abbrev pub HaveLists : Outside → Shape → List ℕ → (ℕ → List Command) → Type 0
+HaveLists c shape named lists = (cloud : ℕ) → Contains named cloud → IsTrue (c.old cloud).told
+    → StandsFor (reads (c.old cloud).now) (header_of shape cloud) (lists cloud)
+
+-- A refusal names no other clouds than the named ones, and is no lost ask. Where lists stand at all that are told, a
+-- device failed only where its count rose.
+pub record IsRefusal (c : Outside) (shape : Shape) (named : List ℕ) (e : RestoreErr) : Type 0 where
+  pub names : Names (Contains named) e
+  pub rose : (lists : ℕ → List Command) → HaveLists c shape named lists → RoseBy c e
+  pub found : let came : Result (Unit {0}) RestoreErr = Err e in is_lost came ≡ false
+
+-- The bytes are what strings open to which the recipes of k of the clouds name.
+abbrev pub IsBrought : Shape → List ℕ → List ℕ → Type 0
+IsBrought shape named file =
+    (chosen : List ℕ) × Contains (subsets shape.k named) chosen × Brought shape chosen [] file
+
+-- What a restore came to, whatever is told: the bytes that strings open to which the recipes of k clouds name; or a
+-- refusal.
+abbrev pub CameTo : Outside → Shape → List ℕ → Result (Unit {0}) RestoreErr → List ℕ → Type 0
+CameTo c shape named (Ok u) file = IsBrought shape named file
+CameTo c shape named (Err e) file = IsRefusal c shape named e
+
+-- What it came to where this is due.
+abbrev pub CameDue : Outside → List ℕ → Due → Result (Unit {0}) RestoreErr → List ℕ → Type 0
+CameDue c named due (Ok u) file = IsFileDue c named due file
+CameDue c named due (Err e) file =
+    (why : Refusal) → refusal_of e ≡ Some why → IsRefusalDue c named due (refusal_text why)
+
+-- The named clouds were opened, and the version restored from them.
+pub record Restored (c : Outside) (r : Wanted) (came : Result (Unit {0}) RestoreErr) (file : List ℕ) : Type 0 where
+  pub opened : AllOpened c r.shape r.clouds.now
+  pub came_to : CameTo c r.shape r.clouds.now came file
+  pub due : (lists : ℕ → List Command) → AreReadable r.shape r.clouds.now c.old lists
+      → CameDue c r.clouds.now (given_of r lists) came file
+
+-- ---- what is written
+
+-- what is to be written of it
+abbrev pub IsText : Result (Unit {0}) RestoreErr → List ℕ → List ℕ → Type 0
+IsText (Ok u) file text = text ≡ file
+IsText (Err e) file text = (why : Refusal) × (refusal_of e ≡ Some why) × (text ≡ refusal_text why)
+
+-- the sink's count rose where it failed, and else stayed
+abbrev pub CountsSink : ℕ → ℕ → ReadEnd → Type 0
+CountsSink before now ends.SinkFault = Rose before now
+CountsSink before now end = now ≡ before
+
+-- The bytes were written; or the sink failed, and a front of them was written; or memory ran out, and nothing was.
+abbrev pub Writes : Option (List ℕ) → Option (List ℕ) → ℕ → ℕ → List ℕ → Result (Unit {0}) ReadEnd → Type 0
+Writes old new before now bytes (Ok u) = Appends old new bytes × (now ≡ before)
+Writes old new before now bytes (Err ends.SinkFault) =
+    ((front : List ℕ) × (rest : List ℕ) × (bytes ≡ front ++ rest) × Appends old new front) × Rose before now
+Writes old new before now bytes (Err ends.NoMemory) = Appends old new [] × (now ≡ before)
+Writes old new before now bytes (Err end) = ⊥
+
+-- the text that was due is written, a front of it, or nothing
+abbrev pub IsWritten : Result (Unit {0}) RestoreErr → List ℕ → Option (List ℕ) → Option (List ℕ) → ReadEnd → Type 0
+IsWritten came file old new ends.Done = (u : Unit {0}) × (came ≡ Ok u) × Appends old new file
+IsWritten came file old new ends.Refused =
+    (e : RestoreErr) × (why : Refusal) × (came ≡ Err e) × (refusal_of e ≡ Some why) × Appends old new (refusal_text why)
+IsWritten came file old new ends.SinkFault = (text : List ℕ) × (front : List ℕ) × (rest : List ℕ)
+    × IsText came file text × (text ≡ front ++ rest) × Appends old new front
+IsWritten came file old new ends.NoMemory = Appends old new []
+IsWritten came file old new end = ⊥
+
+-- ---- the whole read
+
+-- the line of a refusal
+abbrev pub IsRefusalLine : Outside → Shape → List ℕ → List ℕ → Type 0
+IsRefusalLine c shape named text =
+    (e : RestoreErr) × (why : Refusal)
+    × (refusal_of e ≡ Some why) × (text ≡ refusal_text why) × IsRefusal c shape named e
+
+-- What is written by the end, whatever is told. Behind the openings it is a file or a refusal, whole; or a front of it,
+-- where the sink failed. Where the openings end, or memory ran out, nothing is written.
+abbrev pub Says : Outside → Shape → List ℕ → ReadEnd → List ℕ → Type 0
+Says c shape named ends.Done text = AllOpened c shape named × IsBrought shape named text
+Says c shape named ends.Refused text = AllOpened c shape named × IsRefusalLine c shape named text
+Says c shape named ends.SinkFault text = AllOpened c shape named
+    × ((whole : List ℕ) × (rest : List ℕ) × (whole ≡ text ++ rest)
+    × (IsBrought shape named whole ⊎ IsRefusalLine c shape named whole))
+Says c shape named end text = (text ≡ []) × EndsOpening shape named c.old c.new c.total_before c.total_after end
+
+-- What is written by the end, over clouds of which this is due: the file; its refusal, or that of a cloud whose device
+-- failed; a front of these, where the sink failed. Else a device failed as it was opened, or memory ran out.
+abbrev pub Gives : Outside → List ℕ → Due → ReadEnd → List ℕ → Type 0
+Gives c named due ends.Done text = IsFileDue c named due text
+Gives c named due ends.Refused text = IsRefusalDue c named due text
+Gives c named due ends.SinkFault text = (whole : List ℕ) × (rest : List ℕ) × (whole ≡ text ++ rest)
+    × (IsFileDue c named due whole ⊎ IsRefusalDue c named due whole)
+Gives c named due (ends.ShelfFault cloud) text = Contains named cloud.0
+Gives c named due ends.NoMemory text = Unit {0}
+Gives c named due (ends.NotBegun cloud len) text = ⊥
+Gives c named due (ends.Damaged cloud at byte) text = ⊥
+Gives c named due (ends.Other cloud found) text = ⊥
+Gives c named due (ends.Rooms cloud room limit) text = ⊥
+
+-- A read ended so, over what was written before and what is written now.
+abbrev pub Reads : Outside → Wanted → ReadEnd → Option (List ℕ) → Option (List ℕ) → Type 0
+Reads c r end before now = (text : List ℕ) × Appends before now text × Says c r.shape r.clouds.now end text
+    × ((lists : ℕ → List Command) → AreReadable r.shape r.clouds.now c.old lists
+    → Gives c r.clouds.now (given_of r lists) end text)
+
+-- The end is that of an opening: no cloud was asked for anything.
+abbrev pub IsOfOpening : ReadEnd → Type 0
+IsOfOpening ends.Done = ⊥
+IsOfOpening ends.Refused = ⊥
+IsOfOpening ends.SinkFault = ⊥
+IsOfOpening ends.NoMemory = ⊥
+IsOfOpening end = Unit {0}

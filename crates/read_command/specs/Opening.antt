@@ -1,0 +1,98 @@
+-- How the openings of the chosen clouds end.
+use Rattle.std.specs.Prelude.{◌≡◌, ℕ, IsTrue, List, Result, OnOk, IfErr}
+use Rattle.std.specs.List.{Contains}
+use Rattle.cd_base.specs.declared.ids.CloudNo.{CloudNo}
+use Rattle.cd_base.specs.declared.shape.Shape.{Shape}
+use Rattle.cd_edges.specs.Disk.{Cloud, reads}
+use Rattle.cd_edges.specs.Shelf.{HasFailed, KeepsCounts}
+use Rattle.commit_journal.specs.declared.errors.OpenErr.{OpenErr}
+use Rattle.commit_journal.specs.declared.errors.OpenErr.TheVariants as errors
+use Rattle.commit_journal.specs.declared.header.Header.{Header}
+use Rattle.user_dedup.specs.declared.command.Command.{Command}
+use Rattle.cloud_store.specs.Standing.{ImagesNow, ImagesSince}
+use Rattle.cloud_store.specs.Store.{StandsFor}
+use Rattle.share_server.specs.Serving.{settled_with}
+use Rattle.local_link.specs.declared.link.LocalLink.{LocalLink}
+use Rattle.local_link.specs.Calls.{header_of}
+use Rattle.local_link.specs.Tells.{StandsAt}
+use Rattle.read_command.specs.declared.end.ReadEnd.{ReadEnd}
+use Rattle.read_command.specs.declared.end.ReadEnd.TheVariants as ends
+use Rattle.read_command.specs.Disks.{IsReadable, IsOpened, IsUnopened, IsSpared, StopsAt}
+
+-- the end of a read whose opening of the cloud answered this error
+abbrev pub end_by : CloudNo → OpenErr → ReadEnd
+end_by cloud errors.Fault = ends.ShelfFault cloud
+end_by cloud (errors.NotBegun len) = ends.NotBegun cloud len
+end_by cloud (errors.Damaged at byte) = ends.Damaged cloud at byte
+end_by cloud (errors.OtherStore found asked) = ends.Other cloud found
+end_by cloud (errors.RoomsTooSmall room limit at) = ends.Rooms cloud room limit
+end_by cloud errors.NoMemory = ends.NoMemory
+
+-- The end that an opening's error gives, of which this is said, with this beside it where a device failed; or want of
+-- memory.
+abbrev pub EndsBy : (ℕ → OpenErr → Type 0) → (ℕ → Type 0) → ReadEnd → Type 0
+EndsBy Stops Failed (ends.NotBegun cloud len) = Stops cloud.0 (errors.NotBegun len)
+EndsBy Stops Failed (ends.Damaged cloud at byte) = Stops cloud.0 (errors.Damaged at byte)
+EndsBy Stops Failed (ends.Other cloud found) = (asked : Header) × Stops cloud.0 (errors.OtherStore found asked)
+EndsBy Stops Failed (ends.Rooms cloud room limit) = (at : ℕ) × Stops cloud.0 (errors.RoomsTooSmall room limit at)
+EndsBy Stops Failed (ends.ShelfFault cloud) = Stops cloud.0 errors.Fault × Failed cloud.0
+EndsBy Stops Failed ends.NoMemory = Unit {0}
+EndsBy Stops Failed ends.Done = ⊥
+EndsBy Stops Failed ends.Refused = ⊥
+EndsBy Stops Failed ends.SinkFault = ⊥
+
+-- one cloud was to be opened
+abbrev pub EndsOne : Header → Cloud → Cloud → ℕ → ℕ → ℕ → ReadEnd → Type 0
+EndsOne header old new before now number end = EndsBy
+    (λ cloud error. (cloud ≡ number) × (IsTrue old.told → IsUnopened header old new error))
+    (λ cloud. HasFailed old new before now) end
+
+-- the named clouds were to be opened, in order
+abbrev pub EndsOpening : Shape → List ℕ → (ℕ → Cloud) → (ℕ → Cloud) → ℕ → ℕ → ReadEnd → Type 0
+EndsOpening shape named old new before now end = EndsBy (StopsAt shape named old new)
+    (λ cloud. HasFailed (old cloud) (new cloud) before now) end
+
+-- a device failed, or memory ran out
+abbrev pub IsFree : ReadEnd → Type 0
+IsFree (ends.NotBegun cloud len) = ⊥
+IsFree (ends.Damaged cloud at byte) = ⊥
+IsFree (ends.Other cloud found) = ⊥
+IsFree (ends.Rooms cloud room limit) = ⊥
+IsFree (ends.ShelfFault cloud) = Unit {0}
+IsFree ends.NoMemory = Unit {0}
+IsFree ends.Done = Unit {0}
+IsFree ends.Refused = Unit {0}
+IsFree ends.SinkFault = Unit {0}
+
+-- A cloud that was so was to be opened. Where it opens it stands for the list that its areas read as, if there is one,
+-- and nothing failed. Whatever comes it is spared, and each image since then stands for one of the lists that its images
+-- stood for.
+pub record Opening {V : Type 0} (clouds : V → ℕ → Cloud) (shape : Shape) (old : Cloud) (before : ℕ)
+    (new : LocalLink V) (now cloud : ℕ) (result : Result (Unit {0}) ReadEnd) : Type 0 where
+  pub opened : IsTrue old.told → OnOk result (IsOpened (header_of shape cloud) old)
+  pub loaded : IsTrue old.told → (list : List Command) → StandsFor (reads old.now) (header_of shape cloud) list
+      → OnOk result (StandsAt clouds new cloud (settled_with list (clouds new.shelf.now cloud)))
+  pub counts : OnOk result (KeepsCounts old (clouds new.shelf.now cloud) before now)
+  pub readable : (list : List Command) → IsReadable (header_of shape cloud) old list → IfErr result IsFree
+  pub end : IfErr result (EndsOne (header_of shape cloud) old (clouds new.shelf.now cloud) before now cloud)
+  pub spared : IsTrue old.told → IsSpared old (clouds new.shelf.now cloud)
+  pub images : IsTrue old.told → (lists : List (List Command)) → ImagesNow old (header_of shape cloud) (Contains lists)
+      → ImagesSince old (clouds new.shelf.now cloud) (header_of shape cloud) (Contains lists)
+
+-- A cloud of a link was opened. It stands for the list that its areas read as, if there is one.
+pub record BecomesOpen {V : Type 0} (clouds : V → ℕ → Cloud) (old new : LocalLink V) (cloud : ℕ) : Type 0 where
+  pub opened : IsTrue (clouds old.shelf.now cloud).told
+      → IsOpened (header_of old.servers.shape cloud) (clouds old.shelf.now cloud)
+  pub loaded : IsTrue (clouds old.shelf.now cloud).told → (list : List Command)
+      → StandsFor (reads (clouds old.shelf.now cloud).now) (header_of old.servers.shape cloud) list
+      → StandsAt clouds new cloud (settled_with list (clouds new.shelf.now cloud))
+  pub faults : (clouds new.shelf.now cloud).faults ≡ (clouds old.shelf.now cloud).faults
+
+-- These clouds of a link were opened, and the shelf has no more faults than before.
+pub record AreOpened {V : Type 0} (clouds : V → ℕ → Cloud) (before now : ℕ) (old new : LocalLink V) (named : List ℕ)
+    : Type 0 where
+  pub each : (cloud : ℕ) → Contains named cloud → BecomesOpen clouds old new cloud
+  pub shape : new.servers.shape ≡ old.servers.shape
+  pub fate : new.fate ≡ old.fate
+  pub told : (cloud : ℕ) → (clouds new.shelf.now cloud).told ≡ (clouds old.shelf.now cloud).told
+  pub total : now ≡ before

@@ -1,0 +1,132 @@
+//! Reading a version of a file.
+
+ghost use Rattle.std.specs.Prelude.{◌≡◌, ◌<◌, ◌≤◌, ℕ, List, [], length, All, IsTrue, IfOk, IfErr};
+ghost use Rattle.cd_base.specs.Limits.{IsPath};
+ghost use Rattle.user_dedup.specs.declared.command.Command.{Command};
+ghost use Rattle.cloud_state.specs.State.{AreRooms};
+ghost use Rattle.local_link.specs.declared.fate.Fate.TheVariants.{Deliver};
+ghost use Rattle.read_command.specs.Disks.{AreReadable, IsSpared, KeepsDisks};
+ghost use Rattle.read_command.specs.Opening.{EndsOpening, IsFree};
+ghost use Rattle.read_command.specs.Ends.{CountsSink, IsOfOpening, Reads, Restored};
+
+use crate::opening::open_clouds;
+use crate::writing::write_came;
+use crate::{ReadEnd, Wanted};
+use cd_base::{Bytes, Rooms};
+use cd_edges::{Shelf, Sink};
+use local_link::{LocalLink, Servers};
+use restore_job::RestoreErr;
+use std::alloc::Global;
+use subset_restore::restore_any;
+
+// The least rooms, which take no tables: those of the clouds that aren't read.
+fn least_rooms() -> Rooms
+    ensures { AreRooms result }
+{
+    Rooms {
+        shares: 0,
+        recipes: 0,
+        journal: 0,
+        fps: 0,
+        owners: 0,
+        files: 0,
+    }
+}
+
+// Opens the named clouds, and restores from them.
+fn restore_opened<V: Shelf>(
+    alloc: Global,
+    link: &mut LocalLink<'_, V>,
+    wanted: &Wanted<'_>,
+    file: &mut Bytes,
+) -> Result<Result<(), RestoreErr>, ReadEnd>
+    requires shape { link.old.servers.shape ≡ wanted.now.shape }
+    requires fate { link.old.fate ≡ Deliver }
+    requires empty { file.old ≡ [] }
+    requires path { IsPath wanted.now.path.now }
+    requires count { wanted.now.shape.k ≤ length wanted.now.clouds.now }
+    requires within { All (λ cloud. cloud < wanted.now.shape.n) wanted.now.clouds.now }
+    ensures end { IfErr result (EndsOpening wanted.now.shape wanted.now.clouds.now (V.cloud_at link.old.shelf.now)
+        (V.cloud_at link.new.shelf.now) (V.faults link.old.shelf.now) (V.faults link.new.shelf.now)) }
+    ensures spared { IfErr result (λ end. (cloud : ℕ) → IsTrue (V.cloud_at link.old.shelf.now cloud).told
+        → IsSpared (V.cloud_at link.old.shelf.now cloud) (V.cloud_at link.new.shelf.now cloud)) }
+    ensures free { (lists : ℕ → List Command)
+        → AreReadable wanted.now.shape wanted.now.clouds.now (V.cloud_at link.old.shelf.now) lists
+        → IfErr result IsFree }
+    ensures came { IfOk result (λ came. Restored (record {
+      total_before = V.faults link.old.shelf.now;
+      total_after = V.faults link.new.shelf.now;
+      old = V.cloud_at link.old.shelf.now;
+      new = V.cloud_at link.new.shelf.now;
+    }) wanted.now came file.new) }
+    ensures kept { KeepsDisks wanted.now.shape wanted.now.clouds.now (V.cloud_at link.old.shelf.now)
+        (V.cloud_at link.new.shelf.now) }
+    ensures same_reference { link.new.shelf.ghost_name ≡ link.old.shelf.ghost_name }
+{
+    wanted.clouds.rises();
+    match open_clouds(link, wanted.clouds.as_slice()) {
+        Ok(()) => {}
+        Err(end) => return Err(end),
+    }
+    Ok(restore_any(
+        alloc,
+        link,
+        wanted.shape,
+        wanted.user,
+        wanted.path,
+        wanted.version,
+        wanted.clouds,
+        file,
+    ))
+}
+
+/// Reads a version of a file from the named clouds' disks, whatever was remembered before, and writes its bytes.
+///
+/// The clouds are opened in order, each in the greatest rooms, and nothing is begun; then the version is restored from
+/// any k of them, as `subset_restore::restore_any` does it. No other cloud is touched.
+///
+/// Done: the sink has the file's bytes. Refused: the sink has the line that says why there is no file. NotBegun,
+/// Damaged, Other and Rooms: so it is at the cloud, the first in order that doesn't open; nothing was written.
+/// ShelfFault: the cloud's device failed as it was opened, and its count rose; nothing was written. SinkFault: the
+/// sink's count rose; it has a front of what was due. NoMemory: nothing was written.
+pub fn read_file<K: Sink, V: Shelf>(
+    alloc: Global,
+    wanted: &Wanted<'_>,
+    sink: &mut K,
+    shelf: &mut V,
+) -> ReadEnd
+    requires path { IsPath wanted.now.path.now }
+    requires count { wanted.now.shape.k ≤ length wanted.now.clouds.now }
+    requires within { All (λ cloud. cloud < wanted.now.shape.n) wanted.now.clouds.now }
+
+    // What was written belongs to the end. Over named clouds that are told, begun, and stand for lists within the
+    // greatest rooms it is the file that any k of these lists give, or their refusal, or the failed device of one of
+    // the first k; or a front of these.
+    ensures reads { Reads (record {
+      total_before = V.faults shelf.old;
+      total_after = V.faults shelf.new;
+      old = V.cloud_at shelf.old;
+      new = V.cloud_at shelf.new;
+    }) wanted.now result (K.written sink.old) (K.written sink.new) }
+    ensures counts { CountsSink (K.faults sink.old) (K.faults sink.new) result }
+
+    // Each image since then of a named cloud stands for one of the lists that its images stood for; the others are as
+    // they were.
+    ensures kept { KeepsDisks wanted.now.shape wanted.now.clouds.now (V.cloud_at shelf.old) (V.cloud_at shelf.new) }
+
+    // Where the openings end the read, each told cloud is spared, whatever its areas hold.
+    ensures areas { IsOfOpening result → (cloud : ℕ) → IsTrue (V.cloud_at shelf.old cloud).told
+        → IsSpared (V.cloud_at shelf.old cloud) (V.cloud_at shelf.new cloud) }
+{
+    let Ok(servers) = Servers::make(alloc, wanted.shape, least_rooms()) else {
+        return ReadEnd::NoMemory;
+    };
+    let mut file = Bytes::new(alloc);
+    let mut link = LocalLink::of(alloc, shelf, servers);
+    let came = restore_opened(alloc, &mut link, wanted, &mut file);
+    let _shelf = link.release();
+    match came {
+        Ok(came) => write_came(alloc, sink, came, file.as_slice()),
+        Err(end) => end,
+    }
+}

@@ -1,0 +1,60 @@
+//! Writing what came of a read.
+
+ghost use Rattle.subset_restore.specs.Refusals.{refusal_text};
+ghost use Rattle.read_command.specs.Ends.{IsWritten, CountsSink, Writes};
+
+use crate::ReadEnd;
+use cd_base::{Bytes, NoMemory};
+use cd_edges::{Sink, write_all};
+use restore_job::RestoreErr;
+use std::alloc::Global;
+use subset_restore::as_refusal;
+use transcript::{Line, Refusal, write_line};
+
+// Writes these bytes, or a front of them where the sink fails.
+fn write_text<K: Sink>(sink: &mut K, bytes: &[u8]) -> Result<(), ReadEnd>
+    ensures { Writes (K.written sink.old) (K.written sink.new) (K.faults sink.old) (K.faults sink.new)
+        bytes.now result }
+{
+    match write_all(sink, bytes) {
+        Ok(()) => Ok(()),
+        Err(_) => Err(ReadEnd::SinkFault),
+    }
+}
+
+// Writes the line of a refusal, or a front of it.
+fn write_refusal<K: Sink>(alloc: Global, sink: &mut K, why: Refusal) -> Result<(), ReadEnd>
+    ensures { Writes (K.written sink.old) (K.written sink.new) (K.faults sink.old) (K.faults sink.new)
+        (refusal_text why) result }
+{
+    let mut text = Bytes::new(alloc);
+    match write_line(&Line::Refused { why }, &mut text) {
+        Ok(()) => write_text(sink, text.as_slice()),
+        Err(NoMemory) => Err(ReadEnd::NoMemory),
+    }
+}
+
+/// Writes what came of a restore: the file's bytes, or the line that says why there are none.
+pub fn write_came<K: Sink>(
+    alloc: Global,
+    sink: &mut K,
+    came: Result<(), RestoreErr>,
+    file: &[u8],
+) -> ReadEnd
+    ensures written { IsWritten came file.now (K.written sink.old) (K.written sink.new) result }
+    ensures counts { CountsSink (K.faults sink.old) (K.faults sink.new) result }
+{
+    match came {
+        Ok(()) => match write_text(sink, file) {
+            Ok(()) => ReadEnd::Done,
+            Err(end) => end,
+        },
+        Err(error) => match as_refusal(error) {
+            Some(why) => match write_refusal(alloc, sink, why) {
+                Ok(()) => ReadEnd::Refused,
+                Err(end) => end,
+            },
+            None => ReadEnd::NoMemory,
+        },
+    }
+}

@@ -1,0 +1,97 @@
+-- Where a record of a chain stands: in its checkpoint, or behind it as the next command's.
+use Rattle.std.proofs.Common.{◌≡◌, ◌⊎◌, inl, inr, ℕ, ◌<◌, ◌≤◌, List, [], ◌∷◌, ◌++◌, length, refl, sym, ap, ◌∙◌, subst, arith, append_assoc, length-append}
+use Rattle.std.specs.Prelude.{All}
+use Rattle.std.proofs.lemmas.List.Elements.{All-contains, Contains-append_left}
+use Rattle.cd_base.specs.declared.shape.Shape.{Shape}
+use Rattle.container_log.specs.Laying.{Placed, IsAt}
+use Rattle.journal_start.specs.declared.rooms.Rooms.{Rooms}
+use Rattle.record_bodies.specs.Spelling.{Body}
+use Rattle.user_dedup.specs.declared.command.Command.{Command}
+use Rattle.user_dedup.specs.Dedup.{IsSound}
+use Rattle.user_dedup.specs.Spending.{IsWithin}
+use Rattle.user_dedup.proofs.Sound.{last_same, sound_before}
+use Rattle.user_dedup.proofs.Spending.{front_within}
+use Rattle.cloud_areas.specs.Chains.{IsRecord, Says, Summed, Then, AreLong}
+use Rattle.cloud_areas.specs.Checkpoints.{IsCheckpoint}
+use Rattle.cloud_areas.specs.Placing.{shares_in}
+use Rattle.cloud_areas.proofs.Lists.{contained}
+use Rattle.record_laws.proofs.Chain.{long_before, checkpoint_within}
+
+-- ---- lists from their ends
+
+-- a list is empty, or it has a last element
+pub record HasLast {X : Type 0} (xs : List X) : Type 0 where
+  pub front : List X
+  pub last : X
+  pub is : xs ≡ front ++ last ∷ []
+
+pub from_end : {X : Type 0} (xs : List X) → (xs ≡ []) ⊎ HasLast xs
+from_end [] = inl refl
+from_end (x ∷ xs) = inr (elim (from_end xs) [
+  | inl none ↦ record { front = []; last = x; is = ap (λ l. x ∷ l) none }
+  | inr some ↦ record { front = x ∷ some.front; last = some.last; is = ap (λ l. x ∷ l) some.is }
+])
+
+-- ---- a record
+
+-- what is so of the list that the records up to one have come to
+pub record IsFine (shape : Shape) (cloud : ℕ) (rooms : Rooms) (area : List ℕ) (list : List Command) (records : List Body) (recipes : List Placed) : Type 0 where
+  pub sound : IsSound shape cloud list
+  pub within : IsWithin shape rooms list
+  pub long : AreLong list (shares_in records)
+  pub lie : All (IsAt area) recipes
+
+module _ (format : ℕ) (shape : Shape) (cloud : ℕ) (rooms : Rooms) (region count commands : ℕ) (area : List ℕ) where
+  -- the record is one of a checkpoint's
+  pub record IsInside (before : List Body) (body : Body) : Type 0 where
+    pub list : List Command
+    pub records : List Body
+    pub recipes : List Placed
+    pub after : List Body
+    pub is : IsCheckpoint format shape list records recipes
+    pub whole : records ≡ before ++ body ∷ after
+    pub len : length records ≡ count
+    pub fine : IsFine shape cloud rooms area list records recipes
+
+  -- it is the record of a command
+  pub record IsBehind (before : List Body) (body : Body) : Type 0 where
+    pub list : List Command
+    pub command : Command
+    pub laid : List Placed
+    pub more : List Placed
+    pub says : Says format shape region count commands before list laid
+    pub is : IsRecord region before list command body more
+    pub fine : IsFine shape cloud rooms area (list ++ command ∷ []) (before ++ body ∷ []) (laid ++ more)
+
+  pub stands_in : (bodies : List Body) (list : List Command) (recipes : List Placed) → Says format shape region count commands bodies list recipes
+      → IsFine shape cloud rooms area list bodies recipes → (before : List Body) (body : Body) (after : List Body) → bodies ≡ before ++ body ∷ after
+      → IsInside before body ⊎ IsBehind before body
+  stands_in _ _ _ (Summed bodies list recipes is len number) fine before body after whole =
+      inl (record { list = list; records = bodies; recipes = recipes; after = after; is = is; whole = whole; len = len; fine = fine })
+  stands_in _ _ _ (Then b old laid last command more says is) fine before body after whole = elim (from_end after) [
+    | inl none ↦
+        let same = last_same b before last body (whole ∙ ap (λ l. before ++ body ∷ l) none) in
+        inr (subst (λ (x : List Body × Body). IsBehind x.0 x.1) (λ i. (same.0 i, same.1 i))
+        (record { list = old; command = command; laid = laid; more = more; says = says; is = is; fine = fine }))
+    | inr some ↦
+        let split : b ++ last ∷ [] ≡ (before ++ body ∷ some.front) ++ some.last ∷ [] =
+        whole ∙ ap (λ l. before ++ body ∷ l) some.is ∙ sym (append_assoc before (body ∷ some.front) (some.last ∷ [])) in
+        let same = last_same b (before ++ body ∷ some.front) last some.last split in
+        stands_in b old laid says (record {
+          sound = (sound_before shape cloud old command fine.sound).sound;
+          within = front_within shape rooms old (command ∷ []) fine.within;
+          long = long_before format shape region count commands b old laid command last says fine.long;
+          lie = contained (IsAt area) laid (λ x c. All-contains (IsAt area) (laid ++ more) x fine.lie (Contains-append_left laid more x c));
+        }) before body some.front same.0
+  ]
+
+  -- of which of the two it is, the number of records before it says
+  pub inside_before : (before : List Body) (body : Body) → IsInside before body → length before < count
+  inside_before before body inside =
+      let all = ap length inside.whole in
+      let parts = length-append before (body ∷ inside.after) in
+      let len = inside.len in
+      omega (arith, all, parts, len)
+
+  pub behind_before : (before : List Body) (body : Body) → IsBehind before body → count ≤ length before
+  behind_before before body behind = checkpoint_within format shape region count commands before behind.list behind.laid behind.says

@@ -1,5 +1,0 @@
-use Rattle.script_lines.specs.Jobs.{AreReached}
-use Rattle.script_lines_tests.proofs.ground.played.Given as goal
-
-abbrev pub invariant-loop-line : goal.invariant-loop-line
-invariant-loop-line l = AreReached l.link.servers.shape l.jobs

@@ -1,0 +1,81 @@
+//! One connection to a cloud's server.
+
+ghost use Rattle.std.specs.Prelude.{◌≡◌, IsTrue};
+ghost use Rattle.cd_edges.specs.Shelf.{IsCall};
+ghost use Rattle.user_dedup.specs.Exec.{Peer};
+ghost use Rattle.cloud_state.specs.State.{IsSameServer};
+ghost use Rattle.share_server.specs.Serving.{IsServing, number_of, server_serves};
+ghost use Rattle.serve_command.specs.Connection.{EndsWithCause, Serves};
+ghost use Rattle.serve_command.specs.Serving.{RepliesOne, ServesOne, place_of};
+
+use crate::responder::CloudResponder;
+use crate::{Served, serve_frames};
+use cd_edges::{Ports, Shelf};
+use frames::{Framer, ReplyBuf};
+use share_server::Server;
+
+// Serves the connection, and says what the server and its shelf did as the responder that they are.
+fn serve_responder<V: Shelf, P: Ports>(
+    responder: &mut CloudResponder<'_, V>,
+    ports: &mut P,
+    port: u32,
+    framer: &mut Framer,
+    reply: &mut ReplyBuf,
+) -> Served
+    ensures server { responder.new.server.ghost_name ≡ responder.old.server.ghost_name }
+    ensures shelf { responder.new.shelf.ghost_name ≡ responder.old.shelf.ghost_name }
+    ensures served { IsTrue (V.cloud_at responder.old.shelf.now (number_of responder.old.server.now)).told → (p : Peer)
+        → IsServing responder.old.server.now (V.cloud_at responder.old.shelf.now (number_of responder.old.server.now)) p
+        → (q : Peer)
+        × IsServing responder.new.server.now (V.cloud_at responder.new.shelf.now (number_of responder.old.server.now)) q
+        × Serves (ServesOne responder.old.server.now.state.header.shape (server_serves responder.old.server.now))
+        (P.tells ports.old) (P.tells ports.new) port p q result }
+    ensures replied { Serves (RepliesOne responder.old.server.now.state.header.shape)
+        (P.tells ports.old) (P.tells ports.new) port tt tt result }
+    ensures same { IsSameServer responder.old.server.now.state responder.new.server.now.state }
+    ensures call { IsCall (V.cloud_at responder.old.shelf.now) (V.cloud_at responder.new.shelf.now)
+        (number_of responder.old.server.now) (V.faults responder.old.shelf.now) (V.faults responder.new.shelf.now) }
+    ensures told { (P.tells ports.new).told ≡ (P.tells ports.old).told }
+    ensures cause { EndsWithCause result (P.faults ports.old) (P.faults ports.new) }
+{
+    serve_frames(responder, ports, port, framer, reply)
+}
+
+/// Serves the connection on a port by a cloud's server, until its stream ends, a length comes that no frame has, the
+/// ports fail, or 1,099,511,627,776 bytes came. The framer's bytes are forgotten first.
+///
+/// Each frame that comes is a request's content, and is answered by one frame, in order, however the bytes come in
+/// pieces. On a cloud that stands as a peer each reply is the one that the peer's list gives, and the peer goes on by
+/// the requests; `Malformed` is the reply to content that asks nothing. On any other cloud each reply is one that some
+/// server gives to its request.
+///
+/// Where the ports tell their bytes: for `End` the stream ended between frames, and for `Cut` inside one, of which
+/// `got` bytes came; for
+/// `BadLength` in a frame's place stood the length that was found; for `Spent` so many bytes came. In these four all
+/// whole frames that came were answered, and the bytes sent are the frames of the replies. `Failed` comes only where
+/// the ports' count of faults rose; then the frames that were answered are the first of those that came, and the last
+/// reply's frame may be cut short.
+pub fn serve_connection<V: Shelf, P: Ports>(
+    server: &mut Server,
+    shelf: &mut V,
+    ports: &mut P,
+    port: u32,
+    framer: &mut Framer,
+    reply: &mut ReplyBuf,
+) -> Served
+    ensures served { IsTrue (V.cloud_at shelf.old (number_of server.old)).told → (p : Peer)
+        → IsServing server.old (V.cloud_at shelf.old (number_of server.old)) p
+        → (q : Peer) × IsServing server.new (V.cloud_at shelf.new (number_of server.old)) q
+        × Serves (ServesOne server.old.state.header.shape (server_serves server.old))
+        (P.tells ports.old) (P.tells ports.new) port p q result }
+    ensures replied { Serves (RepliesOne server.old.state.header.shape)
+        (P.tells ports.old) (P.tells ports.new) port tt tt result }
+    ensures same { IsSameServer server.old.state server.new.state }
+    ensures call { IsCall (V.cloud_at shelf.old) (V.cloud_at shelf.new) (number_of server.old) (V.faults shelf.old)
+        (V.faults shelf.new) }
+    ensures told { (P.tells ports.new).told ≡ (P.tells ports.old).told }
+    ensures cause { EndsWithCause result (P.faults ports.old) (P.faults ports.new) }
+{
+    let mut responder = CloudResponder { server, shelf };
+    serve_responder(&mut responder, ports, port, framer, reply)
+}

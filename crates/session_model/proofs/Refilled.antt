@@ -1,0 +1,349 @@
+-- A rebuild that brings a version leaves lists at the target that keep it; and a device that fails on the way has its count rise.
+use Rattle.std.proofs.Common.{◌≡◌, ℕ, ◌≤◌, ◌<◌, Bool, true, false, cond, List, [], ◌∷◌, ◌++◌, map, Option, Some, None, Result, Ok, Err, refl, sym, ap, ◌∙◌, subst, inl, inr, ◌⊎◌, arith}
+use Rattle.std.specs.Prelude.{IsTrue, ◌==◌, slice_index, option_map, MatchOption, IsSomeAnd}
+use Rattle.std.specs.List.{Contains, list_all}
+use Rattle.std.proofs.lemmas.List.Elements.{Contains-append_left, Contains-push}
+use Rattle.std.proofs.lemmas.Grind.{flat_map-append}
+use Rattle.std.proofs.lemmas.Option.{same_Some}
+use Rattle.cd_edges.specs.Causes.{Rose}
+use Rattle.cd_base.specs.declared.ids.Tag.{Tag}
+use Rattle.cd_base.specs.declared.ids.UserId.{UserId}
+use Rattle.cd_base.specs.declared.ids.Version.{Version}
+use Rattle.cd_base.specs.declared.shape.Shape.{Shape}
+use Rattle.caont_rs.specs.Package.{share}
+use Rattle.file_recipe.specs.FileRecipe.{secrets}
+use Rattle.reed_solomon.specs.Dispersal.{AreChoice}
+use Rattle.messages.specs.declared.request.Request.{Request}
+use Rattle.messages.specs.declared.reply.Reply.{Reply}
+use Rattle.messages.specs.declared.reply.Reply.TheVariants as replies
+use Rattle.user_dedup.specs.declared.command.Command.{Command}
+use Rattle.user_dedup.specs.declared.file_list.FileEntry.{FileEntry}
+use Rattle.user_dedup.specs.Cloud.{fingerprint, strings_of, user_view}
+use Rattle.user_dedup.specs.Pages.{entry_at, sorted_keys, key_of as key_of_entry}
+use Rattle.user_dedup.specs.Exec.{Peer, MaySettleAs, Exec, ExecTold}
+use Rattle.user_dedup.proofs.Owned.{contains_cases, contains_nothing, contains_here, contains_later}
+use Rattle.user_dedup.proofs.Sound.{found_entry}
+use Rattle.cloud_store.specs.Space.{full_for}
+use Rattle.cloud_store.specs.Contents.{strings_in}
+use Rattle.upload_job.specs.declared.news.LaneNews.TheVariants as lane_news
+use Rattle.upload_job.specs.Upload.{FileVersion, Work, work_of}
+use Rattle.upload_job.specs.Lane.{LaneState, Asking, Sending, Committing, Done, Refused, onward, past_known, lane_request, lane_after, news_of}
+use Rattle.lane_steps.specs.Runs.{Turn, Progress, LaneRun, progress_after}
+use Rattle.kept_files.specs.Kept.{Keeps, key_of}
+use Rattle.rebuild.specs.declared.error.SkipWhy.{SkipWhy}
+use Rattle.rebuild.specs.declared.error.SkipWhy.TheVariants as whys
+use Rattle.rebuild.specs.declared.skips.Rebuilt.{Rebuilt}
+use Rattle.rebuild.specs.Found.{Finding, finding_under, first_of, keys_in}
+use Rattle.rebuild.specs.Rebuilding.{Progressed, nothing_yet, lane_ended, last_said, lane_of, BringsOne, BringsAll, Rebuilds}
+use Rattle.rebuild.proofs.Bringing.{brought_all, first_in, skip_for}
+use Rattle.rebuild.proofs.Finding.{kept_is_found}
+use Rattle.rebuild.proofs.Sorted.{sorted_has}
+use Rattle.rebuild.proofs.Turning.{fault_rose}
+use Rattle.session_model.specs.Vault.{Setting, served_at}
+use Rattle.session_model.proofs.With.{all_counts, one_all}
+use Rattle.session_model.proofs.Growing.{Grows, grows_lane_run, grows_brought}
+use Rattle.session_model.proofs.Committed.{IsUpload, executed_keeps}
+use Rattle.session_model.proofs.Lines.{KeepsAll, keeps_on}
+
+-- ---- where a lane ends
+
+goes_on : (batches : List (List (List ℕ))) → onward batches ≡ Done → ⊥
+goes_on [] e = cc
+goes_on (batch ∷ rest) e = cc
+
+past_by : (b : Bool) (batch : List (List ℕ)) (flags : List ℕ) (rest : List (List (List ℕ))) → cond b (onward rest) (Sending batch flags rest) ≡ Done → ⊥
+past_by true batch flags rest e = goes_on rest e
+past_by false batch flags rest e = cc
+
+past_goes_on : (batch : List (List ℕ)) (flags : List ℕ) (rest : List (List (List ℕ))) → past_known batch flags rest ≡ Done → ⊥
+past_goes_on batch flags rest e = past_by (list_all (λ flag. flag == 1) flags) batch flags rest e
+
+-- a lane that had a request comes to its end by a Commit that is answered so
+done_by : (w : Work) (lane : LaneState) (said : Reply) (request : Request) → lane_request w lane ≡ Some request → lane_after w lane said ≡ Done → (lane ≡ Done) ⊎ ((lane ≡ Committing) × (said ≡ replies.Committed))
+done_by w (Asking batch rest) (replies.Hello n k cloud format) request asked e = absurd cc
+done_by w (Asking batch rest) (replies.Known flags) request asked e = absurd (past_goes_on batch flags rest e)
+done_by w (Asking batch rest) (replies.Stored new) request asked e = absurd cc
+done_by w (Asking batch rest) replies.Committed request asked e = absurd cc
+done_by w (Asking batch rest) replies.Exists request asked e = absurd cc
+done_by w (Asking batch rest) (replies.Lacking place) request asked e = absurd cc
+done_by w (Asking batch rest) (replies.Recipe bytes) request asked e = absurd cc
+done_by w (Asking batch rest) replies.Missing request asked e = absurd cc
+done_by w (Asking batch rest) (replies.Shares shares) request asked e = absurd cc
+done_by w (Asking batch rest) (replies.NotYours place) request asked e = absurd cc
+done_by w (Asking batch rest) (replies.Entries entries) request asked e = absurd cc
+done_by w (Asking batch rest) replies.Deleted request asked e = absurd cc
+done_by w (Asking batch rest) (replies.Full room used need limit) request asked e = absurd cc
+done_by w (Asking batch rest) replies.Fault request asked e = absurd cc
+done_by w (Asking batch rest) (replies.Damaged at byte) request asked e = absurd cc
+done_by w (Asking batch rest) (replies.Rotten named found) request asked e = absurd cc
+done_by w (Asking batch rest) (replies.Malformed at) request asked e = absurd cc
+done_by w (Asking batch rest) replies.NoMemory request asked e = absurd cc
+done_by w (Sending batch flags rest) (replies.Hello n k cloud format) request asked e = absurd cc
+done_by w (Sending batch flags rest) (replies.Known marks) request asked e = absurd cc
+done_by w (Sending batch flags rest) (replies.Stored new) request asked e = absurd (goes_on rest e)
+done_by w (Sending batch flags rest) replies.Committed request asked e = absurd cc
+done_by w (Sending batch flags rest) replies.Exists request asked e = absurd cc
+done_by w (Sending batch flags rest) (replies.Lacking place) request asked e = absurd cc
+done_by w (Sending batch flags rest) (replies.Recipe bytes) request asked e = absurd cc
+done_by w (Sending batch flags rest) replies.Missing request asked e = absurd cc
+done_by w (Sending batch flags rest) (replies.Shares shares) request asked e = absurd cc
+done_by w (Sending batch flags rest) (replies.NotYours place) request asked e = absurd cc
+done_by w (Sending batch flags rest) (replies.Entries entries) request asked e = absurd cc
+done_by w (Sending batch flags rest) replies.Deleted request asked e = absurd cc
+done_by w (Sending batch flags rest) (replies.Full room used need limit) request asked e = absurd cc
+done_by w (Sending batch flags rest) replies.Fault request asked e = absurd cc
+done_by w (Sending batch flags rest) (replies.Damaged at byte) request asked e = absurd cc
+done_by w (Sending batch flags rest) (replies.Rotten named found) request asked e = absurd cc
+done_by w (Sending batch flags rest) (replies.Malformed at) request asked e = absurd cc
+done_by w (Sending batch flags rest) replies.NoMemory request asked e = absurd cc
+done_by w Committing (replies.Hello n k cloud format) request asked e = absurd cc
+done_by w Committing (replies.Known flags) request asked e = absurd cc
+done_by w Committing (replies.Stored new) request asked e = absurd cc
+done_by w Committing replies.Committed request asked e = inr (refl, refl)
+done_by w Committing replies.Exists request asked e = absurd cc
+done_by w Committing (replies.Lacking place) request asked e = absurd (goes_on w.batches e)
+done_by w Committing (replies.Recipe bytes) request asked e = absurd cc
+done_by w Committing replies.Missing request asked e = absurd cc
+done_by w Committing (replies.Shares shares) request asked e = absurd cc
+done_by w Committing (replies.NotYours place) request asked e = absurd cc
+done_by w Committing (replies.Entries entries) request asked e = absurd cc
+done_by w Committing replies.Deleted request asked e = absurd cc
+done_by w Committing (replies.Full room used need limit) request asked e = absurd cc
+done_by w Committing replies.Fault request asked e = absurd cc
+done_by w Committing (replies.Damaged at byte) request asked e = absurd cc
+done_by w Committing (replies.Rotten named found) request asked e = absurd cc
+done_by w Committing (replies.Malformed at) request asked e = absurd cc
+done_by w Committing replies.NoMemory request asked e = absurd cc
+done_by w Done said request asked e = absurd cc
+done_by w Refused said request asked e = absurd cc
+
+-- a lane that didn't stop the rebuild came to its end, or its version is skipped
+ended_by : (key : Tag × Version) (lane : LaneState) (said : Reply) (r : Progressed) → (lane_ended key lane said r).stop ≡ None
+    → (lane ≡ Done) ⊎ Contains (lane_ended key lane said r).skips (skip_for key whys.TargetExists)
+ended_by key (Asking batch rest) said r e = absurd cc
+ended_by key (Sending batch flags rest) said r e = absurd cc
+ended_by key Committing said r e = absurd cc
+ended_by key Done said r e = inl refl
+ended_by key Refused (replies.Hello n k cloud format) r e = absurd cc
+ended_by key Refused (replies.Known flags) r e = absurd cc
+ended_by key Refused (replies.Stored new) r e = absurd cc
+ended_by key Refused replies.Committed r e = absurd cc
+ended_by key Refused replies.Exists r e = inr (Contains-push r.skips (skip_for key whys.TargetExists))
+ended_by key Refused (replies.Lacking place) r e = absurd cc
+ended_by key Refused (replies.Recipe bytes) r e = absurd cc
+ended_by key Refused replies.Missing r e = absurd cc
+ended_by key Refused (replies.Shares shares) r e = absurd cc
+ended_by key Refused (replies.NotYours place) r e = absurd cc
+ended_by key Refused (replies.Entries entries) r e = absurd cc
+ended_by key Refused replies.Deleted r e = absurd cc
+ended_by key Refused (replies.Full room used need limit) r e = absurd cc
+ended_by key Refused replies.Fault r e = absurd cc
+ended_by key Refused (replies.Damaged at byte) r e = absurd cc
+ended_by key Refused (replies.Rotten named found) r e = absurd cc
+ended_by key Refused (replies.Malformed at) r e = absurd cc
+ended_by key Refused replies.NoMemory r e = absurd cc
+
+-- one that stopped it stopped by what was said last
+pub stopped_by : (key : Tag × Version) (lane : LaneState) (said x : Reply) (r : Progressed) → (lane_ended key lane said r).stop ≡ Some x → said ≡ x
+stopped_by key (Asking batch rest) said x r e = same_Some said x e
+stopped_by key (Sending batch flags rest) said x r e = same_Some said x e
+stopped_by key Committing said x r e = same_Some said x e
+stopped_by key Done said x r e = absurd cc
+stopped_by key Refused (replies.Hello n k cloud format) x r e = same_Some (replies.Hello n k cloud format) x e
+stopped_by key Refused (replies.Known flags) x r e = same_Some (replies.Known flags) x e
+stopped_by key Refused (replies.Stored new) x r e = same_Some (replies.Stored new) x e
+stopped_by key Refused replies.Committed x r e = same_Some replies.Committed x e
+stopped_by key Refused replies.Exists x r e = absurd cc
+stopped_by key Refused (replies.Lacking place) x r e = same_Some (replies.Lacking place) x e
+stopped_by key Refused (replies.Recipe bytes) x r e = same_Some (replies.Recipe bytes) x e
+stopped_by key Refused replies.Missing x r e = same_Some replies.Missing x e
+stopped_by key Refused (replies.Shares shares) x r e = same_Some (replies.Shares shares) x e
+stopped_by key Refused (replies.NotYours place) x r e = same_Some (replies.NotYours place) x e
+stopped_by key Refused (replies.Entries entries) x r e = same_Some (replies.Entries entries) x e
+stopped_by key Refused replies.Deleted x r e = same_Some replies.Deleted x e
+stopped_by key Refused (replies.Full room used need limit) x r e = same_Some (replies.Full room used need limit) x e
+stopped_by key Refused replies.Fault x r e = same_Some replies.Fault x e
+stopped_by key Refused (replies.Damaged at byte) x r e = same_Some (replies.Damaged at byte) x e
+stopped_by key Refused (replies.Rotten named found) x r e = same_Some (replies.Rotten named found) x e
+stopped_by key Refused (replies.Malformed at) x r e = same_Some (replies.Malformed at) x e
+stopped_by key Refused replies.NoMemory x r e = same_Some replies.NoMemory x e
+
+-- ---- a rebuild that goes on behind a key, or stops there
+
+abbrev pub Behind : (Peer → Progressed → Type 0) → Progressed → Peer → List (Turn Peer) → Progressed → Peer → Option Reply → Type 0
+Behind Rest next mid rest after new o = MatchOption o (Rest mid next) (λ said. (rest ≡ []) × (after ≡ next) × (new ≡ mid))
+
+-- one that came to its end goes on behind each
+goes_behind : (Rest : Peer → Progressed → Type 0) (next : Progressed) (mid : Peer) (rest : List (Turn Peer)) (after : Progressed) (new : Peer) (o : Option Reply) → next.stop ≡ o → after.stop ≡ None
+    → Behind Rest next mid rest after new o → (o ≡ None) × Rest mid next
+goes_behind Rest next mid rest after new None e goes m = (refl, m)
+goes_behind Rest next mid rest after new (Some said) e goes m = absurd (let k : Some said ≡ None = sym e ∙ (ap (λ (p : Progressed). p.stop) (sym m.1) ∙ goes) in cc)
+
+-- ---- the versions that are kept
+
+strings_later : (old more new : List Command) (string : List ℕ) → new ≡ old ++ more → Contains (strings_in old) string → Contains (strings_in new) string
+strings_later old more new string e has =
+    subst (λ (l : List Command). Contains (strings_in l) string) (sym e)
+    (subst (λ (l : List (List ℕ)). Contains l string) (sym (flat_map-append strings_of old more)) (Contains-append_left (strings_in old) (strings_in more) string has))
+
+strings_pending : (old new : List Command) (string : List ℕ) (o : Option Command) → IsSomeAnd o (λ command. new ≡ old ++ command ∷ []) → Contains (strings_in old) string → Contains (strings_in new) string
+strings_pending old new string None some has = absurd some
+strings_pending old new string (Some command) some has = strings_later old (command ∷ []) new string some has
+
+strings_settled : (p : Peer) (list : List Command) (string : List ℕ) → MaySettleAs p list → Contains (strings_in p.list) string → Contains (strings_in list) string
+strings_settled p list string (inl same) has = subst (λ (l : List Command). Contains (strings_in l) string) (sym same) has
+strings_settled p list string (inr some) has = strings_pending p.list list string p.pending some has
+
+module _ (s : Setting) (c : ℕ) (told : IsTrue (s.told c)) (v : FileVersion) (good : IsUpload v) (Known : List ℕ → Type 0)
+    (apart : (string secret : List ℕ) → Known string → Contains (secrets v.file) secret → fingerprint string ≡ fingerprint (share s.shape c secret) → string ≡ share s.shape c secret) where
+  abbrev AllKnown : Peer → Type 0
+  AllKnown p = (string : List ℕ) → Contains (strings_in p.list) string → Known string
+
+  known_before : (p q : Peer) → Grows p q → AllKnown q → AllKnown p
+  known_before p q grows known string has =
+      let x = grows q.list (inl refl) in
+      known string (strings_later x.0 x.1.0 q.list string x.1.1 (strings_settled p x.0 string x.2 has))
+
+  -- the Commit that brings a lane to its end
+  commit_keeps : (p : Progress) (old mid new : Peer) (request : Request) (reply : Reply) (turns : List (Turn Peer)) (last : Progress) → p.lane.work ≡ work_of s.shape v c → lane_request p.lane.work p.lane.state ≡ Some request
+      → Exec s.shape true (served_at s c) old request reply mid → LaneRun (Exec s.shape true (served_at s c)) (progress_after p reply) mid turns last new → p.lane.state ≡ Committing → reply ≡ replies.Committed
+      → AllKnown mid → KeepsAll s c told v good Known apart new
+  commit_keeps p old mid new request reply turns last work asks exec run at said known =
+      let does : ExecTold (served_at s c) old request reply mid = exec.does in
+      let news : news_of p.lane.state reply ≡ Some lane_news.Committed =
+      subst (λ (st : LaneState). news_of st reply ≡ Some lane_news.Committed) (sym at) (subst (λ (x : Reply). news_of Committing x ≡ Some lane_news.Committed) (sym said) refl) in
+      keeps_on s c told v good Known apart mid new (executed_keeps s.shape c (full_for s.rooms) v good Known apart p.lane request old mid reply work asks does news known)
+      (grows_lane_run s c (progress_after p reply) mid turns last new run)
+
+  run_keeps : (p : Progress) (old : Peer) (turns : List (Turn Peer)) (last : Progress) (new : Peer) → LaneRun (Exec s.shape true (served_at s c)) p old turns last new → p.lane.work ≡ work_of s.shape v c
+      → last.lane.state ≡ Done → AllKnown new → (p.lane.state ≡ Done) ⊎ KeepsAll s c told v good Known apart new
+  run_keeps p old [] last new run work done known = inl (sym (ap (λ (q : Progress). q.lane.state) run.1) ∙ done)
+  run_keeps p old (t ∷ turns) last new run work done known =
+      let mid : Peer = run.3.0 in
+      elim (run_keeps (progress_after p t.reply) mid turns last new run.3.2 work done known) [
+        | inr keeps ↦ inr keeps
+        | inl heard ↦ elim (done_by p.lane.work p.lane.state t.reply t.request run.2 heard) [
+          | inl was ↦ inl was
+          | inr x ↦ inr (commit_keeps p old mid new t.request t.reply turns last work run.2 run.3.1 run.3.2 x.0 x.1
+              (known_before mid new (grows_lane_run s c (progress_after p t.reply) mid turns last new run.3.2) known))
+        ]
+      ]
+
+  -- the lane of the version
+  lane_keeps : (key : Tag × Version) (r next : Progressed) (old : Peer) (turns : List (Turn Peer)) (mid : Peer) → BringsOne s.shape c (served_at s c) key (Ok v) r old turns next mid → next.stop ≡ None
+      → ¬ Contains next.skips (skip_for key whys.TargetExists) → AllKnown mid → KeepsAll s c told v good Known apart mid
+  lane_keeps key r next old turns mid b goes absent known =
+      elim (ended_by key b.0.lane.state b.1 r (sym (ap (λ (p : Progressed). p.stop) b.4) ∙ goes)) [
+        | inr skipped ↦ absurd (absent (subst (λ (p : Progressed). Contains p.skips (skip_for key whys.TargetExists)) (sym b.4) skipped))
+        | inl done ↦ elim (run_keeps (lane_of s.shape c v) old turns b.0 mid b.2 refl done known) [
+          | inl was ↦ absurd (goes_on (work_of s.shape v c).batches was)
+          | inr keeps ↦ keeps
+        ]
+      ]
+
+  -- among all that was found
+  walk : (fs : List Finding) (r after : Progressed) (old new : Peer) (turns : List (Turn Peer)) → BringsAll s.shape c (served_at s c) fs r old turns after new → after.stop ≡ None
+      → (f : Finding) → Contains fs f → f.found ≡ Ok v → ¬ Contains after.skips (skip_for f.key whys.TargetExists) → AllKnown new → KeepsAll s c told v good Known apart new
+  walk [] r after old new turns b goes f has is absent known = absurd (contains_nothing f has)
+  walk (g ∷ gs) r after old new turns b goes f has is absent known =
+      let next : Progressed = b.0 in
+      let mid : Peer = b.1 in
+      let m = goes_behind (λ p q. BringsAll s.shape c (served_at s c) gs q p b.3 after new) next mid b.3 after new next.stop refl goes b.6 in
+      let rest = brought_all s.shape c (full_for s.rooms) gs next after mid new b.3 m.1 goes in
+      elim (contains_cases g gs f has) [
+        | inr later ↦ walk gs next after mid new b.3 m.1 goes f later is absent known
+        | inl same ↦ keeps_on s c told v good Known apart mid new
+            (lane_keeps g.key r next old b.2 mid
+            (subst (λ (o : Result FileVersion SkipWhy). BringsOne s.shape c (served_at s c) g.key o r old b.2 next mid) (ap (λ (x : Finding). x.found) same ∙ is) b.4) m.0
+            (λ skipped. absent (subst (λ (x : Finding). Contains after.skips (skip_for x.key whys.TargetExists)) same (rest.kept (skip_for g.key whys.TargetExists) skipped)))
+            (known_before mid new (grows_brought s c gs next mid b.3 after new m.1) known))
+            (grows_brought s c gs next mid b.3 after new m.1)
+      ]
+
+-- ---- from the keys of the first cloud
+
+contains_map : {A B : Type 0} (g : A → B) (xs : List A) (x : A) → Contains xs x → Contains (map g xs) (g x)
+contains_map g [] x h = absurd (contains_nothing x h)
+contains_map {A} {B} g (y ∷ xs) x h =
+    elim (contains_cases y xs x h) [
+      | inl same ↦ subst (λ (z : A). Contains (map g (y ∷ xs)) (g z)) same (contains_here (g y) (map g xs))
+      | inr later ↦ contains_later (g y) (map g xs) (g x) (contains_map g xs x later)
+    ]
+
+some_entry : (o : Option FileEntry) (bytes : List ℕ) → option_map (λ entry. entry.recipe) o ≡ Some bytes → (entry : FileEntry) × (o ≡ Some entry)
+some_entry None bytes e = absurd (let f : None ≡ Some bytes = e in cc)
+some_entry (Some entry) bytes e = (entry, refl)
+
+has_key : (shape : Shape) (cloud : ℕ) (list : List Command) (user : UserId) (path : List ℕ) (version : Version) (file : List ℕ) → Keeps shape cloud list user path version file
+    → Contains (keys_in shape list user) (key_of shape path version)
+has_key shape cloud list user path version file keeps =
+    let files : List FileEntry = (user_view shape list user).files in
+    let some = some_entry (entry_at files (key_of shape path version)) _ keeps.entry in
+    let found = found_entry files (key_of shape path version) some.0 some.1 in
+    subst (λ (k : Tag × Version). Contains (sorted_keys (map key_of_entry files)) k) found.0 (sorted_has (map key_of_entry files) (key_of_entry some.0) (contains_map key_of_entry files some.0 found.1))
+
+-- A version that all clouds keep which were read, and that isn't skipped, each list keeps that the target may settle as.
+pub refilled : (s : Setting) (c : ℕ) (told : IsTrue (s.told c)) (v : FileVersion) (good : IsUpload v) (Known : List ℕ → Type 0)
+    (apart : (string secret : List ℕ) → Known string → Contains (secrets v.file) secret → fingerprint string ≡ fingerprint (share s.shape c secret) → string ≡ share s.shape c secret)
+    (from : List ℕ) (turns : List (Turn Peer)) (rebuilt : Rebuilt) (before after : ℕ → Peer) → AreChoice s.shape from → ((i : ℕ) → slice_index v.path i < 256) → ((i : ℕ) → slice_index v.file i < 256)
+    → Rebuilds s.shape v.user c (served_at s c) from turns (Ok rebuilt) before after
+    → ((source : ℕ) → Contains from source → Keeps s.shape source (after source).list v.user v.path v.number v.file)
+    → ¬ Contains rebuilt.skipped (skip_for (key_of s.shape v.path v.number) whys.TargetExists)
+    → ((string : List ℕ) → Contains (strings_in (after c).list) string → Known string) → KeepsAll s c told v good Known apart (after c)
+refilled s c told v good Known apart from turns rebuilt before after choice letters bytes r keeps absent known =
+    walk s c told v good Known apart r.found nothing_yet r.last (before c) (after c) turns r.brings (ap (λ (p : Progressed). p.stop) r.ends.1)
+    (finding_under s.shape lists from v.user key)
+    (subst (λ (fs : List Finding). Contains fs (finding_under s.shape lists from v.user key)) (sym r.ends.0)
+    (contains_map (finding_under s.shape lists from v.user) (keys_in s.shape (lists (first_of from)) v.user) key
+    (has_key s.shape (first_of from) (lists (first_of from)) v.user v.path v.number v.file (keeps (first_of from) first))))
+    (kept_is_found s.shape lists v.user v.path v.number v.file from good.path letters bytes good.few choice keeps)
+    (λ skipped. absent (subst (λ (p : Progressed). Contains p.skips (skip_for key whys.TargetExists)) r.ends.1 skipped))
+    known
+  where
+    lists : ℕ → List Command
+    lists cloud = (after cloud).list
+
+    key : Tag × Version
+    key = key_of s.shape v.path v.number
+
+    first : Contains from (first_of from)
+    first = first_in s.shape from choice.count
+
+-- ---- a device of the target that fails
+
+-- the last reply of a lane was fault
+run_rose : (s : Setting) (c : ℕ) (p : Progress) (old : Peer) (turns : List (Turn Peer)) (last : Progress) (new : Peer) → LaneRun (Exec s.shape true (served_at s c)) p old turns last new → last_said turns ≡ Some replies.Fault
+    → Rose old.faults new.faults
+run_rose s c p old [] last new run said = absurd cc
+run_rose s c p old (t ∷ []) last new run said =
+    let mid : Peer = run.3.0 in
+    subst (λ (q : Peer). Rose old.faults q.faults) (sym run.3.2.2)
+    (fault_rose s.shape c (full_for s.rooms) true p.lane.work p.lane.state t.request t.reply old mid run.2 run.3.1 (same_Some t.reply replies.Fault said))
+run_rose s c p old (t ∷ u ∷ turns) last new run said =
+    above old.faults run.3.0.faults new.faults run.3.1.counts.faults (run_rose s c (progress_after p t.reply) run.3.0 (u ∷ turns) last new run.3.2 said)
+  where
+    above : (a b c : ℕ) → a ≤ b → Rose b c → Rose a c
+    above a b c le rose = omega (arith, le, rose)
+
+one_rose : (s : Setting) (c : ℕ) (key : Tag × Version) (found : Result FileVersion SkipWhy) (r : Progressed) (old : Peer) (turns : List (Turn Peer)) (next : Progressed) (mid : Peer)
+    → BringsOne s.shape c (served_at s c) key found r old turns next mid → next.stop ≡ Some replies.Fault → Rose old.faults mid.faults
+one_rose s c key (Err why) r old turns next mid b stop = absurd (let f : None ≡ Some replies.Fault = sym (ap (λ (p : Progressed). p.stop) b.0) ∙ stop in cc)
+one_rose s c key (Ok v) r old turns next mid b stop =
+    let said : b.1 ≡ replies.Fault = stopped_by key b.0.lane.state b.1 replies.Fault r (sym (ap (λ (p : Progressed). p.stop) b.4) ∙ stop) in
+    run_rose s c (lane_of s.shape c v) old turns b.0 mid b.2 (b.3 ∙ ap (λ (x : Reply). Some x) said)
+
+-- a rebuild that this stopped
+pub stop_rose : (s : Setting) (c : ℕ) → s.told c ≡ true → (fs : List Finding) (r : Progressed) (old : Peer) (turns : List (Turn Peer)) (last : Progressed) (new : Peer) → BringsAll s.shape c (served_at s c) fs r old turns last new
+    → r.stop ≡ None → last.stop ≡ Some replies.Fault → Rose old.faults new.faults
+stop_rose s c told [] r old turns last new b none stop = absurd (let f : None ≡ Some replies.Fault = sym none ∙ (sym (ap (λ (p : Progressed). p.stop) b.0) ∙ stop) in cc)
+stop_rose s c told (f ∷ fs) r old turns last new b none stop = by_next b.0.stop refl b.6 (stop_rose s c told fs b.0 b.1 b.3 last new)
+  where
+    by_next : (o : Option Reply) → b.0.stop ≡ o → MatchOption o (BringsAll s.shape c (served_at s c) fs b.0 b.1 b.3 last new) (λ said. (b.3 ≡ []) × (last ≡ b.0) × (new ≡ b.1))
+        → (BringsAll s.shape c (served_at s c) fs b.0 b.1 b.3 last new → b.0.stop ≡ None → last.stop ≡ Some replies.Fault → Rose b.1.faults new.faults) → Rose old.faults new.faults
+    by_next None e m again =
+        above old.faults b.1.faults new.faults (all_counts s c old b.2 b.1 (one_all s c told f.key f.found r old b.2 b.0 b.1 b.4)).faults (again m e stop)
+      where
+        above : (a b c : ℕ) → a ≤ b → Rose b c → Rose a c
+        above a b c le rose = omega (arith, le, rose)
+    by_next (Some said) e m again =
+        subst (λ (q : Peer). Rose old.faults q.faults) (sym m.2) (one_rose s c f.key f.found r old b.2 b.0 b.1 b.4 (ap (λ (p : Progressed). p.stop) (sym m.1) ∙ stop))

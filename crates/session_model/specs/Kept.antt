@@ -1,0 +1,90 @@
+-- Which versions of files were acknowledged, and when two strings clash.
+use Rattle.std.specs.Prelude.{◌≡◌, ◌≢◌, ℕ, ◌+◌, ◌<◌, ◌⊎◌, IsTrue, List, [], ◌∷◌, reverse, slice_get, Some}
+use Rattle.std.specs.List.{Contains, flat_map}
+use Rattle.cd_base.specs.declared.shape.Shape.{Shape}
+use Rattle.user_dedup.specs.Cloud.{fingerprint}
+use Rattle.user_dedup.specs.Exec.{Peer}
+use Rattle.cloud_store.specs.Contents.{strings_in}
+use Rattle.upload_job.specs.Upload.{FileVersion, shares_for}
+use Rattle.kept_files.specs.Kept.{key_of}
+use Rattle.session.specs.declared.event.Event.{Event}
+use Rattle.session.specs.declared.event.Event.TheVariants as events
+use Rattle.transcript.specs.declared.line.Line.{Line}
+use Rattle.transcript.specs.declared.line.SkipWord.{SkipWord}
+use Rattle.transcript.specs.declared.line.Line.TheVariants as lines
+use Rattle.transcript.specs.declared.news.News.TheVariants as news
+use Rattle.session_model.specs.Vault.{Setting}
+use Rattle.session_model.specs.Steps.{Moment, cloud_no, version_of}
+use Rattle.session_model.specs.Run.{Answered, script_of}
+
+abbrev pub upload_of : Event → List FileVersion
+upload_of (events.Upload user path version bytes) = version_of user path version bytes ∷ []
+upload_of (events.Step job lane) = []
+upload_of (events.Lose job lane) = []
+upload_of (events.Drop job lane) = []
+upload_of (events.Finish job) = []
+upload_of (events.Get user path version clouds) = []
+upload_of (events.Arm cloud calls keep) = []
+upload_of (events.Restart cloud) = []
+upload_of (events.List user cloud) = []
+upload_of (events.Replace cloud) = []
+upload_of (events.Rebuild user target from) = []
+
+-- the versions of the jobs, in order
+abbrev pub uploads : List Event → List FileVersion
+uploads script = flat_map upload_of script
+
+-- job J, counted from 1, is the upload of this version
+abbrev pub IsJobOf : List Event → ℕ → FileVersion → Type 0
+IsJobOf script job v = (place : ℕ) × (job ≡ place + 1) × (slice_get (uploads script) place ≡ Some v)
+
+-- an answer says that the cloud committed a job of this version
+abbrev pub Commits : List Event → ℕ → FileVersion → List Line → Type 0
+Commits script cloud v answers =
+    (job : ℕ) × IsJobOf script job v × Contains answers (lines.Step job (cloud_no cloud) news.Committed)
+
+-- The line ends what the cloud keeps: the cloud is replaced, whatever is answered.
+abbrev pub Ends : ℕ → FileVersion → Event → Type 0
+Ends cloud v (events.Replace replaced) = replaced.0 ≡ cloud
+Ends cloud v event = ⊥
+
+-- The answer says that the cloud was rebuilt for the version's user, and that the version wasn't skipped, from clouds that each
+-- had it acknowledged.
+pub record Refills (shape : Shape) (KeptAt : ℕ → Type 0) (cloud : ℕ) (v : FileVersion) (a : Answered) : Type 0 where
+  pub from : List ℕ
+  pub event_is : a.event ≡ events.Rebuild v.user (cloud_no cloud) from
+  pub files : ℕ
+  pub skipped : ℕ
+  pub skips : List Line
+  pub answers_are : a.answers ≡ lines.Rebuilt v.user (cloud_no cloud) files skipped ∷ skips
+  pub brought : (why : SkipWord) → ¬ Contains skips (lines.Skipped (key_of shape v.path v.number).0 v.number why)
+  pub kept : (source : ℕ) → Contains from source → KeptAt source
+
+-- The answered lines, the newest first: the cloud acknowledged the version, and no line since ended that. All clouds that
+-- this goes back to are told.
+abbrev pub Kept : Setting → List Answered → ℕ → FileVersion → Type 0
+Kept s [] cloud v = ⊥
+Kept s (a ∷ earlier) cloud v =
+    IsTrue (s.told cloud) × (Commits (script_of (reverse earlier)) cloud v a.answers
+    ⊎ (Refills s.shape (λ source. Kept s earlier source v) cloud v a
+    ⊎ (Kept s earlier cloud v × ¬ Ends cloud v a.event)))
+
+-- ---- clashes
+
+-- a string is dispersed to the cloud by an upload of these lines, or put there by one of these moments or in the end
+abbrev pub IsDispersed : Shape → List Event → List Moment → (ℕ → Peer) → ℕ → List ℕ → Type 0
+IsDispersed shape script moments last cloud string =
+    ((v : FileVersion) × Contains (uploads script) v × Contains (shares_for shape cloud v.file) string)
+    ⊎ (((m : Moment) × Contains moments m × Contains (strings_in (m.peers cloud).list) string)
+    ⊎ Contains (strings_in (last cloud).list) string)
+
+-- two different strings that are dispersed to one cloud share a SHA-256
+pub record Clash (shape : Shape) (script : List Event) (moments : List Moment) (last : ℕ → Peer) : Type 0 where
+  pub cloud : ℕ
+  pub below : cloud < shape.n
+  pub one : List ℕ
+  pub other : List ℕ
+  pub first : IsDispersed shape script moments last cloud one
+  pub second : IsDispersed shape script moments last cloud other
+  pub different : one ≢ other
+  pub same : fingerprint one ≡ fingerprint other

@@ -1,0 +1,105 @@
+//! What follows of a session that was carried out, whatever carried it out. The calls do nothing.
+
+ghost use Rattle.std.specs.Prelude.{◌≡◌, ◌<◌, ◌≤◌, ◌-◌, ◌^◌, ℕ, List, [], ◌∷◌, ◌++◌, map, Some};
+ghost use Rattle.std.specs.List.{Contains, range_with_len};
+ghost use Rattle.cd_base.specs.declared.ids.CloudNo.{CloudNo};
+ghost use Rattle.cd_base.specs.declared.ids.UserId.{UserId};
+ghost use Rattle.cd_base.specs.declared.ids.Version.{Version};
+ghost use Rattle.cd_base.specs.declared.shape.Shape.{Shape};
+ghost use Rattle.messages.specs.declared.request.Request.{Request};
+ghost use Rattle.user_dedup.specs.declared.command.Command.{Command};
+ghost use Rattle.user_dedup.specs.Cloud.{commands_of};
+ghost use Rattle.user_dedup.specs.Requests.{asker};
+ghost use Rattle.user_dedup.specs.Exec.{Peer};
+ghost use Rattle.lane_steps.specs.Runs.{Turn};
+ghost use Rattle.rebuild.specs.Rebuilding.{IsCut};
+ghost use Rattle.rebuild.specs.Turns.{OwnLanes};
+ghost use Rattle.session.specs.Spelling.{AreClouds, AreSources, Fits};
+ghost use Rattle.session.specs.declared.event.Event.{Event};
+ghost use Rattle.session.specs.declared.event.Event.TheVariants as events;
+ghost use Rattle.transcript.specs.declared.line.Line.{Line};
+ghost use Rattle.session_model.specs.Vault.{Setting, Vault, served_at, with_peer, ExecutesAll};
+ghost use Rattle.session_model.specs.Steps.{Moment, quiet, turn_moment, AllTold, VStep};
+ghost use Rattle.session_model.specs.Run.{IsListIn};
+ghost use Rattle.session_model.specs.Cut.{FinishCut};
+ghost use Rattle.session_model.specs.Faults.{FaultsRose, SaysFault};
+ghost use Rattle.cd_edges.specs.Causes.{Rose};
+ghost use Rattle.cd_edges.specs.Disk.{Cloud};
+ghost use Rattle.session_model.specs.Headline.{Session, Begun, IsRun, GivesAcknowledged, GivesFromMore, DisksKeep, AnswersPrivately, IsPartOf, own_reply};
+
+/// Each reply that speaks of a user's own commands follows from that user's view.
+pub fn law_of_own_replies()
+    ensures { (clouds : ℕ → Cloud) (run : Session) → IsRun clouds run → AnswersPrivately run }
+{}
+
+/// Such a reply follows from the asking user's own commands alone: lists that have the same ones, in the same order, give the same reply,
+/// whatever commands of others lie between them.
+pub fn law_of_own_commands()
+    ensures { (shape : Shape) (cloud : ℕ) (one two : List Command) (request : Request)
+        → commands_of (asker request) two ≡ commands_of (asker request) one
+        → own_reply shape cloud two request ≡ own_reply shape cloud one request }
+{}
+
+/// A get gives each version that its clouds acknowledged, or some of them where the others have none; and each list that
+/// a crash may leave behind the last state keeps what its cloud acknowledged.
+pub fn law_of_acknowledged()
+    ensures given { (clouds : ℕ → Cloud) (run : Session) → IsRun clouds run → GivesAcknowledged run }
+    ensures more { (clouds : ℕ → Cloud) (run : Session) → IsRun clouds run → GivesFromMore run }
+    ensures kept { (clouds new : ℕ → Cloud) (run : Session) → IsRun clouds run → DisksKeep run new }
+{}
+
+/// A list that a cloud had by some moment it also had where a line more was carried out, or a part of one.
+pub fn law_of_moments()
+    ensures later { (s : Setting) (cloud : ℕ) (before : List Moment) (old : Vault) (event : Event) (answers : List Line)
+        (moments : List Moment) (new : Vault) → VStep s old event answers moments new
+        → (list : List Command) → IsListIn s cloud before old.peers list
+        → IsListIn s cloud (before ++ moments) new.peers list }
+    ensures here { (s : Setting) (cloud : ℕ) (before moments : List Moment) (last : ℕ → Peer) (list : List Command)
+        → IsListIn s cloud moments last list → IsListIn s cloud (before ++ moments) last list }
+    ensures part { (s : Setting) (cloud : ℕ) (before : List Moment) (old : Vault) (begun : Begun) (last : ℕ → Peer)
+        → IsPartOf s old begun last → (list : List Command) → IsListIn s cloud before old.peers list
+        → IsListIn s cloud (before ++ begun.moments) last list }
+{}
+
+/// A line that want of memory cut is a part of one that goes on, by a fault of what is left: a finish between two requests, a get before
+/// its clouds have moved, a rebuild between two requests of its target, and each line of which nothing has passed.
+pub fn law_of_parts()
+    ensures finish { (s : Setting) (job : ℕ) (old : Vault) (moments : List Moment) (last : ℕ → Peer)
+        → FinishCut s job (range_with_len 0 s.shape.n) old moments last
+        → IsPartOf s old (record { event = events.Finish job; moments = moments }) last }
+    ensures get { (s : Setting) (old : Vault) (user : UserId) (path : List ℕ) (version : Version) (clouds : List ℕ)
+        → AreSources s.shape clouds
+        → IsPartOf s old (record { event = events.Get user path version clouds; moments = [] }) old.peers }
+    ensures rebuild { (s : Setting) (old : Vault) (user : UserId) (target : CloudNo) (from : List ℕ)
+        (turns : List (Turn Peer)) (at : Peer) → AreClouds s.shape from → ¬ Contains from target.0
+        → ExecutesAll s target.0 (old.peers target.0) turns at
+        → OwnLanes s.shape user target.0 turns
+        → (AllTold s (target.0 ∷ from) → (after : ℕ → Peer)
+        × IsCut s.shape user target.0 (served_at s target.0) from turns old.peers at after)
+        → IsPartOf s old (record {
+          event = events.Rebuild user target from;
+          moments = quiet old.peers ++ map (turn_moment old.peers target.0) turns;
+        }) (with_peer old.peers target.0 at) }
+    ensures unmoved { (s : Setting) (old : Vault) (jobs : ℕ) (event : Event) → Fits s.shape jobs event
+        → IsPartOf s old (record { event = event; moments = [] }) old.peers }
+{}
+
+/// No line lets a cloud's count of faults fall, but for one above its last value.
+pub fn law_of_counts()
+    ensures step { (least : ℕ) → least < 2 ^ 64 → (s : Setting) (cloud : ℕ) (old : Vault) (event : Event)
+        (answers : List Line) (moments : List Moment) (new : Vault) → VStep s old event answers moments new
+        → least ≤ (old.peers cloud).faults → least ≤ (new.peers cloud).faults }
+    // Nor does a whole session, a line that was begun among its lines.
+    ensures session { (least : ℕ) → least < 2 ^ 64 → (clouds : ℕ → Cloud) (run : Session) (cloud : ℕ)
+        → IsRun clouds run → least ≤ (clouds cloud).faults → least ≤ (run.last cloud).faults }
+{}
+
+/// An answer that says `fault` of a cloud is given only where that cloud's count of faults rose in its line. So a session says it of no
+/// cloud whose count didn't rise.
+pub fn law_of_faults()
+    ensures step { (s : Setting) (cloud : ℕ) (old : Vault) (event : Event) (answers : List Line)
+        (moments : List Moment) (new : Vault) → VStep s old event answers moments new
+        → (line : Line) → Contains answers line → SaysFault line event cloud
+        → Rose (old.peers cloud).faults (new.peers cloud).faults }
+    ensures session { (clouds : ℕ → Cloud) (run : Session) → IsRun clouds run → FaultsRose clouds run }
+{}

@@ -1,0 +1,5 @@
+//! Tests of journals in one chain.
+#![tactic(auto)]
+
+#[cfg(test)]
+mod commit_journal_cases;

@@ -1,0 +1,17 @@
+//! Tests of the field, the code, the cipher, dispersal, cuts and recipes.
+#![tactic(auto)]
+
+#[cfg(test)]
+mod aes256_cases;
+#[cfg(test)]
+mod caont_rs_cases;
+#[cfg(test)]
+mod file_recipe_cases;
+#[cfg(test)]
+mod gf256_cases;
+#[cfg(test)]
+mod rabin_chunker_cases;
+#[cfg(test)]
+mod recipe_cases;
+#[cfg(test)]
+mod reed_solomon_cases;

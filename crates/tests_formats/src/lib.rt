@@ -1,0 +1,13 @@
+//! Tests of messages and the bodies of records.
+#![tactic(auto)]
+
+#[cfg(test)]
+mod journal_start_cases;
+#[cfg(test)]
+mod messages_cases;
+#[cfg(test)]
+mod record_bodies_cases;
+#[cfg(test)]
+mod record_body_cases;
+#[cfg(test)]
+mod user_dedup_cases;

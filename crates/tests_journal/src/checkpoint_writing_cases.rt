@@ -1,0 +1,192 @@
+//! Checkpoints that are written, stopped and written again, in either half.
+
+use cd_base::{CloudNo, Shape};
+use cd_edges::{Area, Failed, Shelf};
+use cd_fakes::MemShelf;
+use half_journal::CheckpointWriter;
+use journal_halves::HALF_LEN;
+use journal_start::{Checkpoint, Header, Rooms, Start};
+use mem_disk::Note;
+use std::test::Fail;
+
+const ZERO: CloudNo = CloudNo(0);
+
+// Cloud 0 of the shape 4, 3, in format 2 with the usual rooms: epoch 1, 2 commands, 2 records with the bodies 05 and 0607.
+const WRITTEN: [u8; 76] = [
+    1, 0, 0, 0, 57, 67, 68, 83, 84, 2, 4, 3, 0, 0, 0, 0, 16, 0, 0, 0, 0, 32, 0, 0, 0, 0, 0, 0, 0,
+    4, 0, 0, 0, 0, 0, 128, 0, 0, 0, 4, 0, 0, 0, 0, 0, 0, 0, 0, 1, 0, 0, 0, 0, 0, 0, 0, 2, 0, 0, 0,
+    2, 0, 1, 0, 0, 0, 1, 5, 1, 0, 0, 0, 2, 6, 7, 0,
+];
+
+fn start(records: u32) -> Start {
+    Start {
+        header: Header {
+            format: 2,
+            shape: Shape { n: 4, k: 3 },
+            cloud: ZERO,
+            rooms: Rooms::usual(),
+        },
+        checkpoint: Some(Checkpoint {
+            epoch: 1,
+            commands: 2,
+            records,
+            region: 0,
+            recipes_end: 0,
+        }),
+    }
+}
+
+// Lays a record where one is to come and there is room.
+fn lay<V: Shelf>(writer: &mut CheckpointWriter, shelf: &mut V, body: &[u8]) -> Result<(), Failed> {
+    if body.is_empty() || body.len() > 65_535 {
+        return Err(Failed);
+    }
+    if writer.left() == 0 || writer.used() > 100_000_000 {
+        return Err(Failed);
+    }
+    writer.lay(shelf, ZERO, body)
+}
+
+// Settles a checkpoint all of whose records are laid.
+fn settle<V: Shelf>(writer: &mut CheckpointWriter, shelf: &mut V) -> Result<(), Failed> {
+    if writer.left() != 0 {
+        return Err(Failed);
+    }
+    writer.settle(shelf, ZERO)
+}
+
+// A checkpoint with two records in a half.
+fn write_two<V: Shelf>(
+    writer: &mut CheckpointWriter,
+    shelf: &mut V,
+    half: u8,
+) -> Result<(), Failed> {
+    writer.turn(shelf, ZERO, half.min(1), &start(2))?;
+    lay(writer, shelf, &[5])?;
+    lay(writer, shelf, &[6, 7])?;
+    settle(writer, shelf)
+}
+
+// The first place of a half.
+fn first_of(half: u8) -> u64 {
+    half as u64 * HALF_LEN
+}
+
+// The first bytes of a half, with nines behind its end.
+fn bytes_of<V: Shelf>(shelf: &mut V, half: u8) -> Result<[u8; 76], Failed> {
+    let mut out = [9; 76];
+    shelf.read(ZERO, Area::Journal, first_of(half), &mut out)?;
+    Ok(out)
+}
+
+// Whether a half's first gate is open.
+fn is_open<V: Shelf>(shelf: &mut V, half: u8) -> Result<bool, Failed> {
+    let bytes = bytes_of(shelf, half)?;
+    Ok(bytes[0] == 1)
+}
+
+// How many calls on the cloud came, and how many writes and syncs of them were Ok.
+fn calls(shelf: &MemShelf) -> (u64, u32, u32) {
+    let mut writes = 0u32;
+    let mut syncs = 0u32;
+    let Some(cloud) = shelf.clouds.get(0) else {
+        return (0, 0, 0);
+    };
+    for note in cloud.disk.notes.iter() {
+        match note {
+            Note::Wrote { .. } => writes = writes.saturating_add(1),
+            Note::Synced { .. } => syncs = syncs.saturating_add(1),
+            Note::Emptied | Note::Crashed { .. } => {}
+        }
+    }
+    (cloud.calls, writes, syncs)
+}
+
+#[test]
+fn a_checkpoint_in_bytes(rt: HostRuntime) -> Result<(), Fail> {
+    let mut shelf = MemShelf::of(rt.alloc(), 1, 200, 100, &[])?;
+    let mut writer = CheckpointWriter::make(rt.alloc())?;
+    for half in 0..2u8 {
+        assert_eq!(rt; write_two(&mut writer, &mut shelf, half), Ok(()));
+        assert_eq!(rt; bytes_of(&mut shelf, half), Ok(WRITTEN));
+        assert_eq!(rt;
+            shelf.len(ZERO, Area::Journal),
+            Ok(first_of(half).saturating_add(76))
+        );
+    }
+    Ok(())
+}
+
+// A read of the first place; a 0 there and a sync; the piece, a sync, the gate, a sync. An open gate is closed again.
+#[test]
+fn how_many_calls(rt: HostRuntime) -> Result<(), Fail> {
+    for half in 0..2u8 {
+        let mut shelf = MemShelf::of(rt.alloc(), 1, 200, 100, &[])?;
+        let mut writer = CheckpointWriter::make(rt.alloc())?;
+        assert_eq!(rt; write_two(&mut writer, &mut shelf, half), Ok(()));
+        assert_eq!(rt; calls(&shelf), (7, 3, 3));
+        assert_eq!(rt; write_two(&mut writer, &mut shelf, half), Ok(()));
+        assert_eq!(rt; calls(&shelf), (14, 6, 6));
+    }
+    Ok(())
+}
+
+// The call that is cut, how many bytes of a write it keeps, whether the first gate is open then, and how many writes the
+// next checkpoint makes.
+const STOPS: [(u32, u32, bool, u32); 10] = [
+    (1, 0, false, 3),
+    (1, 1, false, 2),
+    (2, 0, false, 2),
+    (3, 0, false, 2),
+    (3, 30, false, 2),
+    (3, 75, false, 2),
+    (4, 0, false, 2),
+    (5, 0, false, 2),
+    (5, 1, true, 3),
+    (6, 0, true, 3),
+];
+
+// The first gate is open only where its own write put its byte. A torn checkpoint's gate isn't written again, and a whole
+// one comes over it.
+#[test]
+fn a_stop_at_each_call(rt: HostRuntime) -> Result<(), Fail> {
+    for half in 0..2u8 {
+        for (call, keep, opened, more) in STOPS {
+            let mut shelf = MemShelf::of(rt.alloc(), 1, 400, 100, &[])?;
+            let mut writer = CheckpointWriter::make(rt.alloc())?;
+            shelf.arm(ZERO, call, keep);
+            assert_eq!(rt; write_two(&mut writer, &mut shelf, half), Err(Failed));
+            assert_eq!(rt; is_open(&mut shelf, half), Ok(opened));
+            let (_, before, _) = calls(&shelf);
+            assert_eq!(rt; write_two(&mut writer, &mut shelf, half), Ok(()));
+            let (_, after, _) = calls(&shelf);
+            assert_eq!(rt; after, before.saturating_add(more));
+            assert_eq!(rt; bytes_of(&mut shelf, half), Ok(WRITTEN));
+        }
+    }
+    Ok(())
+}
+
+// What waits goes out where the next record has no room behind it in 4 MiB: 63 records of 65,540 bytes and the start are
+// less, 64 are more.
+#[test]
+fn pieces_of_4_mib(rt: HostRuntime) -> Result<(), Fail> {
+    let body = vec![in rt.alloc(); 5u8; 65_535]?;
+    for (records, writes) in [(63u32, 3), (64, 4), (65, 4)] {
+        let mut shelf = MemShelf::of(rt.alloc(), 1, 5_000_000, 20, &[])?;
+        let mut writer = CheckpointWriter::make(rt.alloc())?;
+        let _ = writer.turn(&mut shelf, ZERO, 0, &start(records));
+        for _ in 0..records {
+            assert_eq!(rt; lay(&mut writer, &mut shelf, &body), Ok(()));
+        }
+        assert_eq!(rt; writer.used(), records as u64 * 65_540 + 63);
+        assert_eq!(rt; settle(&mut writer, &mut shelf), Ok(()));
+        let (_, found, _) = calls(&shelf);
+        assert_eq!(rt; found, writes);
+        assert_eq!(rt;
+            shelf.len(ZERO, Area::Journal),
+            Ok(records as u64 * 65_540 + 63)
+        );
+    }
+    Ok(())
+}

@@ -1,0 +1,7 @@
+//! Tests of records checked and taken.
+#![tactic(auto)]
+
+#[cfg(test)]
+mod records;
+#[cfg(test)]
+mod walks;

@@ -1,0 +1,5 @@
+use Rattle.script_lines.specs.Jobs.{AreReached}
+use Rattle.tests_sessions.proofs.ground.played.Given as goal
+
+abbrev pub invariant-loop-line : goal.invariant-loop-line
+invariant-loop-line l = AreReached l.link.servers.shape l.jobs

@@ -1,0 +1,21 @@
+//! Tests of whole sessions.
+#![tactic(auto)]
+
+#[cfg(test)]
+mod ends;
+#[cfg(test)]
+mod generated;
+#[cfg(test)]
+mod gets;
+#[cfg(test)]
+mod ground;
+#[cfg(test)]
+mod one_file;
+#[cfg(test)]
+mod place;
+#[cfg(test)]
+mod sessions;
+#[cfg(test)]
+mod small;
+#[cfg(test)]
+mod stops;

@@ -1,7 +1,0 @@
-//! Whole uploads over clouds in memory.
-#![tactic(auto)]
-
-#[cfg(test)]
-mod batches;
-#[cfg(test)]
-mod lanes;
