@@ -5,59 +5,83 @@ ghost use Rattle.cd_edges.specs.Shelf.{IsCall, HasFailed};
 ghost use Rattle.real_edges.specs.Untold.{cloud_of, untold_is_not};
 
 use crate::Tally;
+use crate::cloud_files::CloudFiles;
 use cd_base::CloudNo;
 use cd_edges::{Area, Failed, Shelf};
-use std::fs::{File, OpenOptions};
-use std::io::{ErrorKind, Read, Seek, SeekFrom, Write};
+use std::io::ErrorKind;
 use std::{fs, io};
 
 /// Clouds that lie in a folder, cloud c in the folder `cloudC` there (C in decimal) in files `journal`, `shares` and `recipes`. An area
 /// whose file isn't there is empty; the first write makes it, and the next sync of the cloud makes its name certain too.
 ///
-/// It tells nothing of what the files hold. Each call that fails is counted: where the system refuses it, where memory runs out, where
-/// `arm` has cut it, and before the first `root` that answered Ok.
+/// The first call to a cloud opens its files and locks its journal, and they stay open until `fresh` or the next `root`. So one process
+/// has a cloud at a time: the call fails where another has it, and changes nothing then; the next call tries again.
+///
+/// It tells nothing of what the files hold. Each call that fails is counted: where the system refuses it, where another process has the
+/// cloud, where memory runs out, where `arm` has cut it, and before the first `root` that answered Ok.
 #[derive(Drop)]
 pub struct DirShelf {
     rt: HostRuntime,
-    root: Option<String>,
+    root: Option<Root>,
     tally: Tally,
     // How many writes and syncs of each cloud are left up to the one that is cut, none where no one is, and what a cut write keeps.
     calls: [u32; 256],
     keep: [u32; 256],
-    // Whether the names of the cloud's files were synced since the last file was made.
-    named: [bool; 256],
 }
 
-fn name_of(area: Area) -> &'static str {
-    match area {
-        Area::Journal => "journal",
-        Area::Shares => "shares",
-        Area::Recipes => "recipes",
+// The folder that was named, and the files of the clouds that were called, by their numbers.
+#[derive(Drop)]
+struct Root {
+    name: String,
+    clouds: Vec<Option<CloudFiles>>,
+}
+
+impl Root {
+    // Makes the folder with its parents. No cloud was called yet.
+    fn make(rt: &HostRuntime, name: &str) -> io::Result<Root> {
+        fs::create_dir_all(rt, name)?;
+        let mut clouds = Vec::new(rt.alloc());
+        for _ in 0..256 {
+            clouds.push(None)?;
+        }
+        Ok(Root {
+            name: String::from_str(rt.alloc(), name)?,
+            clouds,
+        })
     }
-}
 
-// A file that was opened, or None where there is none.
-fn found(opened: io::Result<File>) -> io::Result<Option<File>> {
-    match opened {
-        Ok(file) => Ok(Some(file)),
-        Err(error) if error.kind() == ErrorKind::NotFound => Ok(None),
-        Err(error) => Err(error),
-    }
-}
-
-// Puts what the file has from a place in front of a buffer, as much as fits.
-fn read_from(file: &mut File, at: u64, out: &mut [u8]) -> io::Result<usize>
-    ensures { IfOk result (λ count. count ≤ length out.new) }
-{
-    file.seek(SeekFrom::Start(at))?;
-    let mut count = 0;
-    for _ in 0..out.len() {
-        match file.read(&mut out[count..])? {
-            0 => return Ok(count),
-            more => count += more,
+    // The files of a cloud, which the first call opens, and the folder's name.
+    fn enter(&mut self, rt: &HostRuntime, cloud: CloudNo) -> io::Result<(&mut CloudFiles, &str)> {
+        let name = self.name.as_str();
+        let Some(place) = self.clouds.get_mut(cloud.0 as usize) else {
+            return Err(io::Error::from(ErrorKind::NotFound));
+        };
+        if place.is_none() {
+            *place = Some(CloudFiles::open(rt, name, cloud)?);
+        }
+        match place {
+            Some(files) => Ok((files, name)),
+            None => Err(io::Error::from(ErrorKind::NotFound)),
         }
     }
-    Ok(count)
+
+    // Makes a cloud's areas empty, and closes its files.
+    fn empty(&mut self, rt: &HostRuntime, cloud: CloudNo) -> io::Result<()> {
+        let (files, _) = self.enter(rt, cloud)?;
+        files.empty()?;
+        if let Some(place) = self.clouds.get_mut(cloud.0 as usize) {
+            *place = None;
+        }
+        Ok(())
+    }
+}
+
+// The folder that was named.
+fn named(root: &mut Option<Root>) -> io::Result<&mut Root> {
+    match root {
+        Some(root) => Ok(root),
+        None => Err(io::Error::from(ErrorKind::InvalidInput)),
+    }
 }
 
 impl DirShelf {
@@ -69,143 +93,49 @@ impl DirShelf {
             tally: Tally::new(),
             calls: [0; 256],
             keep: [0; 256],
-            named: [false; 256],
         }
     }
 
     fn try_root(&mut self, name: &str) -> io::Result<()>
         ensures { self.new.tally ≡ self.old.tally }
     {
-        fs::create_dir_all(&self.rt, name)?;
-        self.root = Some(String::from_str(self.rt.alloc(), name)?);
+        self.root = Some(Root::make(&self.rt, name)?);
         Ok(())
     }
 
-    fn root_name(&self) -> io::Result<&str> {
-        match &self.root {
-            Some(name) => Ok(name.as_str()),
-            None => Err(io::Error::from(ErrorKind::InvalidInput)),
-        }
-    }
-
-    fn folder_name(&self, cloud: CloudNo) -> io::Result<String> {
-        let root = self.root_name()?;
-        let number = cloud.0;
-        Ok(format!(in self.rt.alloc(); "{root}/cloud{number}")?)
-    }
-
-    fn file_name(&self, cloud: CloudNo, area: Area) -> io::Result<String> {
-        let folder = self.folder_name(cloud)?;
-        let name = name_of(area);
-        Ok(format!(in self.rt.alloc(); "{folder}/{name}")?)
-    }
-
-    // The file of an area, to be read, or None where there is none.
-    fn to_read(&self, cloud: CloudNo, area: Area) -> io::Result<Option<File>> {
-        let name = self.file_name(cloud, area)?;
-        found(File::open(&self.rt, name.as_str()))
-    }
-
-    // The file of an area, to be written, or None where there is none.
-    fn to_change(&self, cloud: CloudNo, area: Area) -> io::Result<Option<File>> {
-        let name = self.file_name(cloud, area)?;
-        found(OpenOptions::new().write(true).open(&self.rt, name.as_str()))
-    }
-
-    // The file of an area, to be written.
-    fn to_write(&mut self, cloud: CloudNo, area: Area) -> io::Result<File>
+    fn try_len(&mut self, cloud: CloudNo, area: Area) -> io::Result<u64>
         ensures { self.new.tally ≡ self.old.tally }
     {
-        match self.to_change(cloud, area)? {
-            Some(file) => Ok(file),
-            None => self.make(cloud, area),
-        }
+        let (files, _) = named(&mut self.root)?.enter(&self.rt, cloud)?;
+        files.len(area)
     }
 
-    // Makes the file of an area.
-    fn make(&mut self, cloud: CloudNo, area: Area) -> io::Result<File>
-        ensures { self.new.tally ≡ self.old.tally }
+    fn try_read(&mut self, cloud: CloudNo, area: Area, at: u64, out: &mut [u8]) -> io::Result<usize>
+        ensures tally { self.new.tally ≡ self.old.tally }
+        ensures bound { IfOk result (λ count. count ≤ length out.new) }
     {
-        self.named[cloud.0 as usize] = false;
-        let folder = self.folder_name(cloud)?;
-        fs::create_dir_all(&self.rt, folder.as_str())?;
-        let name = self.file_name(cloud, area)?;
-        OpenOptions::new()
-            .write(true)
-            .create(true)
-            .open(&self.rt, name.as_str())
+        let (files, _) = named(&mut self.root)?.enter(&self.rt, cloud)?;
+        files.read(area, at, out)
     }
 
-    fn sync_folder(&self, name: &str) -> io::Result<()> {
-        File::open(&self.rt, name)?.sync_all()
-    }
-
-    // Syncs the folders that hold the cloud's files, the first time and where one was made since.
-    fn sync_names(&mut self, cloud: CloudNo) -> io::Result<()>
-        ensures { self.new.tally ≡ self.old.tally }
-    {
-        if !self.named[cloud.0 as usize] {
-            let folder = self.folder_name(cloud)?;
-            self.sync_folder(folder.as_str())?;
-            self.sync_folder(self.root_name()?)?;
-            self.named[cloud.0 as usize] = true;
-        }
-        Ok(())
-    }
-
-    fn try_len(&self, cloud: CloudNo, area: Area) -> io::Result<u64> {
-        match self.to_read(cloud, area)? {
-            Some(file) => Ok(file.metadata()?.len()),
-            None => Ok(0),
-        }
-    }
-
-    fn try_read(&self, cloud: CloudNo, area: Area, at: u64, out: &mut [u8]) -> io::Result<usize>
-        ensures { IfOk result (λ count. count ≤ length out.new) }
-    {
-        match self.to_read(cloud, area)? {
-            Some(mut file) => read_from(&mut file, at, out),
-            None => Ok(0),
-        }
-    }
-
-    // The system fills a gap before the place with zeros.
     fn try_write(&mut self, cloud: CloudNo, area: Area, at: u64, bytes: &[u8]) -> io::Result<()>
         ensures { self.new.tally ≡ self.old.tally }
     {
-        let mut file = self.to_write(cloud, area)?;
-        file.seek(SeekFrom::Start(at))?;
-        file.write_all(bytes)
+        let (files, _) = named(&mut self.root)?.enter(&self.rt, cloud)?;
+        files.write(&self.rt, area, at, bytes)
     }
 
     fn try_sync(&mut self, cloud: CloudNo, area: Area) -> io::Result<()>
         ensures { self.new.tally ≡ self.old.tally }
     {
-        match self.to_read(cloud, area)? {
-            Some(file) => {
-                file.sync_all()?;
-                self.sync_names(cloud)
-            }
-            None => Ok(()),
-        }
+        let (files, name) = named(&mut self.root)?.enter(&self.rt, cloud)?;
+        files.sync(&self.rt, name, area)
     }
 
-    // Makes an area empty, and syncs it.
-    fn try_empty(&self, cloud: CloudNo, area: Area) -> io::Result<()> {
-        match self.to_change(cloud, area)? {
-            Some(file) => {
-                file.set_len(0)?;
-                file.sync_all()
-            }
-            None => Ok(()),
-        }
-    }
-
-    // The journal goes first: a cloud without one isn't begun, whatever the other two areas hold.
-    fn try_fresh(&self, cloud: CloudNo) -> io::Result<()> {
-        self.try_empty(cloud, Area::Journal)?;
-        self.try_empty(cloud, Area::Shares)?;
-        self.try_empty(cloud, Area::Recipes)
+    fn try_fresh(&mut self, cloud: CloudNo) -> io::Result<()>
+        ensures { self.new.tally ≡ self.old.tally }
+    {
+        named(&mut self.root)?.empty(&self.rt, cloud)
     }
 
     // Counts a fault where there is one.

@@ -2,6 +2,7 @@
 //! nothing of what it holds or passes on.
 #![tactic(auto)]
 
+mod cloud_files;
 mod folder;
 mod sockets;
 mod streams;

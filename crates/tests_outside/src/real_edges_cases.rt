@@ -38,6 +38,77 @@ fn a_folder_keeps_what_was_written(rt: HostRuntime) -> Result<(), Fail> {
     Ok(fs::remove_dir_all(&rt, name.as_str())?)
 }
 
+const TWO: CloudNo = CloudNo(2);
+
+// A shelf over a folder of this process.
+fn shelf_in(rt: HostRuntime, name: &str) -> Result<DirShelf, Fail> {
+    let mut shelf = DirShelf::new(rt);
+    match shelf.root(name) {
+        Ok(()) => Ok(shelf),
+        Err(Failed) => Err(Fail::new("no folder")),
+    }
+}
+
+// The first two bytes of a journal.
+fn journal(shelf: &mut DirShelf) -> Result<[u8; 2], Failed> {
+    let mut out = [9; 2];
+    shelf.read(TWO, Area::Journal, 0, &mut out)?;
+    Ok(out)
+}
+
+#[test]
+fn a_cloud_has_one_shelf(rt: HostRuntime) -> Result<(), Fail> {
+    let parent = env::temp_dir(&rt)?;
+    let id = process::id(rt.process());
+    let name = format!(in rt.alloc(); "{}/cdstore-one-{id}", parent.as_str())?;
+    let mut late = shelf_in(rt, name.as_str())?;
+    let mut second = shelf_in(rt, name.as_str())?;
+    {
+        let mut first = shelf_in(rt, name.as_str())?;
+        // found no file, and doesn't make one when another has
+        assert_eq!(rt; late.len(TWO, Area::Journal), Ok(0));
+        assert_eq!(rt; first.write(TWO, Area::Journal, 0, &[1, 2]), Ok(()));
+        assert_eq!(rt; late.write(TWO, Area::Shares, 0, &[3]), Err(Failed));
+        assert_eq!(rt; second.len(TWO, Area::Shares), Err(Failed));
+        assert_eq!(rt; second.write(TWO, Area::Journal, 0, &[4, 4]), Err(Failed));
+        assert_eq!(rt; second.sync(TWO, Area::Journal), Err(Failed));
+        assert_eq!(rt; second.fresh(TWO), Err(Failed));
+        assert_eq!(rt; second.len(CloudNo(1), Area::Journal), Ok(0));
+        assert_eq!(rt; journal(&mut first), Ok([1, 2]));
+        assert_eq!(rt; first.len(TWO, Area::Shares), Ok(0));
+    }
+    assert_eq!(rt; journal(&mut second), Ok([1, 2]));
+    Ok(fs::remove_dir_all(&rt, name.as_str())?)
+}
+
+#[test]
+fn files_stay_open_until_fresh(rt: HostRuntime) -> Result<(), Fail> {
+    let parent = env::temp_dir(&rt)?;
+    let id = process::id(rt.process());
+    let name = format!(in rt.alloc(); "{}/cdstore-open-{id}", parent.as_str())?;
+    let here = format!(in rt.alloc(); "{}/cloud2", name.as_str())?;
+    let away = format!(in rt.alloc(); "{}/away", name.as_str())?;
+    let mut shelf = shelf_in(rt, name.as_str())?;
+    assert_eq!(rt; shelf.write(TWO, Area::Journal, 0, &[1, 2]), Ok(()));
+    assert_eq!(rt; shelf.sync(TWO, Area::Journal), Ok(()));
+    // no call asks for a name any more
+    fs::rename(&rt, here.as_str(), away.as_str())?;
+    assert_eq!(rt; shelf.write(TWO, Area::Journal, 1, &[3]), Ok(()));
+    assert_eq!(rt; shelf.sync(TWO, Area::Journal), Ok(()));
+    assert_eq!(rt; journal(&mut shelf), Ok([1, 3]));
+    fs::rename(&rt, away.as_str(), here.as_str())?;
+    assert_eq!(rt; shelf.fresh(TWO), Ok(()));
+    assert_eq!(rt; journal(&mut shelf), Ok([9, 9]));
+    assert_eq!(rt; shelf.write(TWO, Area::Journal, 0, &[5, 6]), Ok(()));
+    assert_eq!(rt; journal(&mut shelf), Ok([5, 6]));
+    // the next root is another place
+    assert_eq!(rt; shelf.root(away.as_str()), Ok(()));
+    assert_eq!(rt; journal(&mut shelf), Ok([9, 9]));
+    let mut second = shelf_in(rt, name.as_str())?;
+    assert_eq!(rt; journal(&mut second), Ok([5, 6]));
+    Ok(fs::remove_dir_all(&rt, name.as_str())?)
+}
+
 #[test]
 fn bytes_go_both_ways(rt: HostRuntime) -> Result<(), Fail> {
     // a port that the system has free
