@@ -28,10 +28,7 @@ pub refused : (status : ℕ) (call : Call) (input : Input) (out : Output) (file 
 refused status call input out file text why carries writes = HelloRefused (record {
   why = why;
   writes = writes;
-  dialled = carries.0;
-  opened = carries.1;
-  dials = carries.2;
-  greets = carries.3;
+  meets = carries;
 })
 
 pub through : (status : ℕ) (call : Call) (input : Input) (out : Output) (file text now : List ℕ) (stored : Bool)

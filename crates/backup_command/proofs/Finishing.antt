@@ -8,14 +8,17 @@ use Rattle.cd_edges.specs.Causes.{Rose}
 use Rattle.cd_edges.specs.Ports.{Telling}
 use Rattle.ports_link.specs.declared.judging.Asked.TheVariants.{Backup}
 use Rattle.ports_link.specs.declared.greeting.Greeted.{Greeted}
-use Rattle.ports_link.specs.Dialled.{AreFresh}
-use Rattle.ports_link.specs.Hellos.{GreetsAll, HaveTalks}
+use Rattle.ports_link.specs.Dialled.{AreDialled}
+use Rattle.ports_link.specs.Hellos.{HaveTalks}
+use Rattle.ports_link.specs.Meeting.{MeetsAll}
+use Rattle.ports_link.proofs.Chains.{are_dialled}
 use Rattle.ports_link.proofs.Clouds.{through}
+use Rattle.ports_link.proofs.Opening.{next_apart}
 use Rattle.backup_command.specs.declared.carrying.CarryErr.{CarryErr}
 use Rattle.backup_command.specs.declared.carrying.CarryErr.TheVariants as errors
 use Rattle.backup_command.specs.Lanes.{numbered}
 use Rattle.upload_job.specs.Lanes.{LaneView, lanes_begun}
-use Rattle.backup_command.specs.BackedUp.{Call, HasDialled, Met, version_of}
+use Rattle.backup_command.specs.BackedUp.{Call, Met, version_of}
 use Rattle.backup_command.specs.Steps.{AreGreetedOn, BringsFile, Carries, IsCarryLost, IsNumbered}
 use Rattle.backup_command.proofs.Ordering.{numbered_by, long_numbered}
 
@@ -57,35 +60,38 @@ carried call file dialled shape behind (Err errors.Undialled) text met brings ro
 carried call file dialled shape behind (Err errors.Unheard) text met brings rose = absurd brings
 carried call file dialled shape behind (Err (errors.Refused why)) text met brings rose = absurd brings
 
-module _ (dialled : List ℕ) (opened behind : Telling) (greeted : Greeted)
-    (greets : GreetsAll Backup dialled opened behind (Ok greeted)) where
-  pub lines_are : greeted.lines.items ≡ numbered 0 dialled
+module _ (count : ℕ) (old behind : Telling) (greeted : Greeted)
+    (meets : MeetsAll Backup count old behind (Ok greeted)) where
+  lines_are : greeted.lines.items ≡ numbered 0 meets.0
   lines_are =
-      let w = through Backup opened behind dialled greets.0 greets.1 in
-      greets.2.lines ∙ numbered_by (length dialled) [] greets.0 dialled w.as_asked w.long
+      let w = through Backup count old behind meets.0 meets.1 meets.2 in
+      meets.3.lines ∙ numbered_by (length meets.0) [] meets.1 meets.0 w.as_asked w.long
 
-  pub all_are : length dialled ≡ greeted.shape.n
-  all_are = sym (long_numbered 0 dialled) ∙ sym (ap length lines_are) ∙ greets.2.clouds.0
+  pub all_are : length meets.0 ≡ greeted.shape.n
+  all_are = sym (long_numbered 0 meets.0) ∙ sym (ap length lines_are) ∙ meets.3.clouds.0
 
   pub are_numbered : IsNumbered greeted
-  are_numbered = (dialled, lines_are, all_are)
+  are_numbered = (meets.0, lines_are, all_are)
 
-  pub have_met : (call : Call) → HasDialled call dialled opened → behind.told ≡ opened.told
-      → Met call dialled greeted.shape behind
-  have_met call dials told = record {
-    opened = opened;
-    dials = dials;
-    greetings = greets.0;
-    greets = greets.1;
-    shape_is = greets.2.shape;
-    all = all_are;
-    told = told ∙ dials.told;
-  }
+  pub only_dialled : IsTrue old.told → AreDialled old behind meets.0
+  only_dialled = are_dialled Backup count [] old behind meets.0 (Ok meets.1) meets.2
 
-  pub greeted_on : behind.told ≡ opened.told → (IsTrue opened.told → AreFresh opened dialled)
-      → (IsTrue opened.told → HaveTalks behind greeted.lines.items) → AreGreetedOn behind dialled greeted.lines.items
-  greeted_on told fresh talks = record {
+  pub greeted_on : behind.told ≡ old.told → (IsTrue old.told → HaveTalks behind greeted.lines.items)
+      → AreGreetedOn behind meets.0 greeted.lines.items
+  greeted_on told talks = record {
     lines_are = lines_are;
-    apart = λ t. (fresh (subst IsTrue told t)).apart;
+    apart = λ t. next_apart old.opened meets.0 (only_dialled (subst IsTrue told t)).next;
     talks = λ t. talks (subst IsTrue told t);
   }
+
+pub have_met : (call : Call) (behind : Telling) (greeted : Greeted)
+    (meets : MeetsAll Backup call.addresses call.before behind (Ok greeted)) → behind.told ≡ call.before.told
+    → Met call meets.0 greeted.shape behind
+have_met call behind greeted meets told = record {
+  many = (through Backup call.addresses call.before behind meets.0 meets.1 meets.2).many;
+  greetings = meets.1;
+  meets = meets.2;
+  shape_is = meets.3.shape;
+  all = all_are call.addresses call.before behind greeted meets;
+  told = told;
+}

@@ -1,7 +1,6 @@
 -- What backing up over ports promises.
 use Rattle.std.specs.Prelude.{◌≡◌, ℕ, Bool, IsTrue, ◌↔◌, List, [], ◌∷◌, length, All, Some, Result, Ok, Err}
 use Rattle.std.specs.Prelude.{if◌then◌else◌}
-use Rattle.std.specs.List.{Contains}
 use Rattle.cd_base.specs.declared.ids.UserId.{UserId}
 use Rattle.cd_base.specs.declared.ids.Version.{Version}
 use Rattle.cd_base.specs.declared.shape.Shape.{Shape}
@@ -17,10 +16,10 @@ use Rattle.transcript.specs.declared.line.Line.TheVariants as lines
 use Rattle.transcript.specs.Endings.{ending_text}
 use Rattle.ports_link.specs.declared.judging.Asked.TheVariants as asked
 use Rattle.ports_link.specs.declared.judging.Greeting.{Greeting}
-use Rattle.ports_link.specs.declared.greeting.GreetErr.TheVariants as unmet
+use Rattle.ports_link.specs.declared.meeting.MeetErr.TheVariants as unmet
 use Rattle.ports_link.specs.declared.refused.Refused.{Refused}
-use Rattle.ports_link.specs.Dialled.{Dials}
-use Rattle.ports_link.specs.Hellos.{Greets}
+use Rattle.ports_link.specs.Dialled.{AreDialled}
+use Rattle.ports_link.specs.Meeting.{Meets, MeetsAll}
 use Rattle.ports_link.specs.Refusals.{refused_text}
 use Rattle.backup_command.specs.declared.halt.Halt.{Halt}
 use Rattle.backup_command.specs.declared.halt.Halt.TheVariants as halts
@@ -72,48 +71,36 @@ pub record IsOverlong (status : ℕ) (call : Call) (input : Input) (out : Output
 
 -- ---- up to the Hellos
 
--- All addresses were dialled, in order.
-pub record HasDialled (call : Call) (dialled : List ℕ) (opened : Telling) : Type 0 where
-  pub many : length dialled ≡ call.addresses
-  pub told : opened.told ≡ call.before.told
-  pub dials : IsTrue call.before.told → Dials call.before dialled opened
-
--- An address couldn't be dialled. Those before it were, in order, and nothing is written.
+-- An address couldn't be dialled. Each before it was, in order, and was asked Hello before the next was dialled, and its
+-- reply was as asked. Nothing is written.
 pub record IsUndialled (status : ℕ) (call : Call) (out : Output) : Type 0 where
   pub status_is : status ≡ 9
   pub rose : Rose call.faults_before call.faults_after
   pub silent : IsSilent out
-  pub some : IsTrue call.before.told → (dialled : List ℕ) × Dials call.before dialled call.after
+  pub meets : MeetsAll asked.Backup call.addresses call.before call.after (Err unmet.Undialled)
 
--- The ports failed in a Hello. Nothing is written.
+-- The ports failed in a Hello, and no address behind it was dialled. Nothing is written.
 pub record IsUnheard (status : ℕ) (call : Call) (out : Output) : Type 0 where
   pub status_is : status ≡ 9
   pub rose : Rose call.faults_before call.faults_after
   pub silent : IsSilent out
-  pub dialled : List ℕ
-  pub opened : Telling
-  pub dials : HasDialled call dialled opened
-  pub greets : Greets asked.Backup (length dialled) [] opened dialled (Err unmet.Lost) call.after
+  pub meets : MeetsAll asked.Backup call.addresses call.before call.after (Err unmet.Lost)
 
--- Hello was asked of each port in order, up to the first whose reply isn't as asked: the line says which, and what
--- came.
+-- Addresses were dialled, in order, and each asked Hello before the next was dialled, up to the first whose reply isn't
+-- as asked; none behind it was dialled. The line says which, and what came.
 pub record IsRefused (status : ℕ) (call : Call) (out : Output) : Type 0 where
   pub why : Refused
   pub writes : Writes (refused_text why) 8 out status
-  pub dialled : List ℕ
-  pub opened : Telling
-  pub dials : HasDialled call dialled opened
-  pub greets : Greets asked.Backup (length dialled) [] opened dialled (Err (unmet.Refused why)) call.after
+  pub meets : MeetsAll asked.Backup call.addresses call.before call.after (Err (unmet.Refused why))
 
 -- ---- the lanes
 
--- All addresses were dialled, and Hello was asked of each port, in order: each reply was as asked, so that cloud i of
--- the store is reached on the port that was dialled for address i.
+-- Each address was dialled, in order, and asked Hello before the next was dialled: each reply was as asked, so that cloud
+-- i of the store is reached on the port that was dialled for address i.
 pub record Met (call : Call) (dialled : List ℕ) (shape : Shape) (behind : Telling) : Type 0 where
-  pub opened : Telling
-  pub dials : HasDialled call dialled opened
+  pub many : length dialled ≡ call.addresses
   pub greetings : List Greeting
-  pub greets : Greets asked.Backup (length dialled) [] opened dialled (Ok greetings) behind
+  pub meets : Meets asked.Backup call.addresses [] call.before dialled (Ok greetings) behind
   pub shape_is : All (λ (g : Greeting). (g.n ≡ shape.n) × (g.k ≡ shape.k)) greetings
   pub all : length dialled ≡ shape.n
   pub told : behind.told ≡ call.before.told
@@ -166,9 +153,6 @@ pub data IsBackedUp (status : ℕ) (call : Call) (input : Input) (out : Output) 
 
 -- ---- beside it
 
--- Ports were dialled, and every other port is as it was.
-pub record OnlyDialled (before after : Telling) : Type 0 where
-  pub dialled : List ℕ
-  pub opened : Telling
-  pub dials : Dials before dialled opened
-  pub others : (port : ℕ) → ¬ Contains dialled port → after.port port ≡ opened.port port
+-- Some ports were dialled, and every other port is as it was.
+abbrev pub OnlyDialled : Telling → Telling → Type 0
+OnlyDialled before after = (dialled : List ℕ) × AreDialled before after dialled

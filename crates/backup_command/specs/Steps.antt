@@ -1,5 +1,5 @@
 -- The parts of a backup.
-use Rattle.std.specs.Prelude.{◌≡◌, ℕ, Bool, IsTrue, ◌↔◌, List, [], ◌∷◌, ◌++◌, length, map, All, Some, Result, Ok, Err}
+use Rattle.std.specs.Prelude.{◌≡◌, ℕ, Bool, IsTrue, ◌↔◌, List, ◌∷◌, ◌++◌, length, map, All, Some, Result, Ok, Err}
 use Rattle.cd_base.specs.declared.ids.CloudNo.{CloudNo}
 use Rattle.cd_base.specs.declared.shape.Shape.{Shape}
 use Rattle.cd_edges.specs.Causes.{Rose}
@@ -18,10 +18,11 @@ use Rattle.ports_link.specs.Lines.{line_of}
 use Rattle.ports_link.specs.Tells.{BringsReplies, HasTalk}
 use Rattle.ports_link.specs.declared.judging.Asked.TheVariants as asked
 use Rattle.ports_link.specs.declared.greeting.Greeted.{Greeted}
-use Rattle.ports_link.specs.declared.greeting.GreetErr.TheVariants as unmet
+use Rattle.ports_link.specs.declared.meeting.MeetErr.TheVariants as unmet
 use Rattle.ports_link.specs.declared.refused.Refused.{Refused}
-use Rattle.ports_link.specs.Dialled.{Dials, AreApart}
-use Rattle.ports_link.specs.Hellos.{Greets, HaveTalks, clouds_of}
+use Rattle.ports_link.specs.Dialled.{AreApart}
+use Rattle.ports_link.specs.Hellos.{HaveTalks, clouds_of}
+use Rattle.ports_link.specs.Meeting.{MeetsAll}
 use Rattle.backup_command.specs.declared.halt.Halt.{Halt}
 use Rattle.backup_command.specs.declared.halt.Halt.TheVariants as halts
 use Rattle.backup_command.specs.declared.carrying.CarryErr.{CarryErr}
@@ -29,7 +30,7 @@ use Rattle.backup_command.specs.declared.carrying.CarryErr.TheVariants as carry_
 use Rattle.backup_command.specs.Texts.{text_of, step_line, lane_lines, due_lines}
 use Rattle.backup_command.specs.Said.{greeted}
 use Rattle.backup_command.specs.Lanes.{LaneCame, LaneLost, LanesGo, Tells, TellsUpTo, numbered}
-use Rattle.backup_command.specs.BackedUp.{Call, version_of, HasDialled, Met, AreDone}
+use Rattle.backup_command.specs.BackedUp.{Call, version_of, Met, AreDone}
 
 -- ---- a lane's lines
 
@@ -159,17 +160,15 @@ IsCarryLost result = ⊥
 
 -- an address couldn't be dialled
 abbrev pub DialStopped : Call → Type 0
-DialStopped call = IsTrue call.before.told → (dialled : List ℕ) × Dials call.before dialled call.after
+DialStopped call = MeetsAll asked.Backup call.addresses call.before call.after (Err unmet.Undialled)
 
 -- the ports failed in a Hello
 abbrev pub HelloStopped : Call → Type 0
-HelloStopped call = (dialled : List ℕ) × (opened : Telling) × HasDialled call dialled opened
-    × Greets asked.Backup (length dialled) [] opened dialled (Err unmet.Lost) call.after
+HelloStopped call = MeetsAll asked.Backup call.addresses call.before call.after (Err unmet.Lost)
 
 -- a reply to Hello was refused
 abbrev pub HelloRefused : Call → Refused → Type 0
-HelloRefused call why = (dialled : List ℕ) × (opened : Telling) × HasDialled call dialled opened
-    × Greets asked.Backup (length dialled) [] opened dialled (Err (unmet.Refused why)) call.after
+HelloRefused call why = MeetsAll asked.Backup call.addresses call.before call.after (Err (unmet.Refused why))
 
 -- What became of a file that was read, with the text that is due.
 abbrev pub Carries : Call → List ℕ → Result Bool CarryErr → List ℕ → Type 0

@@ -23,10 +23,11 @@ fn status_of(stored: bool) -> u8
 /// Backs a version of a user's file up to the clouds at these addresses, all of a store and in the order of the clouds,
 /// writes what came of it, and answers the status.
 ///
-/// The source is read to its end, into memory. Then all addresses are dialled, in order, and each is asked Hello, in
-/// order, and each reply is looked at as it comes: they have to be the clouds of one shape of which n is the number
-/// of addresses, each at the address of its number. Then a job is made of the bytes, and its lanes are brought to
-/// their ends, one after another. The lines are written at the end, all at once.
+/// The source is read to its end, into memory. Then each address is dialled, in order, and asked Hello before the next
+/// is dialled, and each reply is looked at as it comes: they have to be the clouds of one shape of which n is the number
+/// of addresses, each at the address of its number. The first that isn't so is the last that is dialled. Then a job is
+/// made of the bytes, and its lanes are brought to their ends, one after another. The lines are written at the end, all
+/// at once.
 ///
 /// | Status | Comes | Written |
 /// |---|---|---|

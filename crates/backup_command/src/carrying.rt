@@ -17,9 +17,7 @@ use crate::news::{put_end, put_line};
 use cd_base::{Bytes, NoMemory, Shape, UserId, Version};
 use cd_edges::Ports;
 use frames::ReplyBuf;
-use ports_link::{
-    Asked, DialErr, GreetErr, Greeted, PortsLink, Refused, dial_all, greet_all, lines_of,
-};
+use ports_link::{Asked, Greeted, MeetErr, PortsLink, Refused, lines_of, meet_all};
 use std::alloc::Global;
 use transcript::Line;
 use upload_job::Job;
@@ -151,8 +149,8 @@ fn carry_greeted<P: Ports>(
     }
 }
 
-/// Carries a file to the clouds at these addresses: dials them, asks Hello of each, and brings each lane of the job
-/// to its end. It answers whether the version is entered at all clouds; the text has the lines then, and where the
+/// Carries a file to the clouds at these addresses: meets them, one after another, and brings each lane of the job to
+/// its end. It answers whether the version is entered at all clouds; the text has the lines then, and where the
 /// ports failed in a lane those so far.
 pub fn carry<P: Ports>(
     alloc: Global,
@@ -187,16 +185,12 @@ pub fn carry<P: Ports>(
         Ok(reply) => reply,
         Err(NoMemory) => return Err(CarryErr::NoMemory),
     };
-    let dialled = match dial_all(alloc, ports, addresses) {
-        Ok(dialled) => dialled,
-        Err(DialErr::Failed) => return Err(CarryErr::Undialled),
-        Err(DialErr::NoMemory) => return Err(CarryErr::NoMemory),
-    };
-    let greeted = match greet_all(alloc, ports, Asked::Backup, dialled.as_slice(), &mut reply) {
+    let greeted = match meet_all(alloc, ports, Asked::Backup, addresses, &mut reply) {
         Ok(greeted) => greeted,
-        Err(GreetErr::Refused(why)) => return Err(CarryErr::Refused(why)),
-        Err(GreetErr::Lost) => return Err(CarryErr::Unheard),
-        Err(GreetErr::NoMemory) => return Err(CarryErr::NoMemory),
+        Err(MeetErr::Undialled) => return Err(CarryErr::Undialled),
+        Err(MeetErr::Refused(why)) => return Err(CarryErr::Refused(why)),
+        Err(MeetErr::Lost) => return Err(CarryErr::Unheard),
+        Err(MeetErr::NoMemory) => return Err(CarryErr::NoMemory),
     };
     carry_greeted(
         alloc, user, path, version, &greeted, file, ports, &mut reply, text,

@@ -24,7 +24,8 @@ use Rattle.ports_link.specs.declared.judging.Greeting.{Greeting}
 use Rattle.ports_link.specs.declared.greeting.Greeted.{Greeted}
 use Rattle.ports_link.specs.Dialled.{AreApart}
 use Rattle.ports_link.specs.Greetings.{HasShape, HaveOneShape, IsOfFirst, IsAsAsked, AreAsAsked}
-use Rattle.ports_link.specs.Hellos.{Greets, AreGreeted, HasClouds, clouds_of, lines_by, AreReached, HaveTalks, hello}
+use Rattle.ports_link.specs.Hellos.{AreGreeted, HasClouds, clouds_of, lines_by, ports_of, AreReached, HaveTalks, hello}
+use Rattle.ports_link.specs.Meeting.{Meets}
 use Rattle.ports_link.proofs.Chains.{SaidHello, all_asked}
 
 -- ---- what the replies say
@@ -69,8 +70,7 @@ clouds_are [] ports e = refl
 clouds_are (g ∷ gs) [] e = absurd (omega (arith, e))
 clouds_are (g ∷ gs) (port ∷ ports) e = ap (λ (l : List ℕ). g.cloud ∷ l) (clouds_are gs ports (omega (arith, e)))
 
-ports_are : (gs : List Greeting) (ports : List ℕ) → length gs ≡ length ports → map (λ (line : CloudNo
-    × ℕ). line.1) (lines_by gs ports) ≡ ports
+ports_are : (gs : List Greeting) (ports : List ℕ) → length gs ≡ length ports → ports_of (lines_by gs ports) ≡ ports
 ports_are [] [] e = refl
 ports_are [] (port ∷ ports) e = absurd (omega (arith, e))
 ports_are (g ∷ gs) [] e = absurd (omega (arith, e))
@@ -160,7 +160,7 @@ pub are_greeted : (asked : Asked) (ports : List ℕ) (gs : List Greeting) (greet
     → AreGreeted asked ports gs greeted
 are_greeted asked ports gs greeted long as_asked first lines = record {
   lines = lines;
-  ports = ap (λ (l : List (CloudNo × ℕ)). map (λ (line : CloudNo × ℕ). line.1) l) lines ∙ ports_are gs ports long;
+  ports = ap ports_of lines ∙ ports_are gs ports long;
   shape = shapes;
   clouds = clouds asked as_asked;
 }
@@ -201,9 +201,6 @@ are_greeted asked ports gs greeted long as_asked first lines = record {
 abbrev HasLine : List (CloudNo × ℕ) → ℕ → ℕ → Type 0
 HasLine [] cloud port = ⊥
 HasLine (line ∷ lines) cloud port = ((line.0.0 ≡ cloud) × (line.1 ≡ port)) ⊎ HasLine lines cloud port
-
-abbrev ports_of : List (CloudNo × ℕ) → List ℕ
-ports_of lines = map (λ (line : CloudNo × ℕ). line.1) lines
 
 line_port : (P : ℕ → Type 0) (lines : List (CloudNo × ℕ)) (cloud port : ℕ) → HasLine lines cloud port
     → All P (ports_of lines) → P port
@@ -350,15 +347,21 @@ have_talks asked ports gs greeted u long as_asked are told apart said cloud has 
       },
     )
 
--- where all were greeted, each reply is as asked, and there are as many as ports
-pub record Whole (asked : Asked) (ports : List ℕ) (all : List Greeting) : Type 0 where
+-- where all were met, each reply is as asked, and there are as many as ports, and as addresses
+pub record Whole (asked : Asked) (count : ℕ) (ports : List ℕ) (all : List Greeting) : Type 0 where
   pub as_asked : AreAsAsked asked (length ports) [] all
   pub long : length all ≡ length ports
+  pub many : length ports ≡ count
 
-pub through : (asked : Asked) (t u : Telling) (ports : List ℕ) (all : List Greeting)
-    → Greets asked (length ports) [] t ports (Ok all) u → Whole asked ports all
-through asked t u ports all greets =
-    let a = all_asked asked (length ports) [] t u ports (Ok all) greets in record {
-      as_asked = subst (λ (l : List Greeting). AreAsAsked asked (length ports) [] l) (sym a.is) a.as_asked;
-      long = ap length a.is ∙ a.long;
+pub through : (asked : Asked) (count : ℕ) (t u : Telling) (ports : List ℕ) (all : List Greeting)
+    → Meets asked count [] t ports (Ok all) u → Whole asked count ports all
+through asked count t u ports all meets =
+    let a = all_asked asked count [] t u ports (Ok all) meets in
+    let long : length all ≡ length ports = ap length a.is ∙ a.long in
+    let many : length ports ≡ count = sym long ∙ a.many in
+    record {
+      as_asked = subst (λ (n : ℕ). AreAsAsked asked n [] all) (sym many)
+          (subst (λ (l : List Greeting). AreAsAsked asked count [] l) (sym a.is) a.as_asked);
+      long = long;
+      many = many;
     }

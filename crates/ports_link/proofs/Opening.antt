@@ -1,55 +1,50 @@
 -- Ports that are dialled one after another.
-use Rattle.std.proofs.Common.{◌≡◌, ◌≢◌, ℕ, ◌<◌, List, [], ◌∷◌, ◌++◌, inl, inr, refl, sym, ◌∙◌, ap, subst, arith}
-use Rattle.std.proofs.lemmas.Bool.{cases_eq}
+use Rattle.std.proofs.Common.{◌≡◌, ◌≢◌, ℕ, suc, ◌≤◌, List, [], ◌∷◌, refl, sym, ◌∙◌, subst, arith}
 use Rattle.std.specs.Prelude.{All}
-use Rattle.std.proofs.lemmas.List.Elements.{All-nil, All-head, All-tail, All-push, All-weaker}
-use Rattle.cd_edges.specs.Ports.{Telling, Port, Opens}
-use Rattle.ports_link.specs.Dialled.{Dials, AreApart, AreFresh}
+use Rattle.std.specs.List.{Contains}
+use Rattle.std.proofs.lemmas.List.Elements.{All-nil, All-cons, All-weaker}
+use Rattle.user_dedup.proofs.Owned.{contains_here, contains_later}
+use Rattle.cd_edges.specs.Ports.{Telling, Opens, OthersStay}
+use Rattle.ports_link.specs.Dialled.{AreNext, AreApart, AreDialled}
 
--- ports that were opened so far, apart and silent
-pub record Stands (t : Telling) (ports : List ℕ) : Type 0 where
-  pub fresh : AreFresh t ports
-  pub below : All (λ port. port < t.opened) ports
+none_below : (n : ℕ) (ports : List ℕ) → AreNext n ports → All (λ p. n ≤ p) ports
+none_below n [] a = All-nil _
+none_below n (port ∷ ports) a =
+    All-cons (λ p. n ≤ p) port ports (omega (arith, a.0))
+    (All-weaker (λ p. suc n ≤ p) (λ p. n ≤ p) (λ p l. omega (arith, l)) ports (none_below (suc n) ports a.1))
 
-pub dials_more : (old t u : Telling) (ports : List ℕ) (port : ℕ) → Dials old ports t → Opens t u port
-    → Dials old (ports ++ port ∷ []) u
-dials_more old t u [] port d opens = (u, subst (λ (x : Telling). Opens x u port) d opens, refl)
-dials_more old t u (first ∷ ports) port d opens = (d.0, d.1, dials_more d.0 t u ports port d.2 opens)
+-- a port is none of those that are opened behind it
+pub not_behind : (n port : ℕ) (ports : List ℕ) → AreNext (suc n) ports → port ≡ n → ¬ Contains ports port
+not_behind n port ports a e c = let above = none_below (suc n) ports a c.0 port c.1 in omega (arith, above, c.2, e)
 
--- nothing comes by it
-pub coming_more : (old t u : Telling) (port : ℕ) → Opens t u port
-    → ((p : ℕ) → (t.port p).to_come ≡ (old.port p).to_come) → (p : ℕ) → (u.port p).to_come ≡ (old.port p).to_come
-coming_more old t u port opens before p =
-    elim (cases_eq p port) [
-      | inl same ↦ subst (λ (n : ℕ). (u.port n).to_come ≡ (old.port n).to_come) (sym same)
-          (opens.to_come ∙ before port)
-      | inr apart ↦ ap (λ (x : Port). x.to_come) (opens.others p apart) ∙ before p
-    ]
+pub next_apart : (n : ℕ) (ports : List ℕ) → AreNext n ports → AreApart ports
+next_apart n [] a = tt
+next_apart n (port ∷ ports) a = (
+  All-weaker (λ p. suc n ≤ p) (λ other. other ≢ port) (λ p l e. omega (arith, l, e, a.0)) ports
+      (none_below (suc n) ports a.1),
+  next_apart (suc n) ports a.1,
+)
 
-pub stands_none : (t : Telling) → Stands t []
-stands_none t = record { fresh = record { apart = tt; silent = All-nil _ }; below = All-nil _ }
+not_here : (port other : ℕ) (rest : List ℕ) → ¬ Contains (port ∷ rest) other → other ≢ port
+not_here port other rest none e = none (subst (λ (n : ℕ). Contains (port ∷ rest) n) (sym e) (contains_here port rest))
 
-apart_more : (ports : List ℕ) (port : ℕ) → AreApart ports → All (λ p. p < port) ports → AreApart (ports ++ port ∷ [])
-apart_more [] port apart below = (All-nil _, tt)
-apart_more (first ∷ ports) port apart below =
-    let less : first < port = All-head (λ p. p < port) first ports below in (
-      All-push (λ other. other ≢ first) ports port apart.0 (λ e. omega (arith, less, e)),
-      apart_more ports port apart.1 (All-tail (λ p. p < port) first ports below),
-    )
+pub none_dialled : (t : Telling) → AreDialled t t []
+none_dialled t = record { next = tt; others = λ port none. refl }
 
-pub stands_more : (t u : Telling) (ports : List ℕ) (port : ℕ) → Stands t ports → Opens t u port
-    → Stands u (ports ++ port ∷ [])
-stands_more t u ports port s opens = record {
-  fresh = record {
-    apart = apart_more ports port s.fresh.apart (subst (λ (n : ℕ). All (λ p. p < n) ports) (sym opens.next) s.below);
-    silent = All-push (λ p. (u.port p).sent ≡ []) ports port (kept ports s.fresh.silent s.below) opens.fresh;
-  };
-  below = All-push (λ p. p < u.opened) ports port
-      (All-weaker (λ p. p < t.opened) (λ p. p < u.opened) (λ p l. omega (arith, l, opens.opened)) ports s.below)
-      (omega (arith, opens.next, opens.opened));
+pub one_dialled : (t opened u : Telling) (port : ℕ) → Opens t opened port → OthersStay opened u port
+    → AreDialled t u (port ∷ [])
+one_dialled t opened u port opens stays = record {
+  next = (opens.next, tt);
+  others = λ other none.
+      let apart = not_here port other [] none in stays other apart ∙ opens.others other apart;
 }
-  where
-    kept : (ps : List ℕ) → All (λ p. (t.port p).sent ≡ []) ps → All (λ p. p < t.opened) ps
-        → All (λ p. (u.port p).sent ≡ []) ps
-    kept ps silent below k d lt = ap (λ (p : Port). p.sent) (opens.others _ (λ e. omega
-        (arith, e, below k d lt, opens.next))) ∙ silent k d lt
+
+pub more_dialled : (t opened mid u : Telling) (port : ℕ) (ports : List ℕ) → Opens t opened port
+    → OthersStay opened mid port → mid.opened ≡ opened.opened → AreDialled mid u ports
+    → AreDialled t u (port ∷ ports)
+more_dialled t opened mid u port ports opens stays same d = record {
+  next = (opens.next, subst (λ (n : ℕ). AreNext n ports) (same ∙ opens.opened) d.next);
+  others = λ other none.
+      let apart = not_here port other ports none in
+      d.others other (λ c. none (contains_later port ports other c)) ∙ stays other apart ∙ opens.others other apart;
+}

@@ -69,6 +69,7 @@ fn send_by<P: Ports>(
     ensures part { IsTrue (P.tells ports.old).told
         → OnErr result (SentPart (P.tells ports.old) (P.tells ports.new) port (frame content.now)) }
     ensures others { IsTrue (P.tells ports.old).told → OthersStay (P.tells ports.old) (P.tells ports.new) port }
+    ensures opened { IsTrue (P.tells ports.old).told → (P.tells ports.new).opened ≡ (P.tells ports.old).opened }
     ensures told { (P.tells ports.new).told ≡ (P.tells ports.old).told }
     ensures cause { HasCause (P.faults ports.old) (P.faults ports.new) result }
 {
@@ -92,6 +93,7 @@ pub fn send_frame<P: Ports>(ports: &mut P, port: u32, request: &[u8]) -> Result<
     ensures part { IsTrue (P.tells ports.old).told
         → OnErr result (SentPart (P.tells ports.old) (P.tells ports.new) port (frame request.now)) }
     ensures others { IsTrue (P.tells ports.old).told → OthersStay (P.tells ports.old) (P.tells ports.new) port }
+    ensures opened { IsTrue (P.tells ports.old).told → (P.tells ports.new).opened ≡ (P.tells ports.old).opened }
     ensures told { (P.tells ports.new).told ≡ (P.tells ports.old).told }
     ensures cause { HasCause (P.faults ports.old) (P.faults ports.new) result }
 {
@@ -116,6 +118,7 @@ fn take_some<P: Ports>(
     ensures ended { IsTrue (P.tells ports.old).told
         → IfOk result (λ count. count ≡ 0 → Ended (P.tells ports.old) (P.tells ports.new) port) }
     ensures others { IsTrue (P.tells ports.old).told → OthersStay (P.tells ports.old) (P.tells ports.new) port }
+    ensures opened { IsTrue (P.tells ports.old).told → (P.tells ports.new).opened ≡ (P.tells ports.old).opened }
     ensures told { (P.tells ports.new).told ≡ (P.tells ports.old).told }
     ensures cause { HasCause (P.faults ports.old) (P.faults ports.new) result }
 {
@@ -143,6 +146,7 @@ fn take_content<P: Ports>(
     ensures cut { IsTrue (P.tells ports.old).told
         → IfOk result (λ all. IsFalse all → Cut (P.tells ports.old) (P.tells ports.new) port count) }
     ensures others { IsTrue (P.tells ports.old).told → OthersStay (P.tells ports.old) (P.tells ports.new) port }
+    ensures opened { IsTrue (P.tells ports.old).told → (P.tells ports.new).opened ≡ (P.tells ports.old).opened }
     ensures told { (P.tells ports.new).told ≡ (P.tells ports.old).told }
     ensures cause { HasCause (P.faults ports.old) (P.faults ports.new) result }
 {
@@ -167,6 +171,7 @@ fn take_frame<P: Ports>(ports: &mut P, port: u32, reply: &mut ReplyBuf) -> Resul
     ensures none { IsTrue (P.tells ports.old).told
         → IfOk result (λ all. IsFalse all → CameNone (P.tells ports.old) (P.tells ports.new) port) }
     ensures others { IsTrue (P.tells ports.old).told → OthersStay (P.tells ports.old) (P.tells ports.new) port }
+    ensures opened { IsTrue (P.tells ports.old).told → (P.tells ports.new).opened ≡ (P.tells ports.old).opened }
     ensures told { (P.tells ports.new).told ≡ (P.tells ports.old).told }
     ensures cause { HasCause (P.faults ports.old) (P.faults ports.new) result }
 {
@@ -198,6 +203,7 @@ pub fn exchange<P: Ports>(
         → IfOk result (λ all. IsFalse all → Broke (P.tells ports.old) (P.tells ports.new) port request.now) }
     ensures empty { IfOk result (λ all. IsFalse all → reply.new ≡ []) }
     ensures others { IsTrue (P.tells ports.old).told → OthersStay (P.tells ports.old) (P.tells ports.new) port }
+    ensures opened { IsTrue (P.tells ports.old).told → (P.tells ports.new).opened ≡ (P.tells ports.old).opened }
     ensures told { (P.tells ports.new).told ≡ (P.tells ports.old).told }
     ensures cause { HasCause (P.faults ports.old) (P.faults ports.new) result }
 {

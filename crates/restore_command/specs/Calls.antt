@@ -1,6 +1,5 @@
 -- A restore over ports: what it is asked for, and the ports around it.
-use Rattle.std.specs.Prelude.{◌≡◌, ℕ, IsTrue, List, length, map, Ok}
-use Rattle.std.specs.List.{Contains}
+use Rattle.std.specs.Prelude.{ℕ, List, map, Ok}
 use Rattle.cd_base.specs.declared.ids.CloudNo.{CloudNo}
 use Rattle.cd_base.specs.declared.ids.Tag.{Tag}
 use Rattle.cd_base.specs.declared.ids.UserId.{UserId}
@@ -10,8 +9,8 @@ use Rattle.caont_rs.specs.Package.{tag as tag_at}
 use Rattle.cd_edges.specs.Ports.{Telling}
 use Rattle.ports_link.specs.declared.greeting.Greeted.{Greeted}
 use Rattle.ports_link.specs.declared.judging.Asked.TheVariants as asked
-use Rattle.ports_link.specs.Dialled.{Dials}
-use Rattle.ports_link.specs.Hellos.{GreetsAll}
+use Rattle.ports_link.specs.Dialled.{AreDialled}
+use Rattle.ports_link.specs.Meeting.{MeetsAll}
 
 -- What is asked for, of how many addresses, what the ports tell before and after it, and how often they have failed.
 pub record Call : Type 0 where
@@ -36,19 +35,11 @@ named_in lines = map (λ (line : CloudNo × ℕ). line.0) lines
 abbrev pub ports_of : List (CloudNo × ℕ) → List ℕ
 ports_of lines = map (λ (line : CloudNo × ℕ). line.1) lines
 
--- All addresses were dialled, in order. Then Hello was asked of each port, in order, and each reply was as asked: they
--- are as many clouds of a shape as give a file back, or more, and they rise.
-pub record Met (call : Call) (greeted : Greeted) (behind : Telling) : Type 0 where
-  pub dialled : List ℕ
-  pub many : length dialled ≡ call.addresses
-  pub opened : Telling
-  pub told : opened.told ≡ call.before.told
-  pub dials : IsTrue call.before.told → Dials call.before dialled opened
-  pub greets : GreetsAll asked.Restore dialled opened behind (Ok greeted)
+-- Each address was dialled, in order, and asked Hello before the next was dialled, and each reply was as asked: they are
+-- as many clouds of a shape as give a file back, or more, and they rise.
+abbrev pub Met : Call → Greeted → Telling → Type 0
+Met call greeted behind = MeetsAll asked.Restore call.addresses call.before behind (Ok greeted)
 
--- Ports were dialled, and every other port is as it was.
-pub record OnlyDialled (before after : Telling) : Type 0 where
-  pub dialled : List ℕ
-  pub opened : Telling
-  pub dials : Dials before dialled opened
-  pub others : (port : ℕ) → ¬ Contains dialled port → after.port port ≡ opened.port port
+-- Some ports were dialled, and every other port is as it was.
+abbrev pub OnlyDialled : Telling → Telling → Type 0
+OnlyDialled before after = (dialled : List ℕ) × AreDialled before after dialled

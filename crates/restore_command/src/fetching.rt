@@ -9,7 +9,7 @@ use crate::greeted::restore_greeted;
 use cd_base::{Bytes, NoMemory, UserId, Version};
 use cd_edges::Ports;
 use frames::ReplyBuf;
-use ports_link::{Asked, DialErr, GreetErr, Refused, dial_all, greet_all};
+use ports_link::{Asked, MeetErr, Refused, meet_all};
 use restore_job::RestoreErr;
 use std::alloc::Global;
 use subset_restore::as_refusal;
@@ -42,7 +42,7 @@ fn fetch_err(error: RestoreErr) -> FetchErr
     }
 }
 
-/// Fetches a version of a file: dials the addresses, asks Hello of each, and restores it from any k of these clouds.
+/// Fetches a version of a file: meets the clouds at the addresses, one after another, and restores it from any k of them.
 pub fn fetch<P: Ports>(
     alloc: Global,
     user: UserId,
@@ -74,16 +74,12 @@ pub fn fetch<P: Ports>(
         Ok(reply) => reply,
         Err(NoMemory) => return Err(FetchErr::NoMemory),
     };
-    let dialled = match dial_all(alloc, ports, addresses) {
-        Ok(dialled) => dialled,
-        Err(DialErr::Failed) => return Err(FetchErr::Lost),
-        Err(DialErr::NoMemory) => return Err(FetchErr::NoMemory),
-    };
-    let greeted = match greet_all(alloc, ports, Asked::Restore, dialled.as_slice(), &mut reply) {
+    let greeted = match meet_all(alloc, ports, Asked::Restore, addresses, &mut reply) {
         Ok(greeted) => greeted,
-        Err(GreetErr::Refused(why)) => return Err(FetchErr::Hello(why)),
-        Err(GreetErr::Lost) => return Err(FetchErr::Lost),
-        Err(GreetErr::NoMemory) => return Err(FetchErr::NoMemory),
+        Err(MeetErr::Undialled) => return Err(FetchErr::Lost),
+        Err(MeetErr::Refused(why)) => return Err(FetchErr::Hello(why)),
+        Err(MeetErr::Lost) => return Err(FetchErr::Lost),
+        Err(MeetErr::NoMemory) => return Err(FetchErr::NoMemory),
     };
     match restore_greeted(alloc, user, path, version, &greeted, ports, file) {
         Ok(()) => Ok(()),

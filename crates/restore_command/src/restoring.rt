@@ -14,9 +14,10 @@ use std::alloc::Global;
 /// Restores a version of a user's file from the clouds at these addresses, as many as give a file back or more and in
 /// the order of the clouds, writes its bytes, and answers the status.
 ///
-/// All addresses are dialled, in order. Then each is asked Hello, in order, and each reply is looked at as it comes:
-/// they have to be clouds of one shape of which k is at most the number of addresses, and to rise. Then the version is
-/// restored into memory, from any k of them as `subset_restore::restore_any` does it, and written.
+/// Each address is dialled, in order, and asked Hello before the next is dialled, and each reply is looked at as it
+/// comes: they have to be clouds of one shape of which k is at most the number of addresses, and to rise. The first that
+/// isn't so is the last that is dialled. Then the version is restored into memory, from any k of them as
+/// `subset_restore::restore_any` does it, and written.
 ///
 /// | Status | Comes | Written |
 /// |---|---|---|

@@ -182,6 +182,21 @@ fn refused_hellos(rt: HostRuntime) -> Result<(), Fail> {
     Ok(())
 }
 
+// Where there is no stream behind the last of these Hellos, one more dial would fail.
+#[test]
+fn no_cloud_behind_is_dialled(rt: HostRuntime) -> Result<(), Fail> {
+    let wrong = [right()[0], hello(4, 2, 1)];
+    let mut ports = ports_of(rt.alloc(), wrong.as_slice(), &[], &[])?;
+    let line = b"refused hello 1 4 2 1\n";
+    assert!(rt; comes_to(rt.alloc(), &mut ports, &[], &[], (8, line))?);
+    // the third can't be dialled, and just Hello was asked of the two before it
+    let mut ports = ports_of(rt.alloc(), &right()[..2], &[], &[])?;
+    assert!(rt; comes_to(rt.alloc(), &mut ports, &[], &[], (9, b""))?);
+    assert_eq!(rt; ports.sent(0), [0, 0, 0, 1, 1].as_slice());
+    assert_eq!(rt; ports.sent(1), [0, 0, 0, 1, 1].as_slice());
+    Ok(())
+}
+
 #[test]
 fn whole_or_open(rt: HostRuntime) -> Result<(), Fail> {
     let whole: [&[u8]; 4] = [TAKES, TAKES, TAKES, TAKES];

@@ -300,3 +300,15 @@ fn each_failing_call(rt: HostRuntime) -> Result<(), Fail> {
     assert!(rt; holds(rt.alloc(), Case::Failing)?);
     Ok(())
 }
+
+#[test]
+fn no_cloud_behind_is_dialled(rt: HostRuntime) -> Result<(), Fail> {
+    // the second is the first again, and a dial of the third would fail
+    let mut ports = MemPorts::of(rt.alloc(), 100, 3, &[])?;
+    ports.add_stream(rt.alloc(), &[0, 0, 0, 5, 0x81, 4, 3, 1, 1])?;
+    ports.add_stream(rt.alloc(), &[0, 0, 0, 5, 0x81, 4, 3, 1, 1])?;
+    let mut sink = MemSink::of(rt.alloc(), 100, 100, &[])?;
+    assert_eq!(rt; outcome(rt.alloc(), 1, 3, &mut ports, &mut sink)?, 8);
+    assert_eq!(rt; sink.written(), b"refused hello 1 4 3 1\n".as_slice());
+    Ok(())
+}
