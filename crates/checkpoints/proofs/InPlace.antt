@@ -5,14 +5,14 @@ use Rattle.cd_edges.specs.declared.area.Area.{Area}
 use Rattle.cd_edges.specs.declared.area.Area.TheVariants.{Journal, Shares, Recipes}
 use Rattle.cd_edges.specs.Disk.{Store, Image, Cloud, LeavesOnly, IsAtArea, reads}
 use Rattle.cd_edges.specs.Shelf.{stable}
-use Rattle.cd_edges.proofs.Moments.{weaker}
+use Rattle.cd_edges.proofs.Moments.{weaker, started}
 use Rattle.commit_journal.specs.Records.{IsJournal}
 use Rattle.container_log.specs.Laying.{Placed}
 use Rattle.container_log.specs.States as logs
 use Rattle.cd_base.specs.declared.place.Place.{Place}
 use Rattle.journal_start.specs.declared.start.Header.{Header}
 use Rattle.journal_halves.specs.Halves.{half_limit, half_of}
-use Rattle.journal_halves.specs.Journals.{all_bodies, HasChain, IsEither}
+use Rattle.journal_halves.specs.Journals.{Where, all_bodies, HasChain, IsEither}
 use Rattle.half_journal.specs.States as journals
 use Rattle.record_bodies.specs.Spelling.{Body}
 use Rattle.user_dedup.specs.declared.command.Command.{Command}
@@ -22,9 +22,19 @@ use Rattle.cloud_areas.specs.Standing.{Chain, where_of, region_in, IsChain, Hold
 use Rattle.cloud_disk.specs.Held.{LieIn}
 use Rattle.cloud_disk.specs.Disk.{Disk, IsBehind, IsOn}
 use Rattle.cloud_disk.proofs.Standing.{stands, holds_in}
+use Rattle.cloud_disk.proofs.Adding.{chain_there}
 use Rattle.cloud_disk.proofs.Both.{as_read}
 use Rattle.cloud_disk.proofs.Holding.{agrees_as}
 use Rattle.checkpoints.specs.Settling.{checkpoint_of, IsSummed, KeepsList}
+
+-- where nothing was done the chain that was read is there
+pub ended_still : (journal : journals.State) (c0 : Cloud) (w next : Where) → journals.IsEnded journal (c0.now Journal) w
+    → LeavesOnly c0 c0 (IsAtArea c0.now Journal (IsEither w next))
+ended_still journal c0 w next ended =
+    started c0 _ (λ image left. record {
+      area = inl (subst (λ (j : List ℕ). HasChain j w) (sym (as_read (c0.now Journal) (image Journal) ended.read.synced (left Journal))) (chain_there journal (c0.now Journal) w ended));
+      others = λ other away. left other;
+    })
 
 module _ (header : Header) (list : List Command) (c : Chain) (commands count region : ℕ) (bodies : List Body) (recipes : List Placed) (disk : Disk) (c0 : Cloud)
     (p : IsSummed header list c (checkpoint_of c header commands count region bodies recipes) disk c0) where

@@ -10,7 +10,7 @@ ghost use Rattle.half_journal.specs.Outcomes.{stage_after};
 ghost use Rattle.user_dedup.specs.declared.command.Command.{Command};
 ghost use Rattle.cloud_areas.specs.Standing.{Chain};
 ghost use Rattle.cloud_disk.specs.Disk.{IsOn};
-ghost use Rattle.checkpoints.specs.Laying.{records_len};
+ghost use Rattle.checkpoints.specs.Laying.{records_len, KeepsOrSettles, HasSettled};
 ghost use Rattle.checkpoints.specs.Settling.{checkpoint_of, IsSummed, KeepsList, KeepsOthers};
 
 use crate::{CheckpointRecords, lay_checkpoint};
@@ -22,7 +22,8 @@ use record_bodies::BodyBuf;
 
 /// Puts a checkpoint of so many records, which stands for so many commands and whose blobs lie in this region, in the place of
 /// the chain of a cloud's journal. Where the checkpoint says the list that the chain says, the cloud stands for it whenever a
-/// crash comes, and after Ok the disk stands for it by the checkpoint's chain. No area but the journal is written.
+/// crash comes, and after Ok the disk stands for it by the checkpoint's chain. Whatever the records say, each image since has the
+/// chain that was there or the checkpoint's, and after Ok the checkpoint's. No area but the journal is written.
 ///
 /// Failed comes only where the cloud's count of faults rose, and then the journal is shut. The logs are as they were. It takes
 /// no memory.
@@ -59,6 +60,12 @@ pub fn checkpoint<V: Shelf, R: CheckpointRecords>(
         → OnOk result (IsOn header.now list
         (checkpoint_of c header.now commands count region (R.to_come records.old) recipes)
         disk.new (V.cloud_at shelf.new cloud.0)) }
+    // whatever the records say
+    ensures chain { KeepsOrSettles disk.old.journal header.now commands count region (R.to_come records.old)
+        (V.cloud_at shelf.old cloud.0) (V.cloud_at shelf.new cloud.0) }
+    ensures taken { HasSettled disk.old.journal disk.new.journal header.now commands count region
+        (R.to_come records.old)
+        (V.cloud_at shelf.old cloud.0) (V.cloud_at shelf.new cloud.0) result }
     ensures others { OthersStay (V.cloud_at shelf.old cloud.0) (V.cloud_at shelf.new cloud.0) result }
     ensures stage { disk.new.journal.stage ≡ stage_after AtEnd result }
     ensures gate { OnOk result (disk.new.journal.current.gate + 1 ≡ 63 + records_len (R.to_come records.old)) }

@@ -9,7 +9,7 @@ ghost use Rattle.half_journal.specs.Leaving.{OthersStay};
 ghost use Rattle.half_journal.specs.declared.journal.Stage.TheVariants.{AtEnd};
 ghost use Rattle.user_dedup.specs.declared.command.Command.{Command};
 ghost use Rattle.cloud_areas.specs.Standing.{Chain};
-ghost use Rattle.checkpoints.specs.Laying.{records_len};
+ghost use Rattle.checkpoints.specs.Laying.{records_len, KeepsOrSettles, HasSettled};
 ghost use Rattle.checkpoints.specs.Settling.{KeepsList, KeepsOthers};
 ghost use Rattle.checkpoints.specs.Records.{coming, records_of};
 ghost use Rattle.cloud_memory.specs.Rooms.{memory_of};
@@ -59,7 +59,8 @@ fn count_within(records: &mut MemoryRecords<'_>, limit: u64, buffer: &mut BodyBu
 /// Puts a checkpoint of a memory, which stands for so many commands and whose blobs lie in this region, in the place of the
 /// chain of a cloud's journal. Where the memory is that of the list that the disk stands for, and is placed by the chain, the
 /// cloud stands for the list whenever a crash comes; after Ok the disk stands for it by the checkpoint's chain, and the memory
-/// is placed by its records.
+/// is placed by its records. Whatever the records say, each image since has the chain that was there or the checkpoint's, and
+/// after Ok the checkpoint's.
 ///
 /// Behind the records there is room for one more, whichever it is. `Long` comes exactly where the records are longer than a
 /// half may be, which those of a list within its rooms never are, and then nothing has changed. `Failed` comes only where the
@@ -105,6 +106,12 @@ pub fn checkpoint_of_memory<V: Shelf>(
     ensures long { IfLong result (disk.old.journal.limit < 63 + records_len (records_of memory.now)) }
     ensures fits { UnlessLong result (63 + records_len (records_of memory.now) ≤ disk.old.journal.limit) }
     ensures same { IfLong result ((disk.new ≡ disk.old) × (shelf.new ≡ shelf.old)) }
+    // whatever the records say
+    ensures chain { KeepsOrSettles disk.old.journal header.now commands (length (records_of memory.now)) region
+        (records_of memory.now) (V.cloud_at shelf.old cloud.0) (V.cloud_at shelf.new cloud.0) }
+    ensures taken { HasSettled disk.old.journal disk.new.journal header.now commands (length
+        (records_of memory.now)) region
+        (records_of memory.now) (V.cloud_at shelf.old cloud.0) (V.cloud_at shelf.new cloud.0) result }
     ensures others { OthersStay (V.cloud_at shelf.old cloud.0) (V.cloud_at shelf.new cloud.0) result }
     ensures stage { disk.new.journal.stage ≡ stage_behind result }
     ensures gate { OnOk result (disk.new.journal.current.gate + 1 ≡ 63 + records_len (records_of memory.now)) }

@@ -4,6 +4,7 @@ pub mod Behind
 pub mod Counting
 pub mod Ends
 pub mod Entries
+mod Headers
 mod Laid
 pub mod Lists
 mod Numbers
@@ -13,5 +14,6 @@ mod OneMore
 pub mod Placed
 pub mod Room
 mod Rows
+mod Settled
 mod Spends
 pub mod Summing

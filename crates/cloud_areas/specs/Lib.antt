@@ -3,6 +3,7 @@ pub mod Chains
 pub mod Checkpoints
 pub mod FormatOne
 pub mod Laid
+pub mod Peers
 pub mod Placing
 pub mod Standing
 pub mod Summaries

@@ -13,10 +13,11 @@ ghost use Rattle.container_log.specs.Laying.{lengths, Placed, placed};
 ghost use Rattle.container_log.specs.Places.{end_of_laid};
 ghost use Rattle.journal_halves.specs.Beginnings.{IsUnbegun};
 ghost use Rattle.journal_halves.specs.Beginnings.{new_of};
-ghost use Rattle.journal_halves.specs.Halves.{half_limit};
+ghost use Rattle.journal_halves.specs.Halves.{half_limit, IsCurrent};
 ghost use Rattle.journal_halves.specs.Journals.{Where, HasChain, with_body, used_by};
 ghost use Rattle.journal_start.specs.declared.rooms.Rooms.{Rooms};
 ghost use Rattle.journal_start.specs.declared.start.Header.{Header};
+ghost use Rattle.journal_start.specs.declared.start.Start.{Start};
 ghost use Rattle.journal_start.specs.Ranges.{AreRooms};
 ghost use Rattle.record_bodies.specs.Spelling.{Body, body_bytes, FitsBody};
 ghost use Rattle.cd_base.specs.declared.place.Place.{Place};
@@ -62,6 +63,13 @@ pub fn law_of_standing()
     ensures one { (image : Image) (header : Header) (one two : List Command) (c : Chain)
         → IsChain header (half_limit header.rooms) (image Journal) c → Holds header image one c
         → StandsFor image header two → Holds header image two c }
+{}
+
+/// Areas of which some half is begun, and that stand for a list, have the list's header in the start of their current half.
+pub fn law_of_headers()
+    ensures { (image : Image) (header : Header) (list : List Command) (half : ℕ) (start : Start)
+        → StandsFor image header list → ¬ IsUnbegun (image Journal) → IsCurrent (image Journal) half start
+        → start.header ≡ header }
 {}
 
 /// One record more says one command more. What was placed before stays placed, as long as it lies in the areas.

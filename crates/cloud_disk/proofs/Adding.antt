@@ -33,7 +33,7 @@ use Rattle.cloud_disk.proofs.Ends.{IsLong, greatest_least, end_all, end_both, sh
 use Rattle.cloud_disk.proofs.Standing.{stands, holds_in}
 
 -- the half's chain is there where the journal is at its end
-chain_there : (j : journals.State) (store : Store) (w : Where) → journals.IsEnded j store w → HasChain store.read w
+pub chain_there : (j : journals.State) (store : Store) (w : Where) → journals.IsEnded j store w → HasChain store.read w
 chain_there j store w is = record { current = is.is_current; chain_is = subst (λ (h : ℕ). IsJournal (all_bodies w) (half_of h store.read)) is.half is.read.chain_is }
 
 -- one record more takes its body's bytes and five

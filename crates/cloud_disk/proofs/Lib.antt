@@ -5,3 +5,4 @@ pub mod Ends
 pub mod Standing
 pub mod Adding
 mod Fronts
+pub mod Grown

@@ -5,10 +5,12 @@ use Rattle.cd_edges.specs.declared.area.Area.TheVariants.{Journal, Shares, Recip
 use Rattle.cd_edges.specs.Disk.{Areas, Image, Cloud, LeavesOnly, reads}
 use Rattle.cd_edges.specs.Shelf.{stable, Stays}
 use Rattle.container_log.specs.Laying.{Placed, placed, IsAt}
+use Rattle.container_log.specs.Kept.{KeepsBelow}
 use Rattle.container_log.specs.States as logs
 use Rattle.cd_base.specs.declared.place.Place.{Place}
 use Rattle.journal_start.specs.declared.start.Header.{Header}
 use Rattle.journal_halves.specs.Halves.{half_limit}
+use Rattle.journal_halves.specs.Journals.{Where, with_body, IsEither}
 use Rattle.half_journal.specs.States as journals
 use Rattle.record_bodies.specs.Spelling.{Body, IsBody}
 use Rattle.user_dedup.specs.declared.command.Command.{Command}
@@ -102,6 +104,16 @@ StandsForEither header list command image = StandsFor image header list ⊎ Stan
 -- each image since does
 abbrev pub KeepsOrAdds : Header → List Command → Command → Cloud → Cloud → Type 0
 KeepsOrAdds header list command old new = LeavesOnly old new (StandsForEither header list command)
+
+-- an image whose journal has the one chain or the other, and in which all lies below the ends of both logs that lay there at the last sync
+abbrev pub IsGrown : Disk → Cloud → Where → Where → Image → Type 0
+IsGrown disk old w next image = IsEither w next (image Journal) × KeepsBelow disk.shares.end (old.now Shares) (image Shares)
+    × KeepsBelow disk.recipes.end (old.now Recipes) (image Recipes)
+
+-- Whatever the chain that was read says: each image since has it, or it with this record, and keeps what lies below the ends of both logs.
+abbrev pub KeepsOrGrows : Disk → List ℕ → Cloud → Cloud → Type 0
+KeepsOrGrows disk body old new = IsTrue old.told → disk.shares.area ≡ Shares → disk.recipes.area ≡ Recipes
+    → (w : Where) → journals.IsEnded disk.journal (old.now Journal) w → LeavesOnly old new (IsGrown disk old w (with_body w body))
 
 -- What lies in front of the ends of both logs lies there still.
 pub record KeepsFronts (disk : Disk) (old new : Cloud) : Type 0 where

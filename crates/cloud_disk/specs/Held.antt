@@ -2,9 +2,10 @@
 use Rattle.std.specs.Prelude.{◌≡◌, ℕ, ◌+◌, ◌≤◌, List, [], ◌∷◌, ◌++◌, length, All, OnOk, Result, IsTrue}
 use Rattle.cd_edges.specs.declared.area.Area.{Area}
 use Rattle.cd_edges.specs.declared.area.Area.TheVariants.{Journal, Shares, Recipes}
-use Rattle.cd_edges.specs.Disk.{Areas, Image, Cloud, LeavesOnly, IsAtArea}
+use Rattle.cd_edges.specs.Disk.{Areas, Image, Cloud, LeavesOnly, IsAtArea, MayLeave}
 use Rattle.cd_edges.specs.Shelf.{stable}
 use Rattle.container_log.specs.Laying.{Placed, placed, IsAt}
+use Rattle.container_log.specs.Kept.{KeepsBelow}
 use Rattle.container_log.specs.States.{State, HasStaged, Agrees}
 
 -- ---- one area
@@ -85,3 +86,18 @@ HaveFlushed shares recipes after_shares after_recipes old new result = IsTrue ol
     → (in_shares in_recipes : List Placed) (new_shares new_recipes : List (List ℕ))
     → LogsHold in_shares in_recipes shares recipes old.now → HasStaged shares new_shares → HasStaged recipes new_recipes
     → OnOk result (HaveBoth (with_staged in_shares shares new_shares) (with_staged in_recipes recipes new_recipes) after_shares after_recipes old new)
+
+-- ---- whatever lies in the areas
+
+-- an image with the journal as it might have been left, and below the ends of both logs with all that lay in their areas at the last sync
+abbrev pub HasFronts : State → State → Cloud → Image → Type 0
+HasFronts shares recipes old image =
+    MayLeave (old.now Journal) (image Journal) × KeepsBelow shares.end (old.now Shares) (image Shares) × KeepsBelow recipes.end (old.now Recipes) (image Recipes)
+
+-- each image since is one
+abbrev pub KeepFronts : State → State → Cloud → Cloud → Type 0
+KeepFronts shares recipes old new = IsTrue old.told → shares.area ≡ Shares → recipes.area ≡ Recipes → LeavesOnly old new (HasFronts shares recipes old)
+
+-- the journal is as it was
+abbrev pub KeepsJournal : {T E : Type 0} → State → State → Cloud → Cloud → Result T E → Type 0
+KeepsJournal shares recipes old new result = IsTrue old.told → shares.area ≡ Shares → recipes.area ≡ Recipes → OnOk result (new.now Journal ≡ old.now Journal)

@@ -2,10 +2,10 @@
 
 ghost use Rattle.std.specs.Prelude.{◌≡◌, ◌≢◌, ℕ, ◌+◌, List, [], IsTrue, OnOk, OnErr};
 ghost use Rattle.cd_edges.specs.declared.area.Area.{Area};
-ghost use Rattle.cd_edges.specs.Disk.{moment};
+ghost use Rattle.cd_edges.specs.Disk.{moment, LeavesOnly};
 ghost use Rattle.cd_edges.specs.Shelf.{IsCall, HasFailed, KeepsCounts};
-ghost use Rattle.container_log.specs.States.{HasStaged, staged_end, after_flush};
-ghost use Rattle.cloud_disk.specs.Held.{flush_moments, KeepsBlobs, HasFlushed, KeepBoth, HaveFlushed};
+ghost use Rattle.container_log.specs.States.{HasStaged, staged_end, after_flush, KeepsEarlier};
+ghost use Rattle.cloud_disk.specs.Held.{flush_moments, KeepsBlobs, HasFlushed, KeepBoth, HaveFlushed, KeepFronts, KeepsJournal};
 
 use cd_base::CloudNo;
 use cd_edges::{Area, Failed, Shelf};
@@ -14,6 +14,9 @@ use container_log::Log;
 // Writes what is staged in a log.
 fn flush_log<V: Shelf>(log: &mut Log, shelf: &mut V, cloud: CloudNo) -> Result<(), Failed>
     ensures any_moment { KeepsBlobs log.old (V.cloud_at shelf.old cloud.0) (V.cloud_at shelf.new cloud.0) }
+    ensures earlier { IsTrue (V.cloud_at shelf.old cloud.0).told
+        → LeavesOnly (V.cloud_at shelf.old cloud.0) (V.cloud_at shelf.new cloud.0)
+        (KeepsEarlier log.old (V.cloud_at shelf.old cloud.0)) }
     ensures held { HasFlushed log.old log.new (V.cloud_at shelf.old cloud.0) (V.cloud_at shelf.new cloud.0) result }
     ensures others { IsTrue (V.cloud_at shelf.old cloud.0).told
         → OnOk result ((other : Area) → other ≢ log.old.area
@@ -42,6 +45,10 @@ pub(crate) fn flush_both<V: Shelf>(
 ) -> Result<(), Failed>
     ensures any_moment { KeepBoth shares.old recipes.old
         (V.cloud_at shelf.old cloud.0) (V.cloud_at shelf.new cloud.0) }
+    ensures fronts { KeepFronts shares.old recipes.old
+        (V.cloud_at shelf.old cloud.0) (V.cloud_at shelf.new cloud.0) }
+    ensures journal { KeepsJournal shares.old recipes.old
+        (V.cloud_at shelf.old cloud.0) (V.cloud_at shelf.new cloud.0) result }
     ensures held { HaveFlushed shares.old recipes.old shares.new recipes.new
         (V.cloud_at shelf.old cloud.0) (V.cloud_at shelf.new cloud.0) result }
     ensures moments { IsTrue (V.cloud_at shelf.old cloud.0).told

@@ -68,7 +68,7 @@ more_below least end other ps qs le further below =
     below_to least other (ps ++ qs) (omega (arith, first, further)) (below_both other ps qs (below_further end other ps further had.1) below)
 
 -- a blob moves an end by at most twice its length
-place_near : (end len : ℕ) → place_of end len + len ≤ end + 2 * len
+pub place_near : (end len : ℕ) → place_of end len + len ≤ end + 2 * len
 place_near end len = by_test (nat_le (end % container_len + len) container_len) refl
   where
     by_test : (b : Bool) → nat_le (end % container_len + len) container_len ≡ b → cond b end ((end / container_len + 1) * container_len) + len ≤ end + 2 * len

@@ -7,7 +7,7 @@ pub mod PutLaw
 pub mod CommitLaw
 pub mod DeleteLaw
 pub mod Adding
-mod Taking
+pub mod Taking
 mod Walking
 pub mod Beginning
 mod Next

@@ -108,13 +108,13 @@ pub none_left : (a b : Option FullRoom) → option_or a b ≡ None → (a ≡ No
 none_left None b e = (refl, e)
 none_left (Some x) b e = absurd (let never : Some x ≡ None = e in cc)
 
-record Limit (rooms : Rooms) (user : UserId) : Type 0 where
+pub record Limit (rooms : Rooms) (user : UserId) : Type 0 where
   pub place : user.0 < rooms.users
   pub owners : (limits_of rooms user).owners ≡ rooms.owners
   pub shares : (limits_of rooms user).shares ≡ rooms.shares
 
 -- who may have something has the limits of the rooms
-limit_is : (rooms : Rooms) (user : UserId) → 1 ≤ (limits_of rooms user).owners → Limit rooms user
+pub limit_is : (rooms : Rooms) (user : UserId) → 1 ≤ (limits_of rooms user).owners → Limit rooms user
 limit_is rooms user some = by_test (nat_lt user.0 rooms.users) refl
   where
     by_test : (b : Bool) → nat_lt user.0 rooms.users ≡ b → Limit rooms user

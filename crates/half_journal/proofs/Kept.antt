@@ -35,6 +35,11 @@ module _ (old image : List ℕ) (half : ℕ) (same : part_of half image ≡ part
   pub start_stays : (start : Start) → HasStart old half start → HasStart image half start
   start_stays start has = has_start half image start has.is_start (subst (λ (l : List ℕ). IsRecord l (start_bytes start)) (sym same) (record_off (half_of half old) (start_bytes start) has.record_is))
 
+-- the other half's places, which an added record leaves as they were
+pub other_stays : (half : ℕ) (old : List ℕ) (bodies : List (List ℕ)) (body image : List ℕ) → IsAdded half old bodies body image → part_of (1 - half) image ≡ part_of (1 - half) old
+other_stays half old bodies body image (inl k) = k.other
+other_stays half old bodies body image (inr k) = k.other
+
 pub kept_chain : (old image : List ℕ) (w : Where) → IsCurrent old w.half w.start → IsKept w.half old (all_bodies w) image → HasChain image w
 kept_chain old image w c k = record {
   current = record {

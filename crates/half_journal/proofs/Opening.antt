@@ -14,7 +14,7 @@ use Rattle.journal_start.specs.declared.start.Header.{Header}
 use Rattle.journal_start.specs.declared.start.Start.{Start}
 use Rattle.journal_start.specs.Ranges.{IsHeader, IsStart}
 use Rattle.journal_start.specs.Spelling.{start_bytes, records_of}
-use Rattle.journal_halves.specs.Halves.{half_len, half_of, HasStart, IsCurrent}
+use Rattle.journal_halves.specs.Halves.{half_len, half_of, is_half_begun, HasStart, IsCurrent}
 use Rattle.journal_halves.specs.Journals.{Where, all_bodies, HasChain}
 use Rattle.journal_halves.proofs.Current.{begun_half}
 use Rattle.journal_halves.proofs.Laying.{starts}
@@ -181,7 +181,7 @@ not_unbegun journal half start c none = elim c.is_half [
 ]
 
 pub not_opened : (header : Header) (begin : Bool) (c0 c1 : Cloud) (after : State) (e : OpenErr) → Stays c0 c1 → OpensIs (c0.now Journal).read header begin (Err e) → IsOpening header begin c0 c1 after (Err e)
-not_opened header begin c0 c1 after e stays answer = record { any_moment = read_only c0 c1 header begin stays; answer = answer; opened = tt; unbegun = λ none. tt; others = tt }
+not_opened header begin c0 c1 after e stays answer = record { any_moment = read_only c0 c1 header begin stays; answer = answer; opened = tt; unbegun = λ none. tt; alone = λ none. tt; others = tt }
 
 pub found_taken : (header : Header) (begin : Bool) (c0 c1 : Cloud) (after : State) (found : Found) (result : Result (Unit {0}) OpenErr) → Stays c0 c1 → IsCurrent (c0.now Journal).read found.half found.start
     → TakenIs after (c0.now Journal) found header result → IsOpening header begin c0 c1 after result
@@ -190,6 +190,7 @@ found_taken header begin c0 c1 after found (Ok value) stays c is = record {
   answer = inr (found.half, is.1);
   opened = subst (λ (a : Areas). IsOpened after (a Journal) header) (sym stays.now) is.0;
   unbegun = λ none. absurd (not_unbegun (c0.now Journal).read found.half found.start c none);
+  alone = λ none. absurd (not_unbegun (c0.now Journal).read found.half found.start c none);
   others = λ other ne. ap (λ (a : Areas). a other) stays.now;
 }
 found_taken header begin c0 c1 after found (Err (OtherStore other wanted at)) stays c is = not_opened header begin c0 c1 after (OtherStore other wanted at) stays (found.half, is.0, is.1, is.2, is.3)
@@ -198,19 +199,20 @@ found_taken header begin c0 c1 after found (Err (NotBegun len)) stays c is = abs
 found_taken header begin c0 c1 after found (Err (Damaged at byte)) stays c is = absurd is
 
 pub began_ok : (header : Header) (begin : Bool) (c0 c1 c2 : Cloud) (after : State) → IsTrue begin → IsUnbegun (c0.now Journal).read → Stays c0 c1 → LeavesOnly c1 c2 (IsAtArea c1.now Journal (IsNewOrUnbegun header))
-    → IsReading after (c2.now Journal) (new_of header) → HasChain (c2.now Journal).read (new_of header) → ((other : Area) → other ≢ Journal → c2.now other ≡ c1.now other) → IsOpening header begin c0 c2 after (Ok tt)
-began_ok header begin c0 c1 c2 after is none stays run reading has others = record {
+    → IsReading after (c2.now Journal) (new_of header) → HasChain (c2.now Journal).read (new_of header) → is_half_begun 1 (c2.now Journal).read ≡ false → ((other : Area) → other ≢ Journal → c2.now other ≡ c1.now other) → IsOpening header begin c0 c2 after (Ok tt)
+began_ok header begin c0 c1 c2 after is none stays run reading has one others = record {
   any_moment = then_began c0 c1 c2 header begin is none stays run;
   answer = inl (none, is);
   opened = record { w = new_of header; header_is = refl; none = refl; reading = reading };
   unbegun = λ again. has;
+  alone = λ again. one;
   others = λ other ne. others other ne ∙ ap (λ (a : Areas). a other) stays.now;
 }
 
 pub began_err : (header : Header) (begin : Bool) (c0 c1 c2 : Cloud) (after : State) → IsTrue begin → IsUnbegun (c0.now Journal).read → Stays c0 c1 → LeavesOnly c1 c2 (IsAtArea c1.now Journal (IsNewOrUnbegun header))
     → IsOpening header begin c0 c2 after (Err Fault)
 began_err header begin c0 c1 c2 after is none stays run =
-    record { any_moment = then_began c0 c1 c2 header begin is none stays run; answer = tt; opened = tt; unbegun = λ again. tt; others = tt }
+    record { any_moment = then_began c0 c1 c2 header begin is none stays run; answer = tt; opened = tt; unbegun = λ again. tt; alone = λ again. tt; others = tt }
 
 -- the same behind a sync
 others_on : {E : Type 0} (result : Result (Unit {0}) E) (c0 c1 c2 : Cloud) → ((other : Area) → other ≢ Journal → c1.now other ≡ c0.now other) → OnOk result ((other : Area) → other ≢ Journal → c2.now other ≡ c1.now other)
@@ -219,7 +221,7 @@ others_on (Ok value) c0 c1 c2 first second = λ other ne. second other ne ∙ fi
 others_on (Err e) c0 c1 c2 first second = tt
 
 pub sync_failed : (header : Header) (begin : Bool) (c0 c1 : Cloud) (after : State) → LeavesOnly c0 c1 (IsImage c0.now) → IsOpening header begin c0 c1 after (Err Fault)
-sync_failed header begin c0 c1 after run = record { any_moment = synced_only c0 c1 header begin run; answer = tt; opened = tt; unbegun = λ none. tt; others = tt }
+sync_failed header begin c0 c1 after run = record { any_moment = synced_only c0 c1 header begin run; answer = tt; opened = tt; unbegun = λ none. tt; alone = λ none. tt; others = tt }
 
 pub sync_opened : (header : Header) (begin : Bool) (c0 c1 c2 : Cloud) (after : State) (result : Result (Unit {0}) OpenErr) → LeavesOnly c0 c1 (IsImage c0.now) → Changes c0 c1 Journal (stable (c0.now Journal).read)
     → IsOpening header begin c1 c2 after result → IsOpening header begin c0 c2 after result
@@ -230,6 +232,7 @@ sync_opened header begin c0 c1 c2 after result run synced is =
       answer = subst (λ (l : List ℕ). OpensIs l header begin result) same is.answer;
       opened = is.opened;
       unbegun = λ none. is.unbegun (subst IsUnbegun (sym same) none);
+      alone = λ none. is.alone (subst IsUnbegun (sym same) none);
       others = others_on result c0 c1 c2 synced.others is.others;
     }
 

@@ -23,7 +23,7 @@ use Rattle.journal_halves.specs.declared.errors.JournalErr.TheVariants.{Failed, 
 use Rattle.journal_halves.specs.Outcomes as steps
 use Rattle.half_journal.specs.States.{State, IsReading, IsEnded, IsLaying, next_start, next_of}
 use Rattle.half_journal.specs.Outcomes.{records_place, TookIs, NextIs}
-use Rattle.half_journal.proofs.Kept.{kept_chain, added_either}
+use Rattle.half_journal.proofs.Kept.{kept_chain, added_either, other_stays}
 
 -- ---- reading
 
@@ -102,6 +102,13 @@ either_of state store w body image is added = added_either store.read image w bo
 pub appending : (state : State) (c0 c1 : Cloud) (w : Where) (body : List ℕ) → IsEnded state (c0.now Journal) w
     → LeavesOnly c0 c1 (IsAtArea c0.now Journal (IsAdded state.current.half (c0.now Journal).read (all_bodies w) body)) → LeavesOnly c0 c1 (IsAtArea c0.now Journal (IsEither w (with_body w body)))
 appending state c0 c1 w body is run = weaker c0 c1 _ _ run (λ image at. record { area = either_of state (c0.now Journal) w body (image Journal) is at.area; others = at.others })
+
+pub apart : (state : State) (c0 c1 : Cloud) (w : Where) (body : List ℕ) → IsEnded state (c0.now Journal) w
+    → LeavesOnly c0 c1 (IsAtArea c0.now Journal (IsAdded state.current.half (c0.now Journal).read (all_bodies w) body))
+    → LeavesOnly c0 c1 (λ image. part_of (1 - w.half) (image Journal) ≡ part_of (1 - w.half) (c0.now Journal).read)
+apart state c0 c1 w body is run = weaker c0 c1 _ _ run (λ image at.
+    subst (λ (h : ℕ). part_of (1 - h) (image Journal) ≡ part_of (1 - h) (c0.now Journal).read) is.half
+    (other_stays state.current.half (c0.now Journal).read (all_bodies w) body (image Journal) at.area))
 
 pub ended_more : (before after : State) (store last : Store) (w : Where) (body : List ℕ) → IsEnded before store w → records.IsEnded after.current last (all_bodies w ++ body ∷ [])
     → part_of (1 - before.current.half) last.read ≡ part_of (1 - before.current.half) store.read → after.current.half ≡ before.current.half → after.start ≡ before.start → IsEnded after last (with_body w body)

@@ -49,6 +49,14 @@ OnFault (Err (NotBegun len)) failed other = other
 OnFault (Err (Damaged at byte)) failed other = other
 OnFault (Err (OtherStore found wanted at)) failed other = other
 
+-- It isn't that no half is begun.
+abbrev pub HasBegun : {T : Type 0} → Result T OpenErr → Type 0
+HasBegun (Ok value) = Unit {0}
+HasBegun (Err (NotBegun len)) = ⊥
+HasBegun (Err Fault) = Unit {0}
+HasBegun (Err (Damaged at byte)) = Unit {0}
+HasBegun (Err (OtherStore found wanted at)) = Unit {0}
+
 -- The current half's chain, which begins with this header, is read up to its start.
 pub record IsOpened (state : State) (store : Store) (header : Header) : Type 0 where
   pub w : Where
@@ -63,6 +71,8 @@ pub record IsOpening (header : Header) (begin : Bool) (old new : Cloud) (after :
   pub opened : OnOk result (IsOpened after (new.now Journal) header)
   -- where no half was begun, half 0 has this header then, and no other record
   pub unbegun : IsUnbegun (old.now Journal).read → OnOk result (HasChain (new.now Journal).read (new_of header))
+  -- and half 1 isn't begun still
+  pub alone : IsUnbegun (old.now Journal).read → OnOk result (is_half_begun 1 (new.now Journal).read ≡ false)
   pub others : OnOk result ((other : Area) → other ≢ Journal → new.now other ≡ old.now other)
 
 -- a crash leaves it as it reads
@@ -102,7 +112,8 @@ LeavesBegun len header old new = IsTrue old.told → IsFree (old.now Journal) le
 
 abbrev pub HasNew : {T E : Type 0} → ℕ → State → Header → Cloud → Cloud → Result T E → Type 0
 HasNew len after header old new result = IsTrue old.told → IsFree (old.now Journal) len
-    → OnOk result (IsReading after (new.now Journal) (new_of header) × HasChain (new.now Journal).read (new_of header))
+    → OnOk result (IsReading after (new.now Journal) (new_of header) × HasChain (new.now Journal).read (new_of header)
+    × (is_half_begun 1 (new.now Journal).read ≡ false))
 
 -- No device call failed.
 abbrev pub IsAnswered : Result (Unit {0}) OpenErr → Type 0

@@ -9,6 +9,7 @@ use Rattle.journal_start.specs.declared.start.Header.{Header}
 use Rattle.journal_start.specs.declared.start.Start.{Start}
 use Rattle.journal_start.specs.Spelling.{records_of}
 use Rattle.journal_halves.specs.Halves.{half_len}
+use Rattle.journal_halves.specs.Findings.{part_of}
 use Rattle.journal_halves.specs.Journals.{Where, HasChain, IsEither, with_body}
 use Rattle.journal_halves.specs.declared.errors.JournalErr.{JournalErr}
 use Rattle.journal_halves.specs.declared.errors.JournalErr.TheVariants.{Failed, Damaged}
@@ -72,6 +73,11 @@ ReadsNext before after old result = IsTrue old.told → (w : Where) → IsReadin
 abbrev pub KeepsOrAdds : State → List ℕ → Cloud → Cloud → Type 0
 KeepsOrAdds state body old new = IsTrue old.told → (w : Where) → IsEnded state (old.now Journal) w
     → LeavesOnly old new (IsAtArea old.now Journal (IsEither w (with_body w body)))
+
+-- Whatever chain the journal has: each image since has the places of the other half as they were.
+abbrev pub KeepsOtherHalf : State → Cloud → Cloud → Type 0
+KeepsOtherHalf state old new = IsTrue old.told → (w : Where) → IsEnded state (old.now Journal) w
+    → LeavesOnly old new (λ image. part_of (1 - w.half) (image Journal) ≡ part_of (1 - w.half) (old.now Journal).read)
 
 abbrev pub HasAdded : {T E : Type 0} → State → State → List ℕ → Cloud → Cloud → Result T E → Type 0
 HasAdded before after body old new result = IsTrue old.told → (w : Where) → IsEnded before (old.now Journal) w

@@ -45,7 +45,7 @@ pub struct Journal {
 
 impl Journal {
     ghost use Rattle.half_journal.specs.States.{state_of};
-    ghost use Rattle.half_journal.specs.Outcomes.{stage_of, stage_after, TookIs, ReadsNext, KeepsOrAdds, HasAdded};
+    ghost use Rattle.half_journal.specs.Outcomes.{stage_of, stage_after, TookIs, ReadsNext, KeepsOrAdds, KeepsOtherHalf, HasAdded};
 
     /// A journal that isn't open, of whose halves each takes so many bytes at most. It takes all its memory here: a window of
     /// 65,541 bytes and a piece of 4 MiB. The only error is want of memory.
@@ -215,7 +215,7 @@ impl Journal {
     }
 
     /// Adds a record behind the closed gate. After Ok a crash leaves it; whenever a crash comes, it leaves the old chain or
-    /// that with this record. Failed comes only where the cloud's count of faults rose, and then only `reopen`, `open` and
+    /// that with this record, and the other half as it was. Failed comes only where the cloud's count of faults rose, and then only `reopen`, `open` and
     /// `find` may be called. It makes two writes, each with a sync: the record with the next gate, closed, and then its own
     /// gate. So after Ok the cloud's moment is higher by four.
     pub fn append<V: Shelf>(
@@ -231,6 +231,7 @@ impl Journal {
 
         ensures any_moment { KeepsOrAdds (state_of self.old) body.now
             (V.cloud_at shelf.old cloud.0) (V.cloud_at shelf.new cloud.0) }
+        ensures other { KeepsOtherHalf (state_of self.old) (V.cloud_at shelf.old cloud.0) (V.cloud_at shelf.new cloud.0) }
         ensures added { HasAdded (state_of self.old) (state_of self.new) body.now
             (V.cloud_at shelf.old cloud.0) (V.cloud_at shelf.new cloud.0) result }
         ensures others { OthersStay (V.cloud_at shelf.old cloud.0) (V.cloud_at shelf.new cloud.0) result }

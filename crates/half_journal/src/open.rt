@@ -6,7 +6,7 @@ ghost use Rattle.cd_edges.specs.Disk.{Store};
 ghost use Rattle.cd_edges.specs.Shelf.{IsCall, HasFailed, KeepsCounts, Stays, stable};
 ghost use Rattle.journal_halves.specs.Halves.{IsCurrent};
 ghost use Rattle.journal_halves.specs.Journals.{HasChain};
-ghost use Rattle.journal_start.specs.Ranges.{IsHeader};
+ghost use Rattle.journal_start.specs.Ranges.{IsHeader, IsStart};
 ghost use Rattle.journal_halves.specs.Findings.{FindIs};
 ghost use Rattle.journal_halves.specs.Findings as findings;
 ghost use Rattle.half_journal.specs.Leaving.{OthersStay};
@@ -41,7 +41,7 @@ impl Journal {
     ghost use Rattle.half_journal.specs.States.{state_of};
     ghost use Rattle.journal_halves.specs.Beginnings.{new_of};
     ghost use Rattle.half_journal.specs.Outcomes.{stage_after};
-    ghost use Rattle.half_journal.specs.Openings.{IsOpening, IsSynced, TakenIs, IsAnswered, LeavesBegun, HasNew, OnFault};
+    ghost use Rattle.half_journal.specs.Openings.{IsOpening, IsSynced, TakenIs, IsAnswered, LeavesBegun, HasNew, OnFault, HasBegun};
     ghost use Rattle.journal_halves.specs.Beginnings.{IsUnbegun};
 
     /// Finds the current half of the journal and its start, whatever its header: as `current_half`'s `find`. The journal is
@@ -49,6 +49,7 @@ impl Journal {
     pub fn find<V: Shelf>(&mut self, shelf: &mut V, cloud: CloudNo) -> Result<Found, FindErr>
         ensures found { IsTrue (V.cloud_at shelf.old cloud.0).told
             → FindIs ((V.cloud_at shelf.old cloud.0).now Area.Journal).read result }
+        ensures start { IfOk result (λ found. IsStart found.half found.start) }
         ensures stage { (state_of self.new).stage ≡ Stage.Shut }
         ensures limit { (state_of self.new).limit ≡ (state_of self.old).limit }
         ensures stays { Stays (V.cloud_at shelf.old cloud.0) (V.cloud_at shelf.new cloud.0) }
@@ -71,7 +72,9 @@ impl Journal {
     /// which no half is begun yet or half 0 has this header and no more. NotBegun comes exactly where no half is begun and
     /// `begin` is false. OtherStore comes exactly where the current half begins with another header. Damaged comes exactly as
     /// for `find`. Fault comes only where the cloud's count of faults rose. After an Err only `reopen`, `open` and `find` may
-    /// be called. After Ok the journal reads as before where some half was begun.
+    /// be called. After Ok the journal reads as before where some half was begun, and the gate stands behind the start, at
+    /// place 62 of its half at most. Where `begin` is true, NotBegun never comes, whatever the cloud tells, and after Ok what
+    /// the journal has is a start of its half.
     pub fn reopen<V: Shelf>(
         &mut self,
         shelf: &mut V,
@@ -88,6 +91,9 @@ impl Journal {
             → ¬ IsUnbegun ((V.cloud_at shelf.old cloud.0).now Area.Journal).read
             → OnOk result (((V.cloud_at shelf.new cloud.0).now Area.Journal).read
             ≡ ((V.cloud_at shelf.old cloud.0).now Area.Journal).read) }
+        ensures gate { OnOk result ((state_of self.new).current.gate ≤ 62) }
+        ensures begins { IsTrue begin → HasBegun result }
+        ensures start { OnOk result (IsStart (state_of self.new).current.half (state_of self.new).start) }
         ensures stage { (state_of self.new).stage ≡ stage_after Stage.Reading result }
         ensures limit { (state_of self.new).limit ≡ (state_of self.old).limit }
         ensures call { IsCall (V.cloud_at shelf.old) (V.cloud_at shelf.new) cloud.0
@@ -126,6 +132,9 @@ impl Journal {
             → ¬ IsUnbegun ((V.cloud_at shelf.old cloud.0).now Area.Journal).read
             → Stays (V.cloud_at shelf.old cloud.0) (V.cloud_at shelf.new cloud.0) }
         ensures unasked { begin ≡ false → Stays (V.cloud_at shelf.old cloud.0) (V.cloud_at shelf.new cloud.0) }
+        ensures gate { OnOk result ((state_of self.new).current.gate ≤ 62) }
+        ensures begins { IsTrue begin → HasBegun result }
+        ensures start { OnOk result (IsStart (state_of self.new).current.half (state_of self.new).start) }
         ensures stage { (state_of self.new).stage ≡ stage_after Stage.Reading result }
         ensures limit { (state_of self.new).limit ≡ (state_of self.old).limit }
         ensures call { IsCall (V.cloud_at shelf.old) (V.cloud_at shelf.new) cloud.0
@@ -154,12 +163,16 @@ impl Journal {
 
     // Takes up the current half that was found, if it begins with this header.
     fn take(&mut self, found: Found, asked: &Header) -> Result<(), OpenErr>
-        requires { (state_of self.old).stage ≡ Stage.Shut }
+        requires shut { (state_of self.old).stage ≡ Stage.Shut }
+        requires start { IsStart found.half found.start }
         ensures taken { (store : Store) → store ≡ stable store.read → IsCurrent store.read found.half found.start
             → TakenIs (state_of self.new) store found asked.now result }
+        ensures gate { OnOk result ((state_of self.new).current.gate ≤ 62) }
         ensures stage { (state_of self.new).stage ≡ stage_after Stage.Reading result }
         ensures limit { (state_of self.new).limit ≡ (state_of self.old).limit }
         ensures answered { IsAnswered result }
+        ensures begins { HasBegun result }
+        ensures start { OnOk result (IsStart (state_of self.new).current.half (state_of self.new).start) }
     {
         if is_same(&found.start.header, asked) {
             let len = found.start.bytes().len() as u64;
@@ -189,7 +202,9 @@ impl Journal {
         ensures any_moment { LeavesBegun len asked.now (V.cloud_at shelf.old cloud.0) (V.cloud_at shelf.new cloud.0) }
         ensures begun { HasNew len (state_of self.new) asked.now
             (V.cloud_at shelf.old cloud.0) (V.cloud_at shelf.new cloud.0) result }
+        ensures gate { OnOk result ((state_of self.new).current.gate ≤ 62) }
         ensures others { OthersStay (V.cloud_at shelf.old cloud.0) (V.cloud_at shelf.new cloud.0) result }
+        ensures start { OnOk result (IsStart (state_of self.new).current.half (state_of self.new).start) }
         ensures stage { (state_of self.new).stage ≡ stage_after Stage.Reading result }
         ensures limit { (state_of self.new).limit ≡ (state_of self.old).limit }
         ensures call { IsCall (V.cloud_at shelf.old) (V.cloud_at shelf.new) cloud.0

@@ -65,6 +65,12 @@ same_half journal i j a b is_i is_j c d = elim is_i [
   ]
 ]
 
+-- a journal has one current half, with one start
+pub one_current : (journal : List ℕ) (i j : ℕ) (a b : Start) → IsCurrent journal i a → IsCurrent journal j b → a ≡ b
+one_current journal i j a b c d =
+    let half = same_half journal i j a b c.is_half d.is_half c d in
+    one_start journal i a b c.begun (subst (λ (h : ℕ). HasStart journal h b) (sym half) d.begun)
+
 tail_same : (x y : List ℕ) (xs ys : List (List ℕ)) → x ∷ xs ≡ y ∷ ys → xs ≡ ys
 tail_same x y xs ys e = cc
 

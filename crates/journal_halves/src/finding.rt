@@ -1,6 +1,7 @@
 //! Finding the current half of a journal.
 
-ghost use Rattle.std.specs.Prelude.{◌≡◌, ℕ, ◌≤◌, List, length, take, IsTrue, Option, Ok};
+ghost use Rattle.std.specs.Prelude.{◌≡◌, ℕ, ◌≤◌, List, length, take, IsTrue, Option, Ok, IfOk, IfSome};
+ghost use Rattle.journal_start.specs.Ranges.{IsStart};
 ghost use Rattle.cd_edges.specs.declared.area.Area.{Area};
 ghost use Rattle.cd_edges.specs.Shelf.{IsCall, HasFailed, KeepsCounts, Stays};
 ghost use Rattle.commit_journal.specs.Records.{is_begun};
@@ -8,7 +9,7 @@ ghost use Rattle.journal_halves.specs.Halves.{half_of};
 ghost use Rattle.journal_start.specs.declared.start.Start.{Start};
 ghost use Rattle.journal_halves.specs.Findings.{LookIs, FindIs, OnFault};
 ghost use Rattle.journal_halves.specs.Findings as findings;
-ghost use Rattle.journal_halves.specs.Choices.{AnswerIs};
+ghost use Rattle.journal_halves.specs.Choices.{AnswerIs, IsChosen};
 
 use crate::choice::{Choice, choose};
 use crate::record::{Damage, read_start};
@@ -34,6 +35,7 @@ fn begins(bytes: &[u8]) -> bool
 fn judge(half: u8, ahead: &[u8]) -> Result<Option<Start>, FindErr>
     requires { half ≤ 1 }
     ensures looks { (journal : List ℕ) → ahead.now ≡ take 65541 (half_of half journal) → LookIs journal half result }
+    ensures start { IfOk result (λ found. IfSome found (IsStart half)) }
     ensures handled { OnFault result ⊥ (Unit {0}) }
 {
     if !begins(ahead) {
@@ -59,6 +61,7 @@ fn look<V: Shelf>(
     requires window { length window.old ≡ 65541 }
     ensures found { IsTrue (V.cloud_at shelf.old cloud.0).told
         → LookIs ((V.cloud_at shelf.old cloud.0).now Area.Journal).read half result }
+    ensures start { IfOk result (λ found. IfSome found (IsStart half)) }
     ensures stays { Stays (V.cloud_at shelf.old cloud.0) (V.cloud_at shelf.new cloud.0) }
     ensures call { IsCall (V.cloud_at shelf.old) (V.cloud_at shelf.new) cloud.0
         (V.faults shelf.old) (V.faults shelf.new) }
@@ -89,6 +92,8 @@ fn epoch_place(start: &Start) -> u64
 fn answer<V: Shelf>(shelf: &mut V, cloud: CloudNo, choice: Choice) -> Result<Found, FindErr>
     ensures found { IsTrue (V.cloud_at shelf.old cloud.0).told → (first second : Option Start)
         → AnswerIs ((V.cloud_at shelf.old cloud.0).now Area.Journal).read first second choice result }
+    ensures start { (first second : Option Start) → IsChosen first second choice → IfSome first (IsStart 0)
+        → IfSome second (IsStart 1) → IfOk result (λ found. IsStart found.half found.start) }
     ensures stays { Stays (V.cloud_at shelf.old cloud.0) (V.cloud_at shelf.new cloud.0) }
     ensures call { IsCall (V.cloud_at shelf.old) (V.cloud_at shelf.new) cloud.0
         (V.faults shelf.old) (V.faults shelf.new) }
@@ -118,11 +123,13 @@ fn answer<V: Shelf>(shelf: &mut V, cloud: CloudNo, choice: Choice) -> Result<Fou
 /// that is begun is damaged, half 0 first, or both have one epoch: by the frame, the first place of the length and its byte
 /// (or the gate's place and 1, where it is all there is); by the body, its first wrong field or a byte left over, or the
 /// first place of the length where the body is too short; else the first place of half 1's epoch. Fault comes only where
-/// the cloud's count of faults rose. Nothing told changes.
+/// the cloud's count of faults rose. Nothing told changes. What is found is a start of its half, whatever the cloud tells: its
+/// header and its rooms are allowed ones.
 pub fn find<V: Shelf>(shelf: &mut V, cloud: CloudNo, window: &mut [u8]) -> Result<Found, FindErr>
     requires { length window.old ≡ 65541 }
     ensures found { IsTrue (V.cloud_at shelf.old cloud.0).told
         → FindIs ((V.cloud_at shelf.old cloud.0).now Area.Journal).read result }
+    ensures start { IfOk result (λ found. IsStart found.half found.start) }
     ensures stays { Stays (V.cloud_at shelf.old cloud.0) (V.cloud_at shelf.new cloud.0) }
     ensures call { IsCall (V.cloud_at shelf.old) (V.cloud_at shelf.new) cloud.0
         (V.faults shelf.old) (V.faults shelf.new) }

@@ -1,6 +1,6 @@
 //! The start of one half, by what was read of it.
 
-ghost use Rattle.std.specs.Prelude.{◌≡◌, ℕ, ◌+◌, ◌≤◌, List, length, take, drop, true, MatchResult, IfErr};
+ghost use Rattle.std.specs.Prelude.{◌≡◌, ℕ, ◌+◌, ◌≤◌, List, length, take, drop, true, MatchResult, IfOk, IfErr};
 ghost use Rattle.commit_journal.specs.Outcomes.{DamageIs};
 ghost use Rattle.commit_journal.specs.declared.errors.JournalErr.TheVariants.{Damaged};
 ghost use Rattle.journal_start.specs.Reading.{IsPlaced};
@@ -62,6 +62,7 @@ fn body_in(ahead: &[u8], len: usize) -> &[u8]
 /// of the body, or the first place of the length where the body is too short.
 pub fn read_start(half: u8, ahead: &[u8]) -> Result<Start, Damage>
     ensures small { IfErr result (λ damage. damage.at ≤ 65540) }
+    ensures is_start { IfOk result (λ start. IsStart half start) }
     ensures start { (rest : List ℕ) → ahead.now ≡ take 65541 rest → length rest ≤ 134217728 → is_begun rest ≡ true
         → MatchResult result
         (λ start. IsStart half start × IsRecord rest (start_bytes start))

@@ -5,6 +5,7 @@ ghost use Rattle.cd_edges.specs.declared.area.Area.{Area};
 ghost use Rattle.cd_edges.specs.Disk.{moment};
 ghost use Rattle.cd_edges.specs.Shelf.{IsCall, HasFailed, KeepsCounts, Stays};
 ghost use Rattle.commit_journal.specs.Records.{framed};
+ghost use Rattle.journal_start.specs.Ranges.{IsStart};
 ghost use Rattle.journal_halves.specs.Halves.{half_len};
 ghost use Rattle.journal_halves.specs.Findings.{FindIs, OnFault};
 
@@ -125,6 +126,7 @@ impl HalfRecords {
     pub fn find<V: Shelf>(&mut self, shelf: &mut V, cloud: CloudNo) -> Result<Found, FindErr>
         ensures found { IsTrue (V.cloud_at shelf.old cloud.0).told
             → FindIs ((V.cloud_at shelf.old cloud.0).now Area.Journal).read result }
+        ensures start { IfOk result (λ found. IsStart found.half found.start) }
         ensures stays { Stays (V.cloud_at shelf.old cloud.0) (V.cloud_at shelf.new cloud.0) }
         ensures call { IsCall (V.cloud_at shelf.old) (V.cloud_at shelf.new) cloud.0
             (V.faults shelf.old) (V.faults shelf.new) }

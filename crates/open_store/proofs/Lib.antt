@@ -6,3 +6,6 @@ pub mod Next
 pub mod Stepping
 pub mod Fields
 pub mod Moving
+pub mod Growing
+pub mod Keeping
+pub mod Held

@@ -47,7 +47,7 @@ use Rattle.open_store.proofs.Next.{IsNext}
 use Rattle.open_store.proofs.Putting.{put_laid}
 
 -- a blob lies at the end or behind it
-place_after : (end len : ℕ) → end ≤ place_of end len
+pub place_after : (end len : ℕ) → end ≤ place_of end len
 place_after end len = by_test (nat_le (end % container_len + len) container_len)
   where
     by_test : (b : Bool) → end ≤ cond b end ((end / container_len + 1) * container_len)

@@ -1,13 +1,21 @@
 -- One command more in an open store: when it may be added, and what comes of it.
-use Rattle.std.specs.Prelude.{◌≡◌, ◌⊎◌, ℕ, ◌+◌, ◌<◌, ◌≤◌, List, [], ◌∷◌, ◌++◌, length, Some, Result, Ok, Err}
+use Rattle.std.specs.Prelude.{◌≡◌, ◌≢◌, ◌⊎◌, ℕ, ◌+◌, ◌<◌, ◌≤◌, List, [], ◌∷◌, ◌++◌, length, IsTrue, is_some, Some, Result, Ok, Err, OnOk, if◌then◌else◌}
+use Rattle.std.specs.FinMap.{FinMap, get}
+use Rattle.cd_base.specs.Order.{fp_cmp}
+use Rattle.cd_base.specs.declared.place.Place.{Place}
 use Rattle.cd_base.specs.declared.ids.Fp.{Fp}
 use Rattle.cd_base.specs.declared.ids.Tag.{Tag}
 use Rattle.cd_base.specs.declared.ids.UserId.{UserId}
 use Rattle.cd_base.specs.declared.ids.Version.{Version}
-use Rattle.cd_edges.specs.Disk.{Cloud}
+use Rattle.cd_edges.specs.declared.area.Area.{Area}
+use Rattle.cd_edges.specs.declared.area.Area.TheVariants.{Journal, Shares, Recipes}
+use Rattle.cd_edges.specs.Disk.{Cloud, Image, LeavesOnly, IsAtArea}
 use Rattle.container_log.specs.Laying.{Placed}
 use Rattle.container_log.specs.Places.{place_of}
-use Rattle.container_log.specs.States.{HasStaged}
+use Rattle.container_log.specs.Kept.{KeepsBelow}
+use Rattle.container_log.specs.States.{HasStaged, staged_end}
+use Rattle.journal_halves.specs.Journals.{Where, with_body, IsEither}
+use Rattle.half_journal.specs.States.{IsEnded}
 use Rattle.half_journal.specs.declared.journal.Stage.{Stage}
 use Rattle.half_journal.specs.declared.journal.Stage.TheVariants.{AtEnd, Shut}
 use Rattle.message_fields.specs.Shares.{share_limit}
@@ -24,7 +32,7 @@ use Rattle.user_dedup.specs.Dedup.{IsSound}
 use Rattle.user_dedup.specs.Cloud.{user_view}
 use Rattle.cloud_areas.specs.Adding.{with_record}
 use Rattle.cloud_areas.specs.Standing.{Chain}
-use Rattle.cloud_disk.specs.Disk.{Disk, IsOn, KeepsOrAdds, Stages, shares_laid, regions_end}
+use Rattle.cloud_disk.specs.Disk.{Disk, IsOn, KeepsOrAdds, Stages, shares_laid, without_staged}
 use Rattle.cloud_memory.specs.declared.rooms.Full.{Full}
 use Rattle.cloud_memory.specs.declared.rooms.New.{New}
 use Rattle.cloud_memory.specs.News.{AreOf}
@@ -33,7 +41,7 @@ use Rattle.cloud_memory.specs.Steps.{parts_of}
 use Rattle.open_store.specs.declared.store.OpenStore.{OpenStore}
 use Rattle.open_store.specs.declared.store.Unadded.{Unadded}
 use Rattle.open_store.specs.declared.store.Unadded.TheVariants as why
-use Rattle.checkpoints.specs.Laying.{records_len}
+use Rattle.checkpoints.specs.Laying.{records_len, checkpoint_behind}
 use Rattle.checkpoints.specs.Settling.{KeepsOthers}
 use Rattle.checkpoints.specs.Records.{records_of}
 use Rattle.checkpoints.specs.Known.{checkpoint_in}
@@ -74,11 +82,9 @@ WhenLong (Err (why.Full full)) P = Unit {0}
 WhenLong (Err why.Long) P = P
 WhenLong (Err why.Failed) P = Unit {0}
 
--- A record of so many bytes doesn't fit even behind a checkpoint of the memory, or an area ends behind the last region.
+-- A record of so many bytes doesn't fit even behind a checkpoint of the memory.
 abbrev pub IsTooLong : OpenStore → ℕ → Type 0
-IsTooLong s len =
-    (s.disk.journal.limit < 63 + records_len (records_of s.memory) + (len + 5))
-    ⊎ ((regions_end < s.memory.shares_end) ⊎ (regions_end < s.memory.recipes_end))
+IsTooLong s len = s.disk.journal.limit < 63 + records_len (records_of s.memory) + (len + 5)
 
 -- the journal's stage behind it
 abbrev pub stage_after : Result (Unit {0}) Unadded → Stage
@@ -92,15 +98,51 @@ pub record NoneStaged (s : OpenStore) : Type 0 where
   pub shares : HasStaged s.disk.shares []
   pub recipes : HasStaged s.disk.recipes []
 
--- Nothing changed, but that nothing is staged.
-pub record IsUnadded (old new : OpenStore) : Type 0 where
-  pub header : new.header ≡ old.header
+-- the store with nothing staged
+abbrev pub unstaged : OpenStore → OpenStore
+unstaged s = record s { disk = without_staged s.disk }
+
+-- Nothing was added: the memory is as it was, and so are both logs, but that nothing is staged.
+pub record Unmoved (old new : OpenStore) : Type 0 where
   pub memory : new.memory ≡ old.memory
-  pub commands : new.commands ≡ old.commands
-  pub region : new.region ≡ old.region
-  pub journal : new.disk.journal ≡ old.disk.journal
-  pub shares_end : new.disk.shares.end ≡ old.disk.shares.end
-  pub recipes_end : new.disk.recipes.end ≡ old.disk.recipes.end
+  pub shares : new.disk.shares ≡ (without_staged old.disk).shares
+  pub recipes : new.disk.recipes ≡ (without_staged old.disk).recipes
+
+-- Both logs end behind what was staged.
+pub record EndBehind (old new : OpenStore) : Type 0 where
+  pub shares : new.disk.shares.end ≡ staged_end old.disk.shares
+  pub recipes : new.disk.recipes.end ≡ staged_end old.disk.recipes
+
+-- ---- whatever the records say
+
+-- the chain of a checkpoint of the store's memory, behind another chain
+abbrev pub summed : OpenStore → Where → Where
+summed s w = checkpoint_behind w s.header s.commands (length (records_of s.memory)) s.region (records_of s.memory)
+
+-- Whatever the chain that was read says: each image since has it, or the memory's checkpoint in its place, and all other areas as they might
+-- have been left.
+abbrev pub KeepsOrSums : OpenStore → Cloud → Cloud → Type 0
+KeepsOrSums s old new = IsTrue old.told → (w : Where) → IsEnded s.disk.journal (old.now Journal) w
+    → LeavesOnly old new (IsAtArea old.now Journal (IsEither w (summed s w)))
+
+-- After Ok the chain that was read is there, or the checkpoint's, and no other area has changed.
+abbrev pub HasRoomMade : {T E : Type 0} → OpenStore → OpenStore → Cloud → Cloud → Result T E → Type 0
+HasRoomMade before after old new result = IsTrue old.told → (w : Where) → IsEnded before.disk.journal (old.now Journal) w
+    → OnOk result ((IsEnded after.disk.journal (new.now Journal) w ⊎ IsEnded after.disk.journal (new.now Journal) (summed before w))
+    × ((other : Area) → other ≢ Journal → new.now other ≡ old.now other))
+
+-- the journal has the chain that was read, or the memory's checkpoint in its place; or one of the two with this record
+abbrev pub IsOneOf : OpenStore → Where → List ℕ → List ℕ → Type 0
+IsOneOf s w body journal = IsEither w (summed s w) journal ⊎ IsEither (with_body w body) (with_body (summed s w) body) journal
+
+-- an image with one of these, which keeps what lay below the ends of both logs at their areas' last sync
+abbrev pub IsLeftOf : OpenStore → Cloud → Where → List ℕ → Image → Type 0
+IsLeftOf s old w body image = IsOneOf s w body (image Journal) × KeepsBelow s.disk.shares.end (old.now Shares) (image Shares)
+    × KeepsBelow s.disk.recipes.end (old.now Recipes) (image Recipes)
+
+-- Whatever the chain that was read says: each image since is one.
+abbrev pub KeepsOrGrows : OpenStore → List ℕ → Cloud → Cloud → Type 0
+KeepsOrGrows s body old new = IsTrue old.told → (w : Where) → IsEnded s.disk.journal (old.now Journal) w → LeavesOnly old new (IsLeftOf s old w body)
 
 -- ---- a Put
 
@@ -111,6 +153,11 @@ IsShareNew n = (1 ≤ n.len) × (n.len ≤ share_limit)
 -- the record of a Put of these shares
 abbrev pub put_record : OpenStore → UserId → List New → Body
 put_record s user news = bodies.Put user (parts_of user (memory_of s.memory) news)
+
+-- the strings that have no place yet, in their order
+abbrev pub unplaced : FinMap fp_cmp Place → List (List ℕ) → List (List ℕ)
+unplaced places [] = []
+unplaced places (string ∷ strings) = if is_some (get places (fingerprint string).0) then unplaced places strings else string ∷ unplaced places strings
 
 -- The Put of these strings is to be added: the store serves the list, which is sound with it too; these are the strings' fingerprints and
 -- lengths; and just those that get a place are staged, in their order.

@@ -1,16 +1,17 @@
 -- An open store, and the list that it serves.
 use Rattle.std.specs.Prelude.{◌≡◌, ℕ, ◌+◌, ◌≤◌, nat_lt, List, if◌then◌else◌}
 use Rattle.cd_edges.specs.Disk.{Cloud}
-use Rattle.half_journal.specs.declared.journal.Stage.TheVariants.{AtEnd}
+use Rattle.half_journal.specs.declared.journal.Stage.TheVariants.{AtEnd, Shut}
 use Rattle.journal_start.specs.declared.start.Header.{Header}
 use Rattle.journal_start.specs.Ranges.{IsHeader}
 use Rattle.user_dedup.specs.declared.command.Command.{Command}
 use Rattle.cloud_areas.specs.Standing.{Chain}
-use Rattle.cloud_disk.specs.Disk.{Disk}
+use Rattle.cloud_disk.specs.Disk.{Disk, regions_end}
 use Rattle.cloud_memory.specs.declared.cloud.CloudMemory.{CloudMemory}
 use Rattle.cloud_memory.specs.Fitting.{FitsRecords}
 use Rattle.cloud_memory.specs.Memory.{HasEnds}
 use Rattle.cloud_memory.specs.Rooms.{memory_of, HasRooms}
+use Rattle.store_opening.specs.Roomy.{IsRoomy}
 use Rattle.store_opening.specs.Spared.{IsFor}
 use Rattle.checkpoints.specs.Known.{IsKnown, checkpoint_in}
 use Rattle.open_store.specs.declared.store.OpenStore.{OpenStore}
@@ -25,8 +26,20 @@ pub record IsSettled (s : OpenStore) : Type 0 where
   pub format : s.header.format ≡ 2
   pub rooms : HasRooms s.header.rooms s.memory
   pub fit : IsOpen s → FitsRecords (memory_of s.memory)
+  pub roomy : IsOpen s → IsRoomy s.header.rooms s.region (memory_of s.memory)
   pub disk : IsFor s.header s.disk
+  pub shares_limit : s.disk.shares.limit ≡ regions_end
+  pub recipes_limit : s.disk.recipes.limit ≡ regions_end
   pub region : s.region ≤ 1
+
+-- Both logs end where the memory says.
+pub record EndsMeet (s : OpenStore) : Type 0 where
+  pub shares : s.disk.shares.end ≡ s.memory.shares_end
+  pub recipes : s.disk.recipes.end ≡ s.memory.recipes_end
+
+-- the store with its journal shut
+abbrev pub closed : OpenStore → OpenStore
+closed s = record s { disk = record s.disk { journal = record s.disk.journal { stage = Shut } } }
 
 -- A memory and a disk serve the list: the disk stands for it by this chain, the memory is the list's and placed by the chain's records, all
 -- that it places stands in the areas, the list is within the rooms and has so many commands, and both logs end where the memory says.

@@ -1,7 +1,10 @@
 //! A Commit.
 
 ghost use Rattle.std.specs.Prelude.{◌+◌, ◌-◌, ◌^◌, min};
-ghost use Rattle.std.specs.Prelude.{◌≡◌, ◌≤◌, ℕ, List, [], ◌∷◌, ◌++◌, length, Some, None, OnOk, OnErr};
+ghost use Rattle.std.specs.Prelude.{◌≡◌, ◌≤◌, ℕ, List, [], ◌∷◌, ◌++◌, length, Some, None, IsTrue, OnOk, OnErr};
+ghost use Rattle.cd_edges.specs.Disk.{Cloud, moment};
+ghost use Rattle.cloud_disk.specs.Held.{flush_moments};
+ghost use Rattle.cloud_disk.specs.Disk.{KeepsOrGrows as GrowsBy};
 ghost use Rattle.std.specs.FinMap.{get};
 ghost use Rattle.cd_edges.specs.Shelf.{IsCall, HasFailed, KeepsCounts};
 ghost use Rattle.container_log.specs.Places.{place_of};
@@ -22,7 +25,8 @@ ghost use Rattle.half_journal.specs.Outcomes.{stage_after as journal_after};
 ghost use Rattle.cloud_areas.specs.Adding.{with_record};
 ghost use Rattle.cloud_memory.specs.Steps.{with_commit};
 ghost use Rattle.open_store.specs.Store.{IsOpen, IsSettled, Serves, Fits};
-ghost use Rattle.open_store.specs.Adding.{IsCommit, commit_body, ServesMore, MadeFirst, IsUnadded, NoneStaged};
+ghost use Rattle.open_store.specs.Adding.{IsCommit, commit_body, ServesMore, MadeFirst, unstaged, NoneStaged};
+ghost use Rattle.open_store.specs.Adding.{EndBehind, Unmoved, KeepsOrGrows};
 ghost use Rattle.open_store.specs.Adding.{OnAdded, MatchFull, MatchFailed, NotLong, WhenLong, IsTooLong, stage_after};
 
 use crate::room::have_room;
@@ -71,6 +75,13 @@ fn add_roomy<V: Shelf>(
     ensures taken { memory_of store.new.memory
         ≡ with_commit (fps_in recipe.now.items) (commit_body store.old user tag version fp len)
         (memory_of store.old.memory) }
+    ensures chain { GrowsBy store.old.disk (body_bytes (bodies.Commit (commit_body store.old user tag version fp len)))
+        (V.cloud_at shelf.old store.old.header.cloud.0) (V.cloud_at shelf.new store.old.header.cloud.0) }
+    ensures ends { OnOk result (EndBehind store.old store.new) }
+    ensures moments { IsTrue (V.cloud_at shelf.old store.old.header.cloud.0).told
+        → OnOk result (moment (V.cloud_at shelf.new store.old.header.cloud.0)
+        ≡ moment (V.cloud_at shelf.old store.old.header.cloud.0) + flush_moments store.old.disk.shares
+        + flush_moments store.old.disk.recipes + 4) }
     ensures number { OnOk result (store.new.commands ≡ min (store.old.commands + 1) (2 ^ 64 - 1)) }
     ensures none { NoneStaged store.new }
     ensures settled { IsSettled store.new }
@@ -95,100 +106,113 @@ fn add_roomy<V: Shelf>(
     add_record(store, shelf)
 }
 
-/// Adds a Commit of a version that the user doesn't have as the list's next command, where the user's rooms are wide enough.
-/// The user owns the fingerprints of the recipe's items; the recipe has this fingerprint and so many bytes, and is to be staged
-/// before.
-///
-/// Where the Commit's record doesn't fit the journal, and only there, a checkpoint is made first, before any other area is
-/// written. Then the recipe is written and synced, and then the record. Whenever a crash comes, and after `Failed` too, the
-/// cloud stands for the list, or for the list with the Commit; after Ok the store serves the list with the Commit. `Full` names
-/// the first room that the Commit would pass, of files and recipes; nothing changes then but that nothing is staged, and no
-/// device call is made. `Failed` comes only where the cloud's count of faults rose, and then the journal is shut. Nothing is
-/// staged afterwards. It takes no memory.
-pub fn add_commit<V: Shelf>(
-    store: &mut OpenStore,
-    shelf: &mut V,
-    user: UserId,
-    tag: Tag,
-    version: Version,
-    fp: Fp,
-    len: u32,
-    recipe: &RecipeView<'_>,
-) -> Result<(), Unadded>
-    requires settled { IsSettled store.old }
-    requires open { IsOpen store.old }
-    requires some { 1 ≤ len }
-    requires new { get (memory_of store.old.memory).files (key_of user.0 tag.0 version.0) ≡ None }
-    requires owned { AreOwned (memory_of store.old.memory).owners user (fps_in recipe.now.items) }
+impl OpenStore {
+    /// Adds a Commit of a version that the user doesn't have as the list's next command, where the user's rooms are wide
+    /// enough. The user owns the fingerprints of the recipe's items; the recipe has this fingerprint and so many bytes, and
+    /// is to be staged before.
+    ///
+    /// Where the Commit's record doesn't fit the journal, and only there, a checkpoint is made first, before any other area
+    /// is written. Then the recipe is written and synced, and then the record. Whenever a crash comes, and after `Failed`
+    /// too, the cloud stands for the list, or for the list with the Commit; after Ok the store serves the list with the
+    /// Commit. `Full` names the first room that the Commit would pass, of files and recipes; nothing changes then but that
+    /// nothing is staged, and no device call is made. `Failed` comes only where the cloud's count of faults rose, and then
+    /// the journal is shut. Nothing is staged afterwards. It takes no memory.
+    pub fn add_commit<V: Shelf>(
+        &mut self,
+        shelf: &mut V,
+        user: UserId,
+        tag: Tag,
+        version: Version,
+        fp: Fp,
+        len: u32,
+        recipe: &RecipeView<'_>,
+    ) -> Result<(), Unadded>
+        requires settled { IsSettled self.old }
+        requires open { IsOpen self.old }
+        requires some { 1 ≤ len }
+        requires new { get (memory_of self.old.memory).files (key_of user.0 tag.0 version.0) ≡ None }
+        requires owned { AreOwned (memory_of self.old.memory).owners user (fps_in recipe.now.items) }
 
-    // by each list that the store serves
-    ensures any_moment { (list : List Command) (c : Chain) (bytes : List ℕ)
-        → IsCommit list c store.old user tag version fp len (fps_in recipe.now.items) bytes
-        (V.cloud_at shelf.old store.old.header.cloud.0)
-        → KeepsOrAdds store.old.header list (commands.Commit user tag version bytes)
-        (V.cloud_at shelf.old store.old.header.cloud.0) (V.cloud_at shelf.new store.old.header.cloud.0) }
-    ensures added { (list : List Command) (c : Chain) (bytes : List ℕ)
-        → IsCommit list c store.old user tag version fp len (fps_in recipe.now.items) bytes
-        (V.cloud_at shelf.old store.old.header.cloud.0)
-        → OnAdded result (ServesMore list c store.old (commands.Commit user tag version bytes)
-        (bodies.Commit (commit_body store.old user tag version fp len))
-        (record { place = place_of store.old.memory.recipes_end len; blob = bytes } ∷ [])
-        store.new (V.cloud_at shelf.new store.old.header.cloud.0)) }
-    ensures checkpoint_first { (list : List Command) (c : Chain) (bytes : List ℕ)
-        → IsCommit list c store.old user tag version fp len (fps_in recipe.now.items) bytes
-        (V.cloud_at shelf.old store.old.header.cloud.0)
-        → ¬ (Fits store.old (length (body_bytes (bodies.Commit (commit_body store.old user tag version fp len)))))
-        → OnAdded result (MadeFirst list c store.old (commands.Commit user tag version bytes)
-        (V.cloud_at shelf.old store.old.header.cloud.0) (V.cloud_at shelf.new store.old.header.cloud.0)) }
-    ensures full_list { (list : List Command) (c : Chain) (bytes : List ℕ)
-        → IsCommit list c store.old user tag version fp len (fps_in recipe.now.items) bytes
-        (V.cloud_at shelf.old store.old.header.cloud.0)
-        → MatchFull result
-        (full_for store.old.header.shape store.old.header.rooms list (commands.Commit user tag version bytes) ≡ None)
-        (λ full. full_for store.old.header.shape store.old.header.rooms list (commands.Commit user tag version bytes)
-        ≡ Some (seen full)) }
-    ensures never_long { (list : List Command) (c : Chain) (bytes : List ℕ)
-        → IsCommit list c store.old user tag version fp len (fps_in recipe.now.items) bytes
-        (V.cloud_at shelf.old store.old.header.cloud.0) → NotLong result }
+        // by each list that the store serves
+        ensures any_moment { (list : List Command) (c : Chain) (bytes : List ℕ)
+            → IsCommit list c self.old user tag version fp len (fps_in recipe.now.items) bytes
+            (V.cloud_at shelf.old self.old.header.cloud.0)
+            → KeepsOrAdds self.old.header list (commands.Commit user tag version bytes)
+            (V.cloud_at shelf.old self.old.header.cloud.0) (V.cloud_at shelf.new self.old.header.cloud.0) }
+        ensures added { (list : List Command) (c : Chain) (bytes : List ℕ)
+            → IsCommit list c self.old user tag version fp len (fps_in recipe.now.items) bytes
+            (V.cloud_at shelf.old self.old.header.cloud.0)
+            → OnAdded result (ServesMore list c self.old (commands.Commit user tag version bytes)
+            (bodies.Commit (commit_body self.old user tag version fp len))
+            (record { place = place_of self.old.memory.recipes_end len; blob = bytes } ∷ [])
+            self.new (V.cloud_at shelf.new self.old.header.cloud.0)) }
+        ensures checkpoint_first { (list : List Command) (c : Chain) (bytes : List ℕ)
+            → IsCommit list c self.old user tag version fp len (fps_in recipe.now.items) bytes
+            (V.cloud_at shelf.old self.old.header.cloud.0)
+            → ¬ (Fits self.old (length (body_bytes (bodies.Commit (commit_body self.old user tag version fp len)))))
+            → OnAdded result (MadeFirst list c self.old (commands.Commit user tag version bytes)
+            (V.cloud_at shelf.old self.old.header.cloud.0) (V.cloud_at shelf.new self.old.header.cloud.0)) }
+        ensures full_list { (list : List Command) (c : Chain) (bytes : List ℕ)
+            → IsCommit list c self.old user tag version fp len (fps_in recipe.now.items) bytes
+            (V.cloud_at shelf.old self.old.header.cloud.0)
+            → MatchFull result
+            (full_for self.old.header.shape self.old.header.rooms list (commands.Commit user tag version bytes) ≡ None)
+            (λ full. full_for self.old.header.shape self.old.header.rooms list (commands.Commit user tag version bytes)
+            ≡ Some (seen full)) }
+        ensures never_long { (list : List Command) (c : Chain) (bytes : List ℕ)
+            → IsCommit list c self.old user tag version fp len (fps_in recipe.now.items) bytes
+            (V.cloud_at shelf.old self.old.header.cloud.0) → NotLong result }
 
-    // whatever is known of the cloud
-    ensures full { MatchFull result
-        (full_commit store.old.header.rooms user (memory_of store.old.memory) len ≡ None)
-        (λ full. full_commit store.old.header.rooms user (memory_of store.old.memory) len ≡ Some (seen full)) }
-    ensures unadded { MatchFull result (Unit {0})
-        (λ full. IsUnadded store.old store.new × (shelf.new ≡ shelf.old)) }
-    ensures taken { OnAdded result (memory_of store.new.memory
-        ≡ with_commit (fps_in recipe.now.items) (commit_body store.old user tag version fp len)
-        (memory_of store.old.memory)) }
-    ensures number { OnAdded result (store.new.commands ≡ min (store.old.commands + 1) (2 ^ 64 - 1)) }
-    ensures long { WhenLong result (IsTooLong store.old 89) }
-    ensures none { NoneStaged store.new }
-    ensures settled { IsSettled store.new }
-    ensures header { store.new.header ≡ store.old.header }
-    ensures stage { store.new.disk.journal.stage ≡ stage_after result }
-    ensures call { IsCall (V.cloud_at shelf.old) (V.cloud_at shelf.new) store.old.header.cloud.0
-        (V.faults shelf.old) (V.faults shelf.new) }
-    ensures counts { MatchFailed result
-        (KeepsCounts (V.cloud_at shelf.old store.old.header.cloud.0)
-        (V.cloud_at shelf.new store.old.header.cloud.0) (V.faults shelf.old) (V.faults shelf.new))
-        (HasFailed (V.cloud_at shelf.old store.old.header.cloud.0)
-        (V.cloud_at shelf.new store.old.header.cloud.0) (V.faults shelf.old) (V.faults shelf.new)) }
-{
-    let rooms = store.header.rooms;
-    match store.memory.full_for_commit(&rooms, user, len) {
-        Some(full) => {
-            store.disk.unstage();
-            return Err(Unadded::Full(full));
+        // whatever is known of the cloud
+        ensures full { MatchFull result
+            (full_commit self.old.header.rooms user (memory_of self.old.memory) len ≡ None)
+            (λ full. full_commit self.old.header.rooms user (memory_of self.old.memory) len ≡ Some (seen full)) }
+        ensures unadded { MatchFull result (Unit {0})
+            (λ full. (self.new ≡ unstaged self.old) × (shelf.new ≡ shelf.old)) }
+        ensures serves_still { MatchFull result (Unit {0}) (λ full. (list : List Command) (c : Chain) (cloud : Cloud)
+            → Serves list c self.old cloud → Serves list c self.new cloud) }
+        ensures taken { OnAdded result (memory_of self.new.memory
+            ≡ with_commit (fps_in recipe.now.items) (commit_body self.old user tag version fp len)
+            (memory_of self.old.memory)) }
+        ensures chain { KeepsOrGrows self.old (body_bytes (bodies.Commit
+            (commit_body self.old user tag version fp len)))
+            (V.cloud_at shelf.old self.old.header.cloud.0) (V.cloud_at shelf.new self.old.header.cloud.0) }
+        ensures ends { OnAdded result (EndBehind self.old self.new) }
+        ensures moments { IsTrue (V.cloud_at shelf.old self.old.header.cloud.0).told → Fits self.old 89
+            → OnAdded result (moment (V.cloud_at shelf.new self.old.header.cloud.0)
+            ≡ moment (V.cloud_at shelf.old self.old.header.cloud.0) + flush_moments self.old.disk.shares
+            + flush_moments self.old.disk.recipes + 4) }
+        ensures number { OnAdded result (self.new.commands ≡ min (self.old.commands + 1) (2 ^ 64 - 1)) }
+        ensures long { WhenLong result (IsTooLong self.old 89) }
+        ensures unmoved { WhenLong result (Unmoved self.old self.new) }
+        ensures none { NoneStaged self.new }
+        ensures settled { IsSettled self.new }
+        ensures header { self.new.header ≡ self.old.header }
+        ensures stage { self.new.disk.journal.stage ≡ stage_after result }
+        ensures call { IsCall (V.cloud_at shelf.old) (V.cloud_at shelf.new) self.old.header.cloud.0
+            (V.faults shelf.old) (V.faults shelf.new) }
+        ensures counts { MatchFailed result
+            (KeepsCounts (V.cloud_at shelf.old self.old.header.cloud.0)
+            (V.cloud_at shelf.new self.old.header.cloud.0) (V.faults shelf.old) (V.faults shelf.new))
+            (HasFailed (V.cloud_at shelf.old self.old.header.cloud.0)
+            (V.cloud_at shelf.new self.old.header.cloud.0) (V.faults shelf.old) (V.faults shelf.new)) }
+    {
+        let rooms = self.header.rooms;
+        match self.memory.full_for_commit(&rooms, user, len) {
+            Some(full) => {
+                self.disk.unstage();
+                return Err(Unadded::Full(full));
+            }
+            None => {}
         }
-        None => {}
-    }
-    match have_room(store, shelf, COMMIT_LEN) {
-        Ok(()) => {}
-        Err(Unsettled::Long) => return Err(Unadded::Long),
-        Err(Unsettled::Failed) => return Err(Unadded::Failed),
-    }
-    match add_roomy(store, shelf, user, tag, version, fp, len, recipe) {
-        Ok(()) => Ok(()),
-        Err(Failed) => Err(Unadded::Failed),
+        match have_room(self, shelf, COMMIT_LEN) {
+            Ok(()) => {}
+            Err(Unsettled::Long) => return Err(Unadded::Long),
+            Err(Unsettled::Failed) => return Err(Unadded::Failed),
+        }
+        match add_roomy(self, shelf, user, tag, version, fp, len, recipe) {
+            Ok(()) => Ok(()),
+            Err(Failed) => Err(Unadded::Failed),
+        }
     }
 }

@@ -1,7 +1,10 @@
 //! A Delete.
 
 ghost use Rattle.std.specs.Prelude.{◌+◌, ◌-◌, min};
-ghost use Rattle.std.specs.Prelude.{◌≡◌, ◌<◌, ◌^◌, ℕ, List, [], ◌∷◌, ◌++◌, length, IsSome, Some, OnOk, OnErr};
+ghost use Rattle.std.specs.Prelude.{◌≡◌, ◌<◌, ◌^◌, ℕ, List, [], ◌∷◌, ◌++◌, length, IsSome, Some, IsTrue, OnOk, OnErr};
+ghost use Rattle.cd_edges.specs.Disk.{moment};
+ghost use Rattle.cloud_disk.specs.Held.{flush_moments};
+ghost use Rattle.cloud_disk.specs.Disk.{KeepsOrGrows as GrowsBy};
 ghost use Rattle.std.specs.FinMap.{get};
 ghost use Rattle.cd_edges.specs.Shelf.{IsCall, HasFailed, KeepsCounts};
 ghost use Rattle.file_index.specs.Files.{key_of};
@@ -25,6 +28,7 @@ ghost use Rattle.cloud_memory.specs.Memory.{Remembers};
 ghost use Rattle.cloud_memory.specs.Steps.{without_entry};
 ghost use Rattle.open_store.specs.Store.{IsOpen, IsSettled, Serves, Fits};
 ghost use Rattle.open_store.specs.Adding.{IsDelete, ServesMore, MadeFirst, NoneStaged};
+ghost use Rattle.open_store.specs.Adding.{EndBehind, Unmoved, KeepsOrGrows};
 ghost use Rattle.open_store.specs.Adding.{OnAdded, MatchFull, MatchFailed, NotLong, WhenLong, IsTooLong, stage_after};
 
 use crate::room::have_room;
@@ -92,6 +96,14 @@ fn add_roomy<V: Shelf>(
     ensures taken { memory_of store.new.memory
         ≡ without_entry (fps_of store.old.header.shape recipe.now) user
         (key_of user.0 tag.0 version.0) (memory_of store.old.memory) }
+    ensures chain { GrowsBy store.old.disk (body_bytes (bodies.Delete
+        (record { user = user; tag = tag; version = version })))
+        (V.cloud_at shelf.old store.old.header.cloud.0) (V.cloud_at shelf.new store.old.header.cloud.0) }
+    ensures ends { OnOk result (EndBehind store.old store.new) }
+    ensures moments { IsTrue (V.cloud_at shelf.old store.old.header.cloud.0).told
+        → OnOk result (moment (V.cloud_at shelf.new store.old.header.cloud.0)
+        ≡ moment (V.cloud_at shelf.old store.old.header.cloud.0) + flush_moments store.old.disk.shares
+        + flush_moments store.old.disk.recipes + 4) }
     ensures number { OnOk result (store.new.commands ≡ min (store.old.commands + 1) (2 ^ 64 - 1)) }
     ensures none { NoneStaged store.new }
     ensures settled { IsSettled store.new }
@@ -112,73 +124,86 @@ fn add_roomy<V: Shelf>(
     add_record(store, shelf)
 }
 
-/// Adds a Delete of a version that the user has as the list's next command: its entry goes, and each fingerprint that its recipe
-/// names loses a use for each item. `recipe` is the entry's recipe, as it was read; bytes that are no recipe name nothing.
-///
-/// Where the Delete's record doesn't fit the journal, and only there, a checkpoint is made first, before any other area is
-/// written. Then the record is written and synced. Whenever a crash comes, and after `Failed` too, the cloud stands for the
-/// list, or for the list with the Delete; after Ok the store serves the list with the Delete. `Full` never comes. `Failed`
-/// comes only where the cloud's count of faults rose, and then the journal is shut. Nothing is staged afterwards. It takes no
-/// memory.
-pub fn add_delete<V: Shelf>(
-    store: &mut OpenStore,
-    shelf: &mut V,
-    user: UserId,
-    tag: Tag,
-    version: Version,
-    recipe: &[u8],
-) -> Result<(), Unadded>
-    requires settled { IsSettled store.old }
-    requires open { IsOpen store.old }
-    requires recipe { length recipe.now < 2 ^ 32 }
-    requires there { IsSome (get (memory_of store.old.memory).files (key_of user.0 tag.0 version.0)) }
+impl OpenStore {
+    /// Adds a Delete of a version that the user has as the list's next command: its entry goes, and each fingerprint that
+    /// its recipe names loses a use for each item. `recipe` is the entry's recipe, as it was read; bytes that are no recipe
+    /// name nothing.
+    ///
+    /// Where the Delete's record doesn't fit the journal, and only there, a checkpoint is made first, before any other area
+    /// is written. Then the record is written and synced. Whenever a crash comes, and after `Failed` too, the cloud stands
+    /// for the list, or for the list with the Delete; after Ok the store serves the list with the Delete. `Full` never
+    /// comes. `Failed` comes only where the cloud's count of faults rose, and then the journal is shut. Nothing is staged
+    /// afterwards. It takes no memory.
+    pub fn add_delete<V: Shelf>(
+        &mut self,
+        shelf: &mut V,
+        user: UserId,
+        tag: Tag,
+        version: Version,
+        recipe: &[u8],
+    ) -> Result<(), Unadded>
+        requires settled { IsSettled self.old }
+        requires open { IsOpen self.old }
+        requires recipe { length recipe.now < 2 ^ 32 }
+        requires there { IsSome (get (memory_of self.old.memory).files (key_of user.0 tag.0 version.0)) }
 
-    // by each list that the store serves
-    ensures any_moment { (list : List Command) (c : Chain) (entry : FileEntry)
-        → IsDelete list c store.old user tag version entry recipe.now (V.cloud_at shelf.old store.old.header.cloud.0)
-        → KeepsOrAdds store.old.header list (commands.Delete user tag version)
-        (V.cloud_at shelf.old store.old.header.cloud.0) (V.cloud_at shelf.new store.old.header.cloud.0) }
-    ensures added { (list : List Command) (c : Chain) (entry : FileEntry)
-        → IsDelete list c store.old user tag version entry recipe.now (V.cloud_at shelf.old store.old.header.cloud.0)
-        → OnAdded result (ServesMore list c store.old (commands.Delete user tag version)
-        (bodies.Delete (record { user = user; tag = tag; version = version })) []
-        store.new (V.cloud_at shelf.new store.old.header.cloud.0)) }
-    ensures checkpoint_first { (list : List Command) (c : Chain) (entry : FileEntry)
-        → IsDelete list c store.old user tag version entry recipe.now
-        (V.cloud_at shelf.old store.old.header.cloud.0)
-        → ¬ (Fits store.old (length (body_bytes (bodies.Delete (record { user = user; tag = tag; version = version })))))
-        → OnAdded result (MadeFirst list c store.old (commands.Delete user tag version)
-        (V.cloud_at shelf.old store.old.header.cloud.0) (V.cloud_at shelf.new store.old.header.cloud.0)) }
-    ensures never_long { (list : List Command) (c : Chain) (entry : FileEntry)
-        → IsDelete list c store.old user tag version entry recipe.now (V.cloud_at shelf.old store.old.header.cloud.0)
-        → NotLong result }
+        // by each list that the store serves
+        ensures any_moment { (list : List Command) (c : Chain) (entry : FileEntry)
+            → IsDelete list c self.old user tag version entry recipe.now (V.cloud_at shelf.old self.old.header.cloud.0)
+            → KeepsOrAdds self.old.header list (commands.Delete user tag version)
+            (V.cloud_at shelf.old self.old.header.cloud.0) (V.cloud_at shelf.new self.old.header.cloud.0) }
+        ensures added { (list : List Command) (c : Chain) (entry : FileEntry)
+            → IsDelete list c self.old user tag version entry recipe.now (V.cloud_at shelf.old self.old.header.cloud.0)
+            → OnAdded result (ServesMore list c self.old (commands.Delete user tag version)
+            (bodies.Delete (record { user = user; tag = tag; version = version })) []
+            self.new (V.cloud_at shelf.new self.old.header.cloud.0)) }
+        ensures checkpoint_first { (list : List Command) (c : Chain) (entry : FileEntry)
+            → IsDelete list c self.old user tag version entry recipe.now
+            (V.cloud_at shelf.old self.old.header.cloud.0)
+            → ¬ (Fits self.old (length (body_bytes (bodies.Delete
+            (record { user = user; tag = tag; version = version })))))
+            → OnAdded result (MadeFirst list c self.old (commands.Delete user tag version)
+            (V.cloud_at shelf.old self.old.header.cloud.0) (V.cloud_at shelf.new self.old.header.cloud.0)) }
+        ensures never_long { (list : List Command) (c : Chain) (entry : FileEntry)
+            → IsDelete list c self.old user tag version entry recipe.now (V.cloud_at shelf.old self.old.header.cloud.0)
+            → NotLong result }
 
-    // whatever is known of the cloud
-    ensures never_full { MatchFull result (Unit {0}) (λ full. ⊥) }
-    ensures taken { OnAdded result (memory_of store.new.memory
-        ≡ without_entry (fps_of store.old.header.shape recipe.now) user
-        (key_of user.0 tag.0 version.0) (memory_of store.old.memory)) }
-    ensures number { OnAdded result (store.new.commands ≡ min (store.old.commands + 1) (2 ^ 64 - 1)) }
-    ensures long { WhenLong result (IsTooLong store.old 45) }
-    ensures none { NoneStaged store.new }
-    ensures settled { IsSettled store.new }
-    ensures header { store.new.header ≡ store.old.header }
-    ensures stage { store.new.disk.journal.stage ≡ stage_after result }
-    ensures call { IsCall (V.cloud_at shelf.old) (V.cloud_at shelf.new) store.old.header.cloud.0
-        (V.faults shelf.old) (V.faults shelf.new) }
-    ensures counts { MatchFailed result
-        (KeepsCounts (V.cloud_at shelf.old store.old.header.cloud.0)
-        (V.cloud_at shelf.new store.old.header.cloud.0) (V.faults shelf.old) (V.faults shelf.new))
-        (HasFailed (V.cloud_at shelf.old store.old.header.cloud.0)
-        (V.cloud_at shelf.new store.old.header.cloud.0) (V.faults shelf.old) (V.faults shelf.new)) }
-{
-    match have_room(store, shelf, DELETE_LEN) {
-        Ok(()) => {}
-        Err(Unsettled::Long) => return Err(Unadded::Long),
-        Err(Unsettled::Failed) => return Err(Unadded::Failed),
-    }
-    match add_roomy(store, shelf, user, tag, version, recipe) {
-        Ok(()) => Ok(()),
-        Err(Failed) => Err(Unadded::Failed),
+        // whatever is known of the cloud
+        ensures never_full { MatchFull result (Unit {0}) (λ full. ⊥) }
+        ensures taken { OnAdded result (memory_of self.new.memory
+            ≡ without_entry (fps_of self.old.header.shape recipe.now) user
+            (key_of user.0 tag.0 version.0) (memory_of self.old.memory)) }
+        ensures chain { KeepsOrGrows self.old (body_bytes (bodies.Delete
+            (record { user = user; tag = tag; version = version })))
+            (V.cloud_at shelf.old self.old.header.cloud.0) (V.cloud_at shelf.new self.old.header.cloud.0) }
+        ensures ends { OnAdded result (EndBehind self.old self.new) }
+        ensures moments { IsTrue (V.cloud_at shelf.old self.old.header.cloud.0).told → Fits self.old 45
+            → OnAdded result (moment (V.cloud_at shelf.new self.old.header.cloud.0)
+            ≡ moment (V.cloud_at shelf.old self.old.header.cloud.0) + flush_moments self.old.disk.shares
+            + flush_moments self.old.disk.recipes + 4) }
+        ensures number { OnAdded result (self.new.commands ≡ min (self.old.commands + 1) (2 ^ 64 - 1)) }
+        ensures long { WhenLong result (IsTooLong self.old 45) }
+        ensures unmoved { WhenLong result (Unmoved self.old self.new) }
+        ensures none { NoneStaged self.new }
+        ensures settled { IsSettled self.new }
+        ensures header { self.new.header ≡ self.old.header }
+        ensures stage { self.new.disk.journal.stage ≡ stage_after result }
+        ensures call { IsCall (V.cloud_at shelf.old) (V.cloud_at shelf.new) self.old.header.cloud.0
+            (V.faults shelf.old) (V.faults shelf.new) }
+        ensures counts { MatchFailed result
+            (KeepsCounts (V.cloud_at shelf.old self.old.header.cloud.0)
+            (V.cloud_at shelf.new self.old.header.cloud.0) (V.faults shelf.old) (V.faults shelf.new))
+            (HasFailed (V.cloud_at shelf.old self.old.header.cloud.0)
+            (V.cloud_at shelf.new self.old.header.cloud.0) (V.faults shelf.old) (V.faults shelf.new)) }
+    {
+        match have_room(self, shelf, DELETE_LEN) {
+            Ok(()) => {}
+            Err(Unsettled::Long) => return Err(Unadded::Long),
+            Err(Unsettled::Failed) => return Err(Unadded::Failed),
+        }
+        match add_roomy(self, shelf, user, tag, version, recipe) {
+            Ok(()) => Ok(()),
+            Err(Failed) => Err(Unadded::Failed),
+        }
     }
 }

@@ -4,15 +4,11 @@
 
 mod commits;
 mod deletes;
+pub mod laws;
 mod opening;
 mod puts;
 mod room;
 mod store;
 mod writing;
 
-pub use commits::add_commit;
-pub use deletes::add_delete;
-pub use opening::open;
-pub use puts::add_put;
-pub use room::make_room;
 pub use store::{OpenStore, Unadded};

@@ -1,7 +1,10 @@
 //! A Put.
 
 ghost use Rattle.std.specs.Prelude.{◌+◌, ◌-◌, ◌^◌, min};
-ghost use Rattle.std.specs.Prelude.{◌≡◌, ◌<◌, ◌≤◌, ℕ, List, [], ◌∷◌, ◌++◌, length, All, Some, None, OnOk, OnErr};
+ghost use Rattle.std.specs.Prelude.{◌≡◌, ◌<◌, ◌≤◌, ℕ, List, [], ◌∷◌, ◌++◌, length, All, Some, None, IsTrue, OnOk, OnErr};
+ghost use Rattle.cd_edges.specs.Disk.{Cloud, moment};
+ghost use Rattle.cloud_disk.specs.Held.{flush_moments};
+ghost use Rattle.cloud_disk.specs.Disk.{KeepsOrGrows as GrowsBy};
 ghost use Rattle.cd_edges.specs.Shelf.{IsCall, HasFailed, KeepsCounts};
 ghost use Rattle.user_dedup.specs.Dedup.{FullRoom};
 ghost use Rattle.user_dedup.specs.declared.command.Command.{Command};
@@ -17,7 +20,8 @@ ghost use Rattle.record_bodies.specs.Spelling.{body_bytes};
 ghost use Rattle.cloud_areas.specs.Adding.{with_record};
 ghost use Rattle.cloud_memory.specs.Steps.{parts_of, with_put};
 ghost use Rattle.open_store.specs.Store.{IsOpen, IsSettled, Serves, Fits};
-ghost use Rattle.open_store.specs.Adding.{IsShareNew, IsPut, put_record, ServesMore, MadeFirst, IsUnadded, NoneStaged};
+ghost use Rattle.open_store.specs.Adding.{IsShareNew, IsPut, put_record, ServesMore, MadeFirst, unstaged, NoneStaged};
+ghost use Rattle.open_store.specs.Adding.{EndBehind, Unmoved, KeepsOrGrows};
 ghost use Rattle.open_store.specs.Adding.{OnAdded, MatchFull, MatchFailed, NotLong, WhenLong, IsTooLong, stage_after};
 
 use crate::room::have_room;
@@ -57,6 +61,13 @@ fn add_roomy<V: Shelf>(
         (V.cloud_at shelf.new store.old.header.cloud.0)) }
     ensures taken { memory_of store.new.memory
         ≡ with_put user (parts_of user (memory_of store.old.memory) news.now) (memory_of store.old.memory) }
+    ensures chain { GrowsBy store.old.disk (body_bytes (put_record store.old user news.now))
+        (V.cloud_at shelf.old store.old.header.cloud.0) (V.cloud_at shelf.new store.old.header.cloud.0) }
+    ensures ends { OnOk result (EndBehind store.old store.new) }
+    ensures moments { IsTrue (V.cloud_at shelf.old store.old.header.cloud.0).told
+        → OnOk result (moment (V.cloud_at shelf.new store.old.header.cloud.0)
+        ≡ moment (V.cloud_at shelf.old store.old.header.cloud.0) + flush_moments store.old.disk.shares
+        + flush_moments store.old.disk.recipes + 4) }
     ensures number { OnOk result (store.new.commands ≡ min (store.old.commands + 1) (2 ^ 64 - 1)) }
     ensures none { NoneStaged store.new }
     ensures settled { IsSettled store.new }
@@ -84,91 +95,106 @@ fn add_roomy<V: Shelf>(
     add_record(store, shelf)
 }
 
-/// Adds a Put of these shares, which are new to the user and no two alike, as the list's next command, where the user's rooms are
-/// wide enough. The shares that get a place, those whose fingerprint has none yet, are to be staged before, in their order.
-///
-/// Where the Put's record doesn't fit the journal, and only there, a checkpoint is made first, before any other area is
-/// written. Then what is staged is written and synced, and then the record. Whenever a crash comes, and after `Failed` too, the
-/// cloud stands for the list, or for the list with the Put; after Ok the store serves the list with the Put. `Full` names the
-/// first room that the Put would pass, of owners and shares; nothing changes then but that nothing is staged, and no device
-/// call is made. `Failed` comes only where the cloud's count of faults rose, and then the journal is shut. Nothing is staged
-/// afterwards. It takes no memory.
-pub fn add_put<V: Shelf>(
-    store: &mut OpenStore,
-    shelf: &mut V,
-    user: UserId,
-    news: &[New],
-) -> Result<(), Unadded>
-    requires settled { IsSettled store.old }
-    requires open { IsOpen store.old }
-    requires some { 1 ≤ length news.now }
-    requires few { length news.now ≤ 256 }
-    requires lens { All IsShareNew news.now }
-    requires new { AreNewTo (memory_of store.old.memory) user news.now }
+impl OpenStore {
+    /// Adds a Put of these shares, which are new to the user and no two alike, as the list's next command, where the user's
+    /// rooms are wide enough. The shares that get a place, those whose fingerprint has none yet, are to be staged before,
+    /// in their order.
+    ///
+    /// Where the Put's record doesn't fit the journal, and only there, a checkpoint is made first, before any other area is
+    /// written. Then what is staged is written and synced, and then the record. Whenever a crash comes, and after `Failed`
+    /// too, the cloud stands for the list, or for the list with the Put; after Ok the store serves the list with the Put.
+    /// `Full` names the first room that the Put would pass, of owners and shares; nothing changes then but that nothing is
+    /// staged, and no device call is made. `Failed` comes only where the cloud's count of faults rose, and then the journal
+    /// is shut. Nothing is staged afterwards. It takes no memory.
+    pub fn add_put<V: Shelf>(
+        &mut self,
+        shelf: &mut V,
+        user: UserId,
+        news: &[New],
+    ) -> Result<(), Unadded>
+        requires settled { IsSettled self.old }
+        requires open { IsOpen self.old }
+        requires some { 1 ≤ length news.now }
+        requires few { length news.now ≤ 256 }
+        requires lens { All IsShareNew news.now }
+        requires new { AreNewTo (memory_of self.old.memory) user news.now }
 
-    // by each list that the store serves
-    ensures any_moment { (list : List Command) (c : Chain) (strings : List (List ℕ))
-        → IsPut list c store.old user news.now strings (V.cloud_at shelf.old store.old.header.cloud.0)
-        → KeepsOrAdds store.old.header list (commands.Put user strings)
-        (V.cloud_at shelf.old store.old.header.cloud.0) (V.cloud_at shelf.new store.old.header.cloud.0) }
-    ensures added { (list : List Command) (c : Chain) (strings : List (List ℕ))
-        → IsPut list c store.old user news.now strings (V.cloud_at shelf.old store.old.header.cloud.0)
-        → OnAdded result (ServesMore list c store.old (commands.Put user strings) (put_record store.old user news.now) []
-        store.new (V.cloud_at shelf.new store.old.header.cloud.0)) }
-    ensures checkpoint_first { (list : List Command) (c : Chain) (strings : List (List ℕ))
-        → IsPut list c store.old user news.now strings
-        (V.cloud_at shelf.old store.old.header.cloud.0)
-        → ¬ (Fits store.old (length (body_bytes (put_record store.old user news.now))))
-        → OnAdded result (MadeFirst list c store.old (commands.Put user strings)
-        (V.cloud_at shelf.old store.old.header.cloud.0) (V.cloud_at shelf.new store.old.header.cloud.0)) }
-    ensures full_list { (list : List Command) (c : Chain) (strings : List (List ℕ))
-        → IsPut list c store.old user news.now strings (V.cloud_at shelf.old store.old.header.cloud.0)
-        → MatchFull result
-        (full_for store.old.header.shape store.old.header.rooms list (commands.Put user strings) ≡ None)
-        (λ full. full_for store.old.header.shape store.old.header.rooms list (commands.Put user strings)
-        ≡ Some (seen full)) }
-    ensures never_long { (list : List Command) (c : Chain) (strings : List (List ℕ))
-        → IsPut list c store.old user news.now strings (V.cloud_at shelf.old store.old.header.cloud.0)
-        → NotLong result }
+        // by each list that the store serves
+        ensures any_moment { (list : List Command) (c : Chain) (strings : List (List ℕ))
+            → IsPut list c self.old user news.now strings (V.cloud_at shelf.old self.old.header.cloud.0)
+            → KeepsOrAdds self.old.header list (commands.Put user strings)
+            (V.cloud_at shelf.old self.old.header.cloud.0) (V.cloud_at shelf.new self.old.header.cloud.0) }
+        ensures added { (list : List Command) (c : Chain) (strings : List (List ℕ))
+            → IsPut list c self.old user news.now strings (V.cloud_at shelf.old self.old.header.cloud.0)
+            → OnAdded result (ServesMore list c self.old (commands.Put user strings)
+            (put_record self.old user news.now) []
+            self.new (V.cloud_at shelf.new self.old.header.cloud.0)) }
+        ensures checkpoint_first { (list : List Command) (c : Chain) (strings : List (List ℕ))
+            → IsPut list c self.old user news.now strings
+            (V.cloud_at shelf.old self.old.header.cloud.0)
+            → ¬ (Fits self.old (length (body_bytes (put_record self.old user news.now))))
+            → OnAdded result (MadeFirst list c self.old (commands.Put user strings)
+            (V.cloud_at shelf.old self.old.header.cloud.0) (V.cloud_at shelf.new self.old.header.cloud.0)) }
+        ensures full_list { (list : List Command) (c : Chain) (strings : List (List ℕ))
+            → IsPut list c self.old user news.now strings (V.cloud_at shelf.old self.old.header.cloud.0)
+            → MatchFull result
+            (full_for self.old.header.shape self.old.header.rooms list (commands.Put user strings) ≡ None)
+            (λ full. full_for self.old.header.shape self.old.header.rooms list (commands.Put user strings)
+            ≡ Some (seen full)) }
+        ensures never_long { (list : List Command) (c : Chain) (strings : List (List ℕ))
+            → IsPut list c self.old user news.now strings (V.cloud_at shelf.old self.old.header.cloud.0)
+            → NotLong result }
 
-    // whatever is known of the cloud
-    ensures full { MatchFull result
-        (full_news store.old.header.rooms user (memory_of store.old.memory) news.now ≡ None)
-        (λ full. full_news store.old.header.rooms user (memory_of store.old.memory) news.now ≡ Some (seen full)) }
-    ensures unadded { MatchFull result (Unit {0})
-        (λ full. IsUnadded store.old store.new × (shelf.new ≡ shelf.old)) }
-    ensures taken { OnAdded result (memory_of store.new.memory
-        ≡ with_put user (parts_of user (memory_of store.old.memory) news.now) (memory_of store.old.memory)) }
-    ensures number { OnAdded result (store.new.commands ≡ min (store.old.commands + 1) (2 ^ 64 - 1)) }
-    ensures long { WhenLong result (IsTooLong store.old (length (body_bytes (put_record store.old user news.now)))) }
-    ensures none { NoneStaged store.new }
-    ensures settled { IsSettled store.new }
-    ensures header { store.new.header ≡ store.old.header }
-    ensures stage { store.new.disk.journal.stage ≡ stage_after result }
-    ensures call { IsCall (V.cloud_at shelf.old) (V.cloud_at shelf.new) store.old.header.cloud.0
-        (V.faults shelf.old) (V.faults shelf.new) }
-    ensures counts { MatchFailed result
-        (KeepsCounts (V.cloud_at shelf.old store.old.header.cloud.0)
-        (V.cloud_at shelf.new store.old.header.cloud.0) (V.faults shelf.old) (V.faults shelf.new))
-        (HasFailed (V.cloud_at shelf.old store.old.header.cloud.0)
-        (V.cloud_at shelf.new store.old.header.cloud.0) (V.faults shelf.old) (V.faults shelf.new)) }
-{
-    let rooms = store.header.rooms;
-    match store.memory.full_for_put(&rooms, user, news) {
-        Some(full) => {
-            store.disk.unstage();
-            return Err(Unadded::Full(full));
+        // whatever is known of the cloud
+        ensures full { MatchFull result
+            (full_news self.old.header.rooms user (memory_of self.old.memory) news.now ≡ None)
+            (λ full. full_news self.old.header.rooms user (memory_of self.old.memory) news.now ≡ Some (seen full)) }
+        ensures unadded { MatchFull result (Unit {0})
+            (λ full. (self.new ≡ unstaged self.old) × (shelf.new ≡ shelf.old)) }
+        ensures serves_still { MatchFull result (Unit {0}) (λ full. (list : List Command) (c : Chain) (cloud : Cloud)
+            → Serves list c self.old cloud → Serves list c self.new cloud) }
+        ensures taken { OnAdded result (memory_of self.new.memory
+            ≡ with_put user (parts_of user (memory_of self.old.memory) news.now) (memory_of self.old.memory)) }
+        ensures chain { KeepsOrGrows self.old (body_bytes (put_record self.old user news.now))
+            (V.cloud_at shelf.old self.old.header.cloud.0) (V.cloud_at shelf.new self.old.header.cloud.0) }
+        ensures ends { OnAdded result (EndBehind self.old self.new) }
+        ensures moments { IsTrue (V.cloud_at shelf.old self.old.header.cloud.0).told
+            → Fits self.old (length (body_bytes (put_record self.old user news.now)))
+            → OnAdded result (moment (V.cloud_at shelf.new self.old.header.cloud.0)
+            ≡ moment (V.cloud_at shelf.old self.old.header.cloud.0) + flush_moments self.old.disk.shares
+            + flush_moments self.old.disk.recipes + 4) }
+        ensures number { OnAdded result (self.new.commands ≡ min (self.old.commands + 1) (2 ^ 64 - 1)) }
+        ensures long { WhenLong result (IsTooLong self.old (length (body_bytes (put_record self.old user news.now)))) }
+        ensures unmoved { WhenLong result (Unmoved self.old self.new) }
+        ensures none { NoneStaged self.new }
+        ensures settled { IsSettled self.new }
+        ensures header { self.new.header ≡ self.old.header }
+        ensures stage { self.new.disk.journal.stage ≡ stage_after result }
+        ensures call { IsCall (V.cloud_at shelf.old) (V.cloud_at shelf.new) self.old.header.cloud.0
+            (V.faults shelf.old) (V.faults shelf.new) }
+        ensures counts { MatchFailed result
+            (KeepsCounts (V.cloud_at shelf.old self.old.header.cloud.0)
+            (V.cloud_at shelf.new self.old.header.cloud.0) (V.faults shelf.old) (V.faults shelf.new))
+            (HasFailed (V.cloud_at shelf.old self.old.header.cloud.0)
+            (V.cloud_at shelf.new self.old.header.cloud.0) (V.faults shelf.old) (V.faults shelf.new)) }
+    {
+        let rooms = self.header.rooms;
+        match self.memory.full_for_put(&rooms, user, news) {
+            Some(full) => {
+                self.disk.unstage();
+                return Err(Unadded::Full(full));
+            }
+            None => {}
         }
-        None => {}
-    }
-    let len = store.memory.put_len(news);
-    match have_room(store, shelf, len) {
-        Ok(()) => {}
-        Err(Unsettled::Long) => return Err(Unadded::Long),
-        Err(Unsettled::Failed) => return Err(Unadded::Failed),
-    }
-    match add_roomy(store, shelf, user, news) {
-        Ok(()) => Ok(()),
-        Err(Failed) => Err(Unadded::Failed),
+        let len = self.memory.put_len(news);
+        match have_room(self, shelf, len) {
+            Ok(()) => {}
+            Err(Unsettled::Long) => return Err(Unadded::Long),
+            Err(Unsettled::Failed) => return Err(Unadded::Failed),
+        }
+        match add_roomy(self, shelf, user, news) {
+            Ok(()) => Ok(()),
+            Err(Failed) => Err(Unadded::Failed),
+        }
     }
 }

@@ -1,6 +1,6 @@
 //! An open store.
 
-ghost use Rattle.std.specs.Prelude.{◌≡◌, ◌↔◌, ◌+◌, ◌<◌, ◌≤◌, List, [], ◌∷◌, ◌++◌, length, IfOk, OnOk, OnErr, IsTrue, MatchResult};
+ghost use Rattle.std.specs.Prelude.{◌≡◌, ◌↔◌, ◌+◌, ◌<◌, ◌≤◌, List, [], ◌∷◌, ◌++◌, length, IsOk, IfOk, OnOk, OnErr, IsTrue, MatchResult};
 ghost use Rattle.cd_edges.specs.Disk.{Cloud};
 ghost use Rattle.container_log.specs.Laying.{Placed};
 ghost use Rattle.container_log.specs.Places.{container_len, place_of};
@@ -10,7 +10,8 @@ ghost use Rattle.half_journal.specs.declared.journal.Stage.TheVariants.{Shut};
 ghost use Rattle.user_dedup.specs.declared.command.Command.{Command};
 ghost use Rattle.cloud_areas.specs.Standing.{Chain};
 ghost use Rattle.cloud_disk.specs.Disk.{Stages};
-ghost use Rattle.open_store.specs.Store.{IsOpen, IsSettled, Serves};
+ghost use Rattle.open_store.specs.Store.{IsOpen, IsSettled, EndsMeet, Serves, closed};
+ghost use Rattle.open_store.specs.Adding.{NoneStaged, unstaged};
 
 use cd_base::NoMemory;
 use checkpoints::Marks;
@@ -26,8 +27,8 @@ use std::alloc::Global;
 pub enum Unadded {
     /// This room of the user's is too small. Nothing changed, but that nothing is staged.
     Full(Full),
-    /// The journal has no room for the record, even behind a checkpoint, or an area's end lies too far. It never comes where the
-    /// store serves a list.
+    /// The journal has no room for the record, even behind a checkpoint, or an area's end lies too far. It never comes
+    /// where the store serves a list.
     Long,
     /// A device failed. The journal is shut.
     Failed,
@@ -85,8 +86,8 @@ impl OpenStore {
     }
 
     /// Stages a share behind those that are staged, and answers the place where it will lie: behind the log's end. LogFull
-    /// comes exactly where it would end past the log's limit, the end of region 1, and nothing changes then. What the store
-    /// serves stays. It takes no memory.
+    /// comes exactly where it would end past the log's limit, the end of region 1, and nothing changes then; it never comes
+    /// in an open store whose logs end where its memory says. What the store serves stays. It takes no memory.
     pub fn stage_share(&mut self, share: &[u8]) -> Result<u64, LogFull>
         requires settled { IsSettled self.old }
         requires room { need_of self.old.disk.shares (length share.now) ≤ container_len }
@@ -109,14 +110,16 @@ impl OpenStore {
         ensures err { OnErr result (self.new ≡ self.old) }
         ensures serves { (list : List Command) (c : Chain) (cloud : Cloud) → Serves list c self.old cloud
             → Serves list c self.new cloud }
+        ensures never_full { IsOpen self.old → EndsMeet self.old → IsOk result }
+        ensures meet { EndsMeet self.old → EndsMeet self.new }
         ensures settled { IsSettled self.new }
     {
         self.disk.stage_share(share)
     }
 
     /// Stages a recipe behind those that are staged, and answers the place where it will lie: behind the log's end. LogFull
-    /// comes exactly where it would end past the log's limit, the end of region 1, and nothing changes then. What the store
-    /// serves stays. It takes no memory.
+    /// comes exactly where it would end past the log's limit, the end of region 1, and nothing changes then; it never comes
+    /// in an open store whose logs end where its memory says. What the store serves stays. It takes no memory.
     pub fn stage_recipe(&mut self, recipe: &[u8]) -> Result<u64, LogFull>
         requires settled { IsSettled self.old }
         requires room { need_of self.old.disk.recipes (length recipe.now) ≤ container_len }
@@ -139,8 +142,33 @@ impl OpenStore {
         ensures err { OnErr result (self.new ≡ self.old) }
         ensures serves { (list : List Command) (c : Chain) (cloud : Cloud) → Serves list c self.old cloud
             → Serves list c self.new cloud }
+        ensures never_full { IsOpen self.old → EndsMeet self.old → IsOk result }
+        ensures meet { EndsMeet self.old → EndsMeet self.new }
         ensures settled { IsSettled self.new }
     {
         self.disk.stage_recipe(recipe)
+    }
+
+    /// Forgets what is staged, shares and recipes. What the store serves stays.
+    pub fn unstage(&mut self)
+        requires settled { IsSettled self.old }
+        ensures same { self.new ≡ unstaged self.old }
+        ensures none { NoneStaged self.new }
+        ensures serves { (list : List Command) (c : Chain) (cloud : Cloud) → Serves list c self.old cloud
+            → Serves list c self.new cloud }
+        ensures meet { EndsMeet self.old → EndsMeet self.new }
+        ensures settled { IsSettled self.new }
+    {
+        self.disk.unstage();
+    }
+
+    /// Closes the store: its journal is shut, and only `open` may be called from then on. Nothing else changes.
+    pub fn shut(&mut self)
+        requires settled { IsSettled self.old }
+        ensures same { self.new ≡ closed self.old }
+        ensures settled { IsSettled self.new }
+        ensures shut { ¬ IsOpen self.new }
+    {
+        self.disk.shut();
     }
 }

@@ -1,6 +1,8 @@
 //! A command's record, written.
 
-ghost use Rattle.std.specs.Prelude.{◌≡◌, ◌+◌, ◌-◌, ◌≤◌, ◌++◌, ◌^◌, ◌∷◌, [], ℕ, List, min, length, OnOk, OnErr};
+ghost use Rattle.std.specs.Prelude.{◌≡◌, ◌+◌, ◌-◌, ◌≤◌, ◌++◌, ◌^◌, ◌∷◌, [], ℕ, List, min, length, IsTrue, OnOk, OnErr};
+ghost use Rattle.cd_edges.specs.Disk.{moment};
+ghost use Rattle.cloud_disk.specs.Held.{flush_moments};
 ghost use Rattle.cd_edges.specs.Shelf.{IsCall, HasFailed, KeepsCounts};
 ghost use Rattle.container_log.specs.Laying.{Placed};
 ghost use Rattle.record_body.specs.Spelling.{item_bytes};
@@ -8,7 +10,7 @@ ghost use Rattle.record_bodies.specs.Spelling.{Body, Put, body_bytes};
 ghost use Rattle.user_dedup.specs.declared.command.Command.{Command};
 ghost use Rattle.cloud_areas.specs.Adding.{with_record};
 ghost use Rattle.cloud_areas.specs.Standing.{Chain};
-ghost use Rattle.cloud_disk.specs.Disk.{IsOn, IsPrepared, KeepsOrAdds, KeepsFronts, EndsBehind, SameRooms};
+ghost use Rattle.cloud_disk.specs.Disk.{IsOn, IsPrepared, KeepsOrAdds, KeepsOrGrows, KeepsFronts, EndsBehind, SameRooms};
 ghost use Rattle.open_store.specs.Store.{IsOpen, IsSettled, Fits};
 ghost use Rattle.half_journal.specs.declared.journal.Stage.TheVariants.{AtEnd};
 ghost use Rattle.half_journal.specs.Outcomes.{stage_after};
@@ -59,6 +61,12 @@ pub(crate) fn add_record<V: Shelf>(store: &mut OpenStore, shelf: &mut V) -> Resu
         (V.cloud_at shelf.new store.old.header.cloud.0)
         × KeepsFronts store.old.disk (V.cloud_at shelf.old store.old.header.cloud.0)
         (V.cloud_at shelf.new store.old.header.cloud.0)) }
+    ensures chain { KeepsOrGrows store.old.disk store.old.body (V.cloud_at shelf.old store.old.header.cloud.0)
+        (V.cloud_at shelf.new store.old.header.cloud.0) }
+    ensures moments { IsTrue (V.cloud_at shelf.old store.old.header.cloud.0).told
+        → OnOk result (moment (V.cloud_at shelf.new store.old.header.cloud.0)
+        ≡ moment (V.cloud_at shelf.old store.old.header.cloud.0) + flush_moments store.old.disk.shares
+        + flush_moments store.old.disk.recipes + 4) }
     ensures ends { OnOk result (EndsBehind store.old.disk store.new.disk store.old.body) }
     ensures commands { OnOk result (store.new.commands ≡ min (store.old.commands + 1) (2 ^ 64 - 1)) }
     ensures same { store.new ≡ record store.old { disk = store.new.disk; commands = store.new.commands } }

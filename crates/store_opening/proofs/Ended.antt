@@ -15,13 +15,16 @@ use Rattle.record_checks.specs.declared.ground.Ground.{Ground}
 use Rattle.record_checks.specs.declared.taking.Taking.{Taking}
 use Rattle.record_checks.specs.Noting.{nothing_noted}
 use Rattle.store_opening.specs.Exact.{Closes, number_behind}
+use Rattle.store_opening.specs.Roomy.{SpendWithin}
 use Rattle.store_opening.specs.Steps.{IsTraced, From, AllAs, HasEnded}
+use Rattle.store_opening.proofs.Roomy.{begun_within}
 
 pub traced_begun : (g : Ground) (users : ℕ) (m : Memory) (t : Taking) → m ≡ begun users g.region → t ≡ nothing_noted → IsTraced g m t
 traced_begun g users m t same none = record {
   shares = λ e. ap (λ (x : Memory). x.shares_end) same;
   recipes = λ e. ap (λ (x : Memory). x.recipes_end) same;
   fit = subst FitsRecords (sym same) (begun_fits users g.region);
+  spent = subst (λ (x : Memory). SpendWithin g.rooms x.spent) (sym same) (begun_within g.rooms users);
 }
 
 module _ (g : Ground) (recipes : List ℕ) (store : Store) (w : Where) (before : State) (m0 : Memory) (t0 : Taking) (users : ℕ) (same : m0 ≡ begun users g.region) (none : t0 ≡ nothing_noted)

@@ -14,3 +14,5 @@ pub mod OneOpening
 pub mod Stated
 pub mod Lawful
 pub mod Found
+mod Roomy
+pub mod Spends

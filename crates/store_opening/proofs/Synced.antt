@@ -10,10 +10,11 @@ use Rattle.cd_edges.proofs.Torn.{only}
 use Rattle.journal_start.specs.declared.start.Header.{Header}
 use Rattle.half_journal.specs.declared.errors.OpenErr.{OpenErr}
 use Rattle.half_journal.specs.declared.errors.OpenErr.TheVariants.{Fault, NotBegun, Damaged, OtherStore}
-use Rattle.half_journal.specs.Openings.{MayBecome, OpensIs, IsOpening, OnFault}
+use Rattle.half_journal.specs.Openings.{MayBecome, OpensIs, IsOpening, OnFault, HasBegun}
 use Rattle.journal_halves.specs.Beginnings.{IsUnbegun}
 use Rattle.half_journal.specs.States.{State}
 use Rattle.store_opening.specs.Starts.{IsStarted}
+use Rattle.store_opening.specs.Steps.{IsOfRecords}
 use Rattle.store_opening.specs.Synced.{AreSynced, BeginsSynced}
 
 -- all three areas are on the disk
@@ -142,3 +143,17 @@ counted_behind (Err (NotBegun len)) a b c number before mid now call first secon
 
 pub still : (a b c : Cloud) → Stays a b → Stays b c → Stays a c
 still a b c first second = record { armed = second.armed ∙ first.armed; past = second.past ∙ first.past; now = second.now ∙ first.now }
+
+-- an opening that may begin doesn't answer that no half is begun
+pub begins_ok : (result : Result ℕ OpenErr) → IsOfRecords result → HasBegun result
+begins_ok (Ok value) kind = tt
+begins_ok (Err Fault) kind = tt
+begins_ok (Err (Damaged at byte)) kind = tt
+begins_ok (Err (NotBegun len)) kind = absurd kind
+begins_ok (Err (OtherStore found asked at)) kind = tt
+
+pub begins_err : (error : OpenErr) → HasBegun {T = Unit {0}} (Err error) → HasBegun {T = ℕ} (Err error)
+begins_err Fault begun = tt
+begins_err (Damaged at byte) begun = tt
+begins_err (NotBegun len) begun = absurd begun
+begins_err (OtherStore found asked at) begun = tt

@@ -1,10 +1,12 @@
 -- The place fields that are noted: where none is, no blob has moved the end. And what is taken fits records.
 use Rattle.std.specs.Prelude.{All}
-use Rattle.std.proofs.Common.{◌≡◌, ℕ, ◌+◌, Bool, true, false, List, [], ◌∷◌, length, max, Option, Some, None, Result, Ok, Err, refl, sym, ◌∙◌, ap, subst, arith, if◌then◌else◌, nat_lt}
+use Rattle.std.proofs.Common.{◌≡◌, inr, ℕ, ◌+◌, Bool, true, false, List, [], ◌∷◌, length, max, Option, Some, None, Result, Ok, Err, refl, sym, ◌∙◌, ap, subst, arith, if◌then◌else◌, nat_lt}
+use Rattle.cd_base.specs.declared.ids.Fp.{Fp}
 use Rattle.cd_base.specs.declared.ids.UserId.{UserId}
 use Rattle.record_bodies.specs.declared.body.KeptItem.{KeptItem}
 use Rattle.record_bodies.specs.Reading.{body_at}
 use Rattle.record_bodies.specs.Spelling.{Body, FitsBody}
+use Rattle.record_body.specs.declared.body.CommitBody.{CommitBody}
 use Rattle.record_body.specs.declared.body.PutItem.{PutItem}
 use Rattle.record_body.specs.Spelling.{FitsItem, item_bytes}
 use Rattle.cd_base.specs.declared.place.Place.{Place}
@@ -12,16 +14,18 @@ use Rattle.spent_table.specs.declared.Spent.{Spent}
 use Rattle.user_dedup.specs.Requests.{fps_of}
 use Rattle.cloud_areas.specs.Placing.{end_of}
 use Rattle.cloud_memory.specs.Memory.{Memory}
-use Rattle.cloud_memory.specs.Steps.{end_with, with_entry, with_item, with_items, with_kept, with_kepts}
+use Rattle.cloud_memory.specs.Steps.{end_with, with_entry, with_item, with_items, with_kept, with_kepts, spent_on}
 use Rattle.record_checks.specs.declared.damage.Damage.{Damage}
 use Rattle.record_checks.specs.declared.ground.Ground.{Ground}
 use Rattle.record_checks.specs.declared.taking.Taking.{Taking}
-use Rattle.record_checks.specs.Checks.{damaged_at, put_items, kept_items, place_at, spends_behind}
-use Rattle.record_checks.specs.Judging.{JudgesBody, PutFault, PutPast, PutTaken, Unplaced, Entered, NotWhole, CommitPast, CommitTaken, NoEntry, NotNamed, Deleted, KeptDamaged, KeptPast, KeptTaken, SpentPast, SpentTaken, Judges, Outside, Unread, Damaged, Taken}
+use Rattle.record_checks.specs.Checks.{damaged_at, put_items, kept_items, place_at, spends_behind, PutFits, CommitFits}
+use Rattle.record_checks.specs.Judging.{put_left, JudgesBody, PutFault, PutPast, PutTaken, Unplaced, Entered, NotWhole, CommitPast, CommitTaken, NoEntry, NotNamed, Deleted, KeptDamaged, KeptPast, KeptTaken, SpentPast, SpentTaken, Judges, Outside, Unread, Damaged, Taken}
 use Rattle.record_checks.specs.Noting.{farther_field, put_field, kept_field, noted, IsNoted}
 use Rattle.cloud_memory.proofs.Fitting.{entry_fits, delete_fits, kepts_fit, spent_fits}
+use Rattle.store_opening.specs.Roomy.{SpendWithin}
 use Rattle.store_opening.specs.Steps.{IsTraced}
 use Rattle.store_opening.proofs.Fit.{behind_fits, items_fit}
+use Rattle.store_opening.proofs.Roomy.{within_set, items_spent, kepts_spent, behind_within}
 
 -- where a place's field isn't noted, the place doesn't lie behind the end
 some_none : {X : Type 0} (x : X) → Some x ≡ None → ⊥
@@ -88,18 +92,35 @@ no_answer damage m e = cc
 
 module _ (g : Ground) (inside : Bool) (read : List ℕ) (marks : List Bool) (old : Memory) (at : ℕ) (body : List ℕ) (t : Taking) (traced : IsTraced g old t)
     (fits_body : (b : Body) → body_at body ≡ Ok b → FitsBody b) where
-  put_traced : (user : UserId) (items : List PutItem) (more : Spent) → All FitsItem items → IsTraced g (spends_behind inside user more (with_items user old items))
+  put_traced : (user : UserId) (items : List PutItem) (more : Spent) → All FitsItem items
+      → SpendWithin g.rooms (spends_behind inside user more (with_items user old items)).spent → IsTraced g (spends_behind inside user more (with_items user old items))
       (record { spent = t.spent; shares_field = put_field at body old.shares_end put_items t.shares_field items; recipes_field = t.recipes_field })
-  put_traced user items more all = record {
+  put_traced user items more all within = record {
     shares = λ none. let f = put_none user at body put_items t.shares_field old items none in spends_shares inside user more (with_items user old items) ∙ f.1 ∙ traced.shares f.0;
     recipes = λ none. spends_recipes inside user more (with_items user old items) ∙ put_recipes user old items ∙ traced.recipes none;
     fit = behind_fits inside user more (with_items user old items) (items_fit user items old all traced.fit);
+    spent = within;
   }
+
+  put_within : (user : UserId) (items : List PutItem) → PutFits g inside user items (with_items user old items)
+      → SpendWithin g.rooms (put_left inside user items old).spent
+  put_within user items fits =
+      let filled = with_items user old items in
+      let within : SpendWithin g.rooms filled.spent = subst (SpendWithin g.rooms) (sym (items_spent user old items)) traced.spent in
+      let recipes = within.recipes user in
+      behind_within inside g.rooms user (spent_on filled items) filled within fits.owners fits.shares (inr (omega (arith, recipes)))
+
+  commit_within : (c : CommitBody) (names : List Fp) → CommitFits g inside c old
+      → SpendWithin g.rooms (spends_behind inside c.user (record { owners = 0; shares = 0; recipes = c.len }) (with_entry names c old)).spent
+  commit_within c names fits =
+      let owners = traced.spent.owners c.user in let shares = traced.spent.shares c.user in
+      behind_within inside g.rooms c.user (record { owners = 0; shares = 0; recipes = c.len }) (with_entry names c old) traced.spent
+      (inr (omega (arith, owners))) (inr (omega (arith, shares))) fits.recipes
 
   body_traced : (b : Body) → FitsBody b → (answer : Result Memory ℕ) → JudgesBody g inside read marks old b answer → (new : Memory) → answer ≡ Ok new → IsTraced g new (noted at body old t b)
   body_traced b said answer (PutFault user items place fault) new e = absurd (no_ok _ new e)
   body_traced b said answer (PutPast user items right past) new e = absurd (no_ok _ new e)
-  body_traced b said answer (PutTaken user items right fits) new e = subst (λ (m : Memory). IsTraced g m (noted at body old t b)) (ap (memory_or old) e) (put_traced user items _ said.1.1)
+  body_traced b said answer (PutTaken user items right fits) new e = subst (λ (m : Memory). IsTraced g m (noted at body old t b)) (ap (memory_or old) e) (put_traced user items _ said.1.1 (put_within user items fits))
   body_traced b said answer (Unplaced c none) new e = absurd (no_ok _ new e)
   body_traced b said answer (Entered c lies there) new e = absurd (no_ok _ new e)
   body_traced b said answer (NotWhole c lies none unlike) new e = absurd (no_ok _ new e)
@@ -109,19 +130,21 @@ module _ (g : Ground) (inside : Bool) (read : List ℕ) (marks : List Bool) (old
     recipes = λ none. let f = field_none old.recipes_end t.recipes_field (Some (record { at = c.at; len = c.len })) (damaged_at at body place_at) none in spends_recipes inside c.user _ _ ∙ f.1 ∙ traced.recipes f.0;
     fit = behind_fits inside c.user (record { owners = 0; shares = 0; recipes = c.len }) (with_entry (fps_of g.shape read) c old)
         (entry_fits (fps_of g.shape read) c old said.some traced.fit);
+    spent = commit_within c (fps_of g.shape read) fits;
   })
   body_traced b said answer (NoEntry d none) new e = absurd (no_ok _ new e)
   body_traced b said answer (NotNamed d entry there unlike) new e = absurd (no_ok _ new e)
-  body_traced b said answer (Deleted d entry there named) new e = subst (λ (m : Memory). IsTraced g m (noted at body old t b)) (ap (memory_or old) e) (record { shares = traced.shares; recipes = traced.recipes; fit = delete_fits (fps_of g.shape read) d.user _ old traced.fit })
+  body_traced b said answer (Deleted d entry there named) new e = subst (λ (m : Memory). IsTraced g m (noted at body old t b)) (ap (memory_or old) e) (record { shares = traced.shares; recipes = traced.recipes; fit = delete_fits (fps_of g.shape read) d.user _ old traced.fit; spent = traced.spent })
   body_traced b said answer (KeptDamaged items place fault) new e = absurd (no_ok _ new e)
   body_traced b said answer (KeptPast items right past) new e = absurd (no_ok _ new e)
   body_traced b said answer (KeptTaken items right fits) new e = subst (λ (m : Memory). IsTraced g m (noted at body old t b)) (ap (memory_or old) e) (record {
     shares = λ none. let f = kept_none at body kept_items t.shares_field old items none in f.1 ∙ traced.shares f.0;
     recipes = λ none. kept_recipes old items ∙ traced.recipes none;
     fit = kepts_fit items old said.1 traced.fit;
+    spent = subst (SpendWithin g.rooms) (sym (kepts_spent old items)) traced.spent;
   })
   body_traced b said answer (SpentPast spent past) new e = absurd (no_ok _ new e)
-  body_traced b said answer (SpentTaken spent may) new e = subst (λ (m : Memory). IsTraced g m (noted at body old t b)) (ap (memory_or old) e) (record { shares = traced.shares; recipes = traced.recipes; fit = spent_fits spent.user _ old traced.fit })
+  body_traced b said answer (SpentTaken spent may) new e = subst (λ (m : Memory). IsTraced g m (noted at body old t b)) (ap (memory_or old) e) (record { shares = traced.shares; recipes = traced.recipes; fit = spent_fits spent.user _ old traced.fit; spent = within_set g.rooms old.spent spent.user (record { owners = spent.owners; shares = spent.shares; recipes = spent.recipes }) traced.spent may.owners may.shares may.recipes })
 
   by_judging : (answer : Result Memory Damage) → Judges g inside read marks old at body answer → (new : Memory) → answer ≡ Ok new → (after : Taking) → IsNoted at body old t after → IsTraced g new after
   by_judging answer (Outside behind of) new e after is_noted = absurd (no_answer _ new e)

@@ -3,3 +3,4 @@ pub mod Starts
 pub mod Exact
 pub mod Steps
 pub mod Spared
+pub mod Roomy

@@ -21,6 +21,7 @@ use Rattle.record_checks.specs.declared.ground.Ground.{Ground}
 use Rattle.record_checks.specs.declared.taking.Taking.{Taking}
 use Rattle.record_checks.specs.Judging.{Judges}
 use Rattle.record_checks.specs.Noting.{IsNoted}
+use Rattle.store_opening.specs.Roomy.{SpendWithin}
 use Rattle.store_opening.specs.Exact.{ReadsFor, Closes, number_behind, Replays}
 
 -- An answer that comes of records: no half is lacking, and no header is another.
@@ -89,11 +90,12 @@ pub record HasEnded (journal : journals.State) (store : Store) (w : Where) : Typ
   pub bodies : List (List ℕ)
   pub ended : journals.IsEnded journal store (record w { bodies = bodies })
 
--- Where no place field was noted, no blob has moved the end; and what the memory has fits records.
+-- Where no place field was noted, no blob has moved the end; what the memory has fits records; and nobody has spent more than it may.
 pub record IsTraced (g : Ground) (m : Memory) (t : Taking) : Type 0 where
   pub shares : t.shares_field ≡ None → m.shares_end ≡ region_start g.region
   pub recipes : t.recipes_field ≡ None → m.recipes_end ≡ region_start g.region
   pub fit : FitsRecords m
+  pub spent : SpendWithin g.rooms m.spent
 
 -- ---- by a list
 

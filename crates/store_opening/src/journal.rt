@@ -1,11 +1,12 @@
 //! The journal of a cloud whose areas are synced first.
 
-ghost use Rattle.std.specs.Prelude.{◌≡◌, IsTrue};
+ghost use Rattle.std.specs.Prelude.{◌≡◌, ◌≤◌, IsTrue, OnOk};
 ghost use Rattle.cd_edges.specs.Shelf.{IsCall, HasFailed, KeepsCounts};
 ghost use Rattle.journal_start.specs.Ranges.{IsHeader};
+ghost use Rattle.journal_start.specs.Spelling.{region_of};
 ghost use Rattle.half_journal.specs.declared.journal.Stage.TheVariants.{Reading};
 ghost use Rattle.half_journal.specs.States.{state_of};
-ghost use Rattle.half_journal.specs.Openings.{OnFault};
+ghost use Rattle.half_journal.specs.Openings.{OnFault, HasBegun};
 ghost use Rattle.half_journal.specs.Outcomes.{stage_after};
 ghost use Rattle.store_opening.specs.Starts.{IsStarted};
 
@@ -28,6 +29,8 @@ pub(crate) fn open_journal<V: Shelf>(
     ensures started { IsTrue (V.cloud_at shelf.old cloud.0).told
         → IsStarted header.now begin (V.cloud_at shelf.old cloud.0) (V.cloud_at shelf.new cloud.0)
         (state_of journal.new) result }
+    ensures begins { IsTrue begin → HasBegun result }
+    ensures small { OnOk result (region_of (state_of journal.new).start.checkpoint ≤ 1) }
     ensures stage { (state_of journal.new).stage ≡ stage_after Reading result }
     ensures limit { (state_of journal.new).limit ≡ (state_of journal.old).limit }
     ensures call { IsCall (V.cloud_at shelf.old) (V.cloud_at shelf.new) cloud.0 (V.faults shelf.old)

@@ -15,6 +15,7 @@ ghost use Rattle.cloud_memory.specs.Fitting.{FitsRecords};
 ghost use Rattle.cloud_memory.specs.Rooms.{memory_of, HasRooms};
 ghost use Rattle.cloud_memory.specs.Steps.{begun};
 ghost use Rattle.record_checks.specs.Noting.{nothing_noted};
+ghost use Rattle.store_opening.specs.Roomy.{IsRoomy};
 ghost use Rattle.store_opening.specs.Exact.{ReplaysAll, Closes, number_behind};
 ghost use Rattle.store_opening.specs.Steps.{From, HasEnded, IsTraced, IsOfRecords};
 
@@ -58,15 +59,6 @@ fn survey<V: Shelf>(
         shares_len,
         recipes_len,
     })
-}
-
-// The region of the journal's blobs: 0 or 1, as in each start.
-fn region_in(journal: &Journal) -> u8
-    ensures small { result ≤ 1 }
-    ensures value { region_of (state_of journal.now).start.checkpoint ≤ 1
-        → result ≡ region_of (state_of journal.now).start.checkpoint }
-{
-    if journal.region() == 0 { 0 } else { 1 }
 }
 
 // Looks where the records end, of which there are so many. After an Err the journal is shut.
@@ -118,6 +110,8 @@ fn read_records<V: Shelf>(
         → IsReading (state_of journal.old) ((V.cloud_at shelf.old cloud.0).now Area.Journal) w → w.bodies ≡ []
         → OnOk result (HasEnded (state_of journal.new) ((V.cloud_at shelf.old cloud.0).now Area.Journal) w) }
     ensures fit { OnOk result (FitsRecords (memory_of memory.new)) }
+    ensures roomy { OnOk result (IsRoomy ground.now.rooms ground.now.region (memory_of memory.new)) }
+    ensures start { (state_of journal.new).start ≡ (state_of journal.old).start }
     ensures rooms { HasRooms ground.now.rooms memory.new }
     ensures stage { (state_of journal.new).stage ≡ stage_after Stage.AtEnd result }
     ensures limit { (state_of journal.new).limit ≡ (state_of journal.old).limit }
@@ -149,6 +143,7 @@ pub(crate) fn load<V: Shelf>(
     buffer: &mut [u8],
 ) -> Result<u64, OpenErr>
     requires reading { (state_of journal.old).stage ≡ Stage.Reading }
+    requires small { region_of (state_of journal.old).start.checkpoint ≤ 1 }
     requires rooms { HasRooms header.now.rooms memory.old }
     requires buffer { recipe_limit ≤ length buffer.old }
     ensures exact { IsTrue (V.cloud_at shelf.old cloud.0).told → (w : Where)
@@ -159,6 +154,9 @@ pub(crate) fn load<V: Shelf>(
         → IsReading (state_of journal.old) ((V.cloud_at shelf.old cloud.0).now Area.Journal) w → w.bodies ≡ []
         → OnOk result (HasEnded (state_of journal.new) ((V.cloud_at shelf.old cloud.0).now Area.Journal) w) }
     ensures fit { OnOk result (FitsRecords (memory_of memory.new)) }
+    ensures roomy { OnOk result (IsRoomy header.now.rooms (region_of (state_of journal.old).start.checkpoint)
+        (memory_of memory.new)) }
+    ensures start { (state_of journal.new).start ≡ (state_of journal.old).start }
     ensures rooms { HasRooms header.now.rooms memory.new }
     ensures stage { (state_of journal.new).stage ≡ stage_after Stage.AtEnd result }
     ensures limit { (state_of journal.new).limit ≡ (state_of journal.old).limit }
@@ -172,7 +170,7 @@ pub(crate) fn load<V: Shelf>(
         (KeepsCounts (V.cloud_at shelf.old cloud.0) (V.cloud_at shelf.new cloud.0) (V.faults shelf.old)
         (V.faults shelf.new)) }
 {
-    let region = region_in(journal);
+    let region = journal.region();
     memory.clear(region);
     match survey(shelf, cloud, header, region) {
         Ok(ground) => read_records(journal, memory, &ground, shelf, cloud, buffer),

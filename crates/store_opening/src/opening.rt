@@ -6,15 +6,17 @@ ghost use Rattle.cd_edges.specs.Disk.{reads};
 ghost use Rattle.cd_edges.specs.Shelf.{IsCall, HasFailed, KeepsCounts};
 ghost use Rattle.container_log.specs.States.{HasStaged};
 ghost use Rattle.journal_start.specs.Ranges.{IsHeader};
+ghost use Rattle.journal_start.specs.Spelling.{region_of};
 ghost use Rattle.journal_halves.specs.Halves.{half_limit};
 ghost use Rattle.half_journal.specs.declared.journal.Stage.{Stage};
-ghost use Rattle.half_journal.specs.Openings.{OnFault};
+ghost use Rattle.half_journal.specs.Openings.{OnFault, HasBegun};
 ghost use Rattle.half_journal.specs.Outcomes.{stage_after};
 ghost use Rattle.half_journal.specs.States.{state_of};
 ghost use Rattle.cloud_disk.specs.Disk.{ended_at};
 ghost use Rattle.cloud_memory.specs.Fitting.{FitsRecords};
 ghost use Rattle.cloud_memory.specs.Rooms.{memory_of, HasRooms};
 ghost use Rattle.store_opening.specs.Exact.{Opens};
+ghost use Rattle.store_opening.specs.Roomy.{IsRoomy};
 ghost use Rattle.store_opening.specs.Spared.{Spares, KeepsLists, IsReadWhole, IsFor, IsLoaded, MayBegin, IsOkOrFault};
 ghost use Rattle.store_opening.specs.Steps.{IsFound};
 ghost use Rattle.record_laws.specs.Leaving.{MayHold};
@@ -68,6 +70,10 @@ fn open_all<V: Shelf>(
         → StandsFor (reads (V.cloud_at shelf.old cloud.0).now) header.now list → MayHold header.now list
         → MayBegin ((V.cloud_at shelf.old cloud.0).now Area.Journal).read begin → IsOkOrFault result }
     ensures fit { OnOk result (FitsRecords (memory_of memory.new)) }
+    ensures roomy { OnOk result (IsRoomy header.now.rooms (region_of (state_of journal.new).start.checkpoint)
+        (memory_of memory.new)) }
+    ensures small { OnOk result (region_of (state_of journal.new).start.checkpoint ≤ 1) }
+    ensures begins { IsTrue begin → HasBegun result }
     ensures rooms { HasRooms header.now.rooms memory.new }
     ensures stage { (state_of journal.new).stage ≡ stage_after Stage.AtEnd result }
     ensures limit { (state_of journal.new).limit ≡ (state_of journal.old).limit }
@@ -102,14 +108,16 @@ fn open_all<V: Shelf>(
 ///
 /// Whenever a crash comes, and after an Err too, each image of the cloud stands for one of the lists that the images
 /// stood for before. After Ok the journal is at its end and the logs end where the memory says, with nothing staged;
-/// each share that the memory has has from 1 to 8,208 bytes, and each recipe a byte. After an Err the journal is shut
-/// and the logs are as they were: only `reopen` may be called. It takes no memory.
+/// each share that the memory has has from 1 to 8,208 bytes, and each recipe a byte; nobody has spent more than it may, and
+/// both logs end within what was spent, whatever the cloud tells. After an Err the journal is shut and the logs are as they
+/// were: only `reopen` may be called. It takes no memory.
+///
 /// Where no device call fails, the bytes of the areas give the answer, and one alone (`laws::law_of_openings`). Places
 /// are those of the area Journal, from 0.
 ///
 /// - `Fault`: a device call failed. It comes only where the cloud's count of faults rose.
-/// - `NotBegun`: no half is begun, the area has so many bytes, and `begin` is false. Only the three syncs were
-///   made.
+/// - `NotBegun`: no half is begun, the area has so many bytes, and `begin` is false, of untold clouds too. Only the three
+///   syncs were made.
 /// - `OtherStore`: the current half begins with another header than the asked one; `at` is the place of that
 ///   header.
 /// - `Damaged`: the start of a begun half is damaged, or both have one epoch, as `half_journal` says; or a record
@@ -152,6 +160,10 @@ pub fn reopen<V: Shelf>(
     ensures none { OnOk result (HasStaged disk.new.shares [] × HasStaged disk.new.recipes []) }
     ensures logs { OnErr result ((disk.new.shares ≡ disk.old.shares) × (disk.new.recipes ≡ disk.old.recipes)) }
     ensures fit { OnOk result (FitsRecords (memory_of memory.new)) }
+    ensures roomy { OnOk result (IsRoomy header.now.rooms (region_of disk.new.journal.start.checkpoint)
+        (memory_of memory.new)) }
+    ensures small { OnOk result (region_of disk.new.journal.start.checkpoint ≤ 1) }
+    ensures begins { IsTrue begin → HasBegun result }
     ensures rooms { HasRooms header.now.rooms memory.new }
     ensures stage { disk.new.journal.stage ≡ stage_after Stage.AtEnd result }
     ensures limit { disk.new.journal.limit ≡ disk.old.journal.limit }

@@ -9,7 +9,7 @@ use cd_base::{CloudNo, Fp, NoMemory, Shape, Tag, UserId, Version, sha256};
 use cd_fakes::MemShelf;
 use cloud_memory::New;
 use journal_start::{Header, Rooms};
-use open_store::{OpenStore, add_commit, add_delete, add_put, open};
+use open_store::OpenStore;
 use recipe::RecipeView;
 use std::alloc::Global;
 
@@ -86,7 +86,7 @@ fn put(store: &mut OpenStore, shelf: &mut MemShelf, byte: u8) -> bool
             return false;
         }
     }
-    add_put(store, shelf, USER, &[New { fp, len: 11 }]).is_ok()
+    store.add_put(shelf, USER, &[New { fp, len: 11 }]).is_ok()
 }
 
 // Commits a version that the user doesn't have. Says whether it did.
@@ -107,7 +107,9 @@ fn commit(store: &mut OpenStore, shelf: &mut MemShelf, version: Version, byte: u
     if store.stage_recipe(&bytes).is_err() {
         return false;
     }
-    add_commit(store, shelf, USER, TAG, version, sha256(&bytes), 97, &view).is_ok()
+    store
+        .add_commit(shelf, USER, TAG, version, sha256(&bytes), 97, &view)
+        .is_ok()
 }
 
 // Deletes a version that the user has. Says whether it did.
@@ -118,7 +120,9 @@ fn delete(store: &mut OpenStore, shelf: &mut MemShelf, version: Version, byte: u
     if !store.is_open() || store.memory.entry(USER, &TAG, version).is_none() {
         return false;
     }
-    add_delete(store, shelf, USER, TAG, version, &recipe(byte)).is_ok()
+    store
+        .add_delete(shelf, USER, TAG, version, &recipe(byte))
+        .is_ok()
 }
 
 // Adds a command. Says whether it did.
@@ -157,7 +161,7 @@ impl Ground {
         requires { IsSettled self.old.store }
         ensures { IsSettled self.new.store }
     {
-        open(&mut self.store, shelf, true, &mut self.buffer).ok()
+        self.store.open(shelf, true, &mut self.buffer).ok()
     }
 
     /// Adds a command. Says whether it did.

@@ -5,6 +5,7 @@ use Rattle.cd_edges.proofs.Moments.{told_on, weaker}
 use Rattle.half_journal.specs.States as journals
 use Rattle.cloud_areas.specs.Standing.{where_of}
 use Rattle.cloud_disk.specs.Disk.{Disk}
+use Rattle.checkpoints.specs.Laying.{KeepsOrSettles, HasSettled}
 use Rattle.checkpoints.proofs.InPlace.{keeps_list, settled_on}
 use Rattle.checkpoints.proofs.entire.checkpoint.Goals as goal
 
@@ -33,3 +34,16 @@ returns-clause-settled g c list chain recipes summed =
     (told_on c0 c1 c.lay_checkpoint.ensures.call.told summed.on.read.told)
     (c.lay_checkpoint.ensures.settled summed.on.read.told (where_of chain) ended) (c.lay_checkpoint.ensures.others summed.on.read.told)
     (c.lay_checkpoint.ensures.limit ∙ ap (λ (j : journals.State). j.limit) c.journal_mut.ensures.value) refl refl
+
+pub returns-clause-chain : goal.returns-clause-chain
+returns-clause-chain g c =
+    let number = c.args.cloud.0 in let bodies = g.R.CheckpointRecords.to_come c.args.records.now in
+    let c0 = g.V.Shelf.cloud_at c.args.shelf.now number in let c1 = g.V.Shelf.cloud_at c.lay_checkpoint.new.shelf number in
+    subst (λ (j : journals.State). KeepsOrSettles j c.args.header.now c.args.commands c.args.count c.args.region bodies c0 c1) c.journal_mut.ensures.value c.lay_checkpoint.ensures.any_moment
+
+pub returns-clause-taken : goal.returns-clause-taken
+returns-clause-taken g c =
+    let number = c.args.cloud.0 in let bodies = g.R.CheckpointRecords.to_come c.args.records.now in
+    let c0 = g.V.Shelf.cloud_at c.args.shelf.now number in let c1 = g.V.Shelf.cloud_at c.lay_checkpoint.new.shelf number in
+    subst (λ (j : journals.State). HasSettled j (journals.state_of c.lay_checkpoint.new.journal) c.args.header.now c.args.commands c.args.count c.args.region bodies c0 c1 c.lay_checkpoint.result)
+    c.journal_mut.ensures.value c.lay_checkpoint.ensures.settled

@@ -1,10 +1,13 @@
 use Rattle.std.proofs.Common.{ℕ, ◌+◌, ◌≤◌, List, length, sym, ap, ◌∙◌, subst, arith}
 use Rattle.std.specs.Prelude.{All}
 use Rattle.record_bodies.specs.Spelling.{Body, FitsBody, body_bytes}
-use Rattle.checkpoints.specs.Laying.{records_len}
+use Rattle.cd_edges.specs.declared.area.Area.TheVariants.{Journal}
+use Rattle.half_journal.specs.States as journals
+use Rattle.checkpoints.specs.Laying.{records_len, checkpoint_behind, KeepsOrSettles}
 use Rattle.checkpoints.specs.Records.{coming, records_of}
 use Rattle.checkpoints.specs.Known.{recipes_of}
 use Rattle.checkpoints.proofs.Summed.{listed_of, short, roomy, is_summed, next_holds, placed_by, summed_as, on_as}
+use Rattle.checkpoints.proofs.InPlace.{ended_still}
 use Rattle.checkpoints.proofs.whole.checkpoint_of_memory.Goals as goal
 
 pub returns-in-None-clause-short : goal.returns-in-None-clause-short
@@ -145,3 +148,33 @@ returns-in-Err-clause-only_journal g c list chain k =
     let recipes = recipes_of header.shape list memory in
     let known = summed_as header list chain c.args.commands c.args.region memory c.in-Some.count bodies counted c.of-records-2.ensures.records disk c0 summed in
     c.checkpoint-laid.ensures.only_journal list chain recipes known
+
+pub returns-in-Ok-clause-chain : goal.returns-in-Ok-clause-chain
+returns-in-Ok-clause-chain g c =
+    let number = c.args.cloud.0 in let header = c.args.header.now in let memory = c.args.memory.now in
+    let c0 = g.V.Shelf.cloud_at c.args.shelf.now number in let c1 = g.V.Shelf.cloud_at c.checkpoint-laid.new.shelf number in
+    let counted = c.in-Some.ensures.count.0 ∙ ap (λ (r : List Body). length r) c.of-records.ensures.records in
+    subst (λ (n : ℕ). KeepsOrSettles c.args.disk.now.journal header c.args.commands n c.args.region (records_of memory) c0 c1) counted
+    (subst (λ (b : List Body). KeepsOrSettles c.args.disk.now.journal header c.args.commands c.in-Some.count c.args.region b c0 c1) c.of-records-2.ensures.records c.checkpoint-laid.ensures.chain)
+
+pub returns-in-Err-clause-chain : goal.returns-in-Err-clause-chain
+returns-in-Err-clause-chain g c =
+    let number = c.args.cloud.0 in let header = c.args.header.now in let memory = c.args.memory.now in
+    let c0 = g.V.Shelf.cloud_at c.args.shelf.now number in let c1 = g.V.Shelf.cloud_at c.checkpoint-laid.new.shelf number in
+    let counted = c.in-Some.ensures.count.0 ∙ ap (λ (r : List Body). length r) c.of-records.ensures.records in
+    subst (λ (n : ℕ). KeepsOrSettles c.args.disk.now.journal header c.args.commands n c.args.region (records_of memory) c0 c1) counted
+    (subst (λ (b : List Body). KeepsOrSettles c.args.disk.now.journal header c.args.commands c.in-Some.count c.args.region b c0 c1) c.of-records-2.ensures.records c.checkpoint-laid.ensures.chain)
+
+pub returns-in-None-clause-chain : goal.returns-in-None-clause-chain
+returns-in-None-clause-chain g c told w ended =
+    let c0 = g.V.Shelf.cloud_at c.args.shelf.now c.args.cloud.0 in
+    ended_still c.args.disk.now.journal c0 w _ ended
+
+pub returns-in-Ok-clause-taken : goal.returns-in-Ok-clause-taken
+returns-in-Ok-clause-taken g c told w ended =
+    let number = c.args.cloud.0 in let header = c.args.header.now in let memory = c.args.memory.now in
+    let c1 = g.V.Shelf.cloud_at c.checkpoint-laid.new.shelf number in
+    let counted = c.in-Some.ensures.count.0 ∙ ap (λ (r : List Body). length r) c.of-records.ensures.records in
+    subst (λ (n : ℕ). journals.IsEnded c.checkpoint-laid.new.disk.journal (c1.now Journal) (checkpoint_behind w header c.args.commands n c.args.region (records_of memory))) counted
+    (subst (λ (b : List Body). journals.IsEnded c.checkpoint-laid.new.disk.journal (c1.now Journal) (checkpoint_behind w header c.args.commands c.in-Some.count c.args.region b)) c.of-records-2.ensures.records
+    (c.in-Ok.ensures.taken told w ended))

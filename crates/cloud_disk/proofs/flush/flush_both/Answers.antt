@@ -7,6 +7,7 @@ use Rattle.cd_edges.specs.Disk.{moment}
 use Rattle.cloud_disk.specs.Held.{LogHolds, flush_moments, with_staged}
 use Rattle.cloud_disk.proofs.Holding.{by_log}
 use Rattle.cloud_disk.proofs.Both.{shares_flushed, first_images, both_images, both_held, moments_on, failed_later, counts_kept}
+use Rattle.cloud_disk.proofs.Grown.{fronts_first, fronts_second, journal_still}
 use Rattle.cloud_disk.proofs.flush.flush_both.Goals as goal
 
 pub returns-in-Err-clause-any_moment : goal.returns-in-Err-clause-any_moment
@@ -60,3 +61,25 @@ returns-in-Ok-clause-uncounted g c =
     let at = g.V.Shelf.cloud_at in let faults = g.V.Shelf.faults in let number = c.args.cloud.0 in
     counts_kept c.flush_log-in-Ok.result (at c.args.shelf.now number) (at c.flush_log.new.shelf number) (at c.flush_log-in-Ok.new.shelf number)
     (faults c.args.shelf.now) (faults c.flush_log.new.shelf) (faults c.flush_log-in-Ok.new.shelf) c.in-Ok.ensures.uncounted c.flush_log-in-Ok.ensures.uncounted
+
+pub returns-in-Err-clause-fronts : goal.returns-in-Err-clause-fronts
+returns-in-Err-clause-fronts g c told is_shares is_recipes =
+    let number = c.args.cloud.0 in
+    fronts_first c.args.shares.now c.args.recipes.now (g.V.Shelf.cloud_at c.args.shelf.now number) (g.V.Shelf.cloud_at c.flush_log.new.shelf number) is_shares (c.flush_log.ensures.earlier told)
+
+pub returns-in-Ok-clause-fronts : goal.returns-in-Ok-clause-fronts
+returns-in-Ok-clause-fronts g c told is_shares is_recipes =
+    let number = c.args.cloud.0 in let shares = c.args.shares.now in let recipes = c.args.recipes.now in
+    let c0 = g.V.Shelf.cloud_at c.args.shelf.now number in let c1 = g.V.Shelf.cloud_at c.flush_log.new.shelf number in let c2 = g.V.Shelf.cloud_at c.flush_log-in-Ok.new.shelf number in
+    let told1 = told_on c0 c1 c.flush_log.ensures.call.told told in
+    let others = subst (λ (a : Area). (other : Area) → other ≢ a → c1.now other ≡ c0.now other) is_shares (c.in-Ok.ensures.others told) in
+    fronts_second shares recipes c0 c1 c2 (g.met.V.Shelf.reads_image c.flush_log.new.shelf number told1 Recipes) is_recipes
+    (fronts_first shares recipes c0 c1 is_shares (c.flush_log.ensures.earlier told)) (others Recipes (λ e. cc)) (c.flush_log-in-Ok.ensures.earlier told1)
+
+pub returns-in-Ok-clause-journal : goal.returns-in-Ok-clause-journal
+returns-in-Ok-clause-journal g c told is_shares is_recipes =
+    let number = c.args.cloud.0 in
+    let c0 = g.V.Shelf.cloud_at c.args.shelf.now number in let c1 = g.V.Shelf.cloud_at c.flush_log.new.shelf number in let c2 = g.V.Shelf.cloud_at c.flush_log-in-Ok.new.shelf number in
+    let told1 = told_on c0 c1 c.flush_log.ensures.call.told told in
+    let others = subst (λ (a : Area). (other : Area) → other ≢ a → c1.now other ≡ c0.now other) is_shares (c.in-Ok.ensures.others told) in
+    journal_still c.flush_log-in-Ok.result c.args.recipes.now.area c0 c1 c2 is_recipes (others Journal (λ e. cc)) (c.flush_log-in-Ok.ensures.others told1)

@@ -28,3 +28,6 @@ returns-in-Ok-look-clause-found g c told =
     let first = subst (λ (a : Areas). LookIs (a Journal).read 0 (Ok c.in-Ok.first)) (sym same) (c.in-Ok.ensures.found told) in
     let second = subst (λ (a : Areas). LookIs (a Journal).read 1 (Ok c.in-Ok-look.second)) (sym later) (c.in-Ok-look.ensures.found told1) in
     subst (λ (a : Areas). FindIs (a Journal).read c.answer.result) same (c.answer.ensures.found told2 c.in-Ok.first c.in-Ok-look.second first second c.choose.ensures)
+
+pub returns-in-Ok-look-clause-start : goal.returns-in-Ok-look-clause-start
+returns-in-Ok-look-clause-start g c = c.answer.ensures.start c.in-Ok.first c.in-Ok-look.second c.choose.ensures c.in-Ok.ensures.start c.in-Ok-look.ensures.start

@@ -32,3 +32,6 @@ pub returns-in-Short-clause-start : goal.returns-in-Short-clause-start
 returns-in-Short-clause-start c rest is few begun =
     let half = c.args.half in let ahead = c.args.ahead.now in let d = c.frame_damage-in-Short in
     cut_off half ahead rest is few begun (subst (λ (f : Frame). IsFrame ahead f) c.in-Short.is c.frame_of.ensures) d.result.at d.result.byte d.ensures.damage
+
+pub returns-in-Ok-clause-is_start : goal.returns-in-Ok-clause-is_start
+returns-in-Ok-clause-is_start c = ((c.read.ensures.grammar c.in-Ok.start).0 c.in-Ok.is).is_start

@@ -1,4 +1,4 @@
-use Rattle.std.proofs.Common.{◌≤◌, [], ◌∷◌, ◌++◌, sym, ap, ◌∙◌, subst, arith}
+use Rattle.std.proofs.Common.{◌≤◌, [], ◌∷◌, ◌++◌, refl, sym, ap, ◌∙◌, subst, arith}
 use Rattle.container_log.specs.Laying.{Placed}
 use Rattle.container_log.specs.Places.{container_len, place_of}
 use Rattle.record_body.specs.declared.body.CommitBody.{CommitBody}
@@ -12,6 +12,8 @@ use Rattle.cloud_memory.specs.Fitting.{FitsRecords}
 use Rattle.cloud_memory.specs.Rooms.{memory_of}
 use Rattle.cloud_memory.specs.Steps.{with_commit}
 use Rattle.cloud_memory.proofs.Fitting as fitting
+use Rattle.store_opening.specs.Roomy.{IsRoomy}
+use Rattle.store_opening.proofs.Spends.{commit_roomy}
 use Rattle.open_store.specs.declared.store.OpenStore.{OpenStore}
 use Rattle.open_store.specs.Adding.{commit_body}
 use Rattle.open_store.specs.Store.{Serves}
@@ -31,7 +33,10 @@ add_record-requires-clause-settled g c =
       format = settled.format;
       rooms = c.in-Ok.ensures.rooms;
       fit = λ at_end. subst FitsRecords (sym taken) (fitting.commit_fits names body m c.requires.some (settled.fit c.requires.open));
+      roomy = λ at_end. subst (IsRoomy store.header.rooms store.region) (sym taken) (commit_roomy store.header.rooms store.region m names body settled.rooms.users c.requires.some refl c.requires.room (settled.roomy c.requires.open));
       disk = settled.disk;
+      shares_limit = settled.shares_limit;
+      recipes_limit = settled.recipes_limit;
       region = settled.region;
     }
 

@@ -7,6 +7,8 @@ use Rattle.cloud_areas.specs.Adding.{with_record}
 use Rattle.cloud_memory.specs.Fitting.{FitsRecords}
 use Rattle.cloud_memory.specs.Rooms.{memory_of}
 use Rattle.cloud_memory.proofs.Fitting as fitting
+use Rattle.store_opening.specs.Roomy.{IsRoomy}
+use Rattle.store_opening.proofs.Spends.{delete_roomy}
 use Rattle.open_store.specs.declared.store.OpenStore.{OpenStore}
 use Rattle.open_store.specs.Store.{Serves}
 use Rattle.open_store.proofs.Fields.{delete_fits}
@@ -24,7 +26,10 @@ add_record-requires-clause-settled g c =
       format = settled.format;
       rooms = c.forget.ensures.rooms store.header.rooms settled.rooms;
       fit = λ at_end. subst FitsRecords (sym c.forget.ensures.taken) (fitting.delete_fits names c.args.user (key_of c.args.user.0 c.args.tag.0 c.args.version.0) m (settled.fit c.requires.open));
+      roomy = λ at_end. subst (IsRoomy store.header.rooms store.region) (sym c.forget.ensures.taken) (delete_roomy store.header.rooms store.region m names c.args.user (key_of c.args.user.0 c.args.tag.0 c.args.version.0) (settled.roomy c.requires.open));
       disk = settled.disk;
+      shares_limit = settled.shares_limit;
+      recipes_limit = settled.recipes_limit;
       region = settled.region;
     }
 

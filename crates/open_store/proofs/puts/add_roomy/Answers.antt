@@ -9,6 +9,8 @@ use Rattle.cloud_memory.specs.Fitting.{FitsRecords}
 use Rattle.cloud_memory.specs.Rooms.{memory_of}
 use Rattle.cloud_memory.specs.Steps.{with_put}
 use Rattle.cloud_memory.proofs.Fitting.{news_fit}
+use Rattle.store_opening.specs.Roomy.{IsRoomy}
+use Rattle.store_opening.proofs.Spends.{put_roomy}
 use Rattle.open_store.specs.declared.store.OpenStore.{OpenStore}
 use Rattle.open_store.specs.Adding.{put_record}
 use Rattle.open_store.specs.Store.{Serves}
@@ -28,7 +30,10 @@ add_record-requires-clause-settled g c =
       format = settled.format;
       rooms = c.in-Ok.ensures.rooms;
       fit = λ at_end. subst FitsRecords (sym taken) (news_fit user news m c.requires.lens (settled.fit c.requires.open));
+      roomy = λ at_end. subst (IsRoomy store.header.rooms store.region) (sym taken) (put_roomy store.header.rooms store.region m user news settled.rooms.users c.requires.some c.requires.new c.requires.room (settled.roomy c.requires.open));
       disk = settled.disk;
+      shares_limit = settled.shares_limit;
+      recipes_limit = settled.recipes_limit;
       region = settled.region;
     }
 

@@ -3,7 +3,9 @@ use Rattle.cd_edges.specs.declared.area.Area.TheVariants.{Journal}
 use Rattle.cd_edges.proofs.Calls.{called_twice}
 use Rattle.cd_edges.proofs.Moments.{told_on}
 use Rattle.half_journal.specs.Openings.{IsSynced}
-use Rattle.store_opening.proofs.Synced.{synced_at, not_synced, synced_started, counted_behind}
+use Rattle.half_journal.specs.States.{state_of}
+use Rattle.store_opening.proofs.Synced.{synced_at, not_synced, synced_started, counted_behind, on_ok}
+use Rattle.store_opening.proofs.Current.{region_small}
 use Rattle.store_opening.proofs.journal.open_journal.Goals as goal
 
 pub returns-in-Err-clause-started : goal.returns-in-Err-clause-started
@@ -28,3 +30,8 @@ pub returns-in-Ok-clause-counts : goal.returns-in-Ok-clause-counts
 returns-in-Ok-clause-counts g c =
     counted_behind c.open.result (g.V.Shelf.cloud_at c.args.shelf.now) (g.V.Shelf.cloud_at c.sync_all.new.shelf) (g.V.Shelf.cloud_at c.open.new.shelf) c.args.cloud.0 (g.V.Shelf.faults c.args.shelf.now) (g.V.Shelf.faults c.sync_all.new.shelf) (g.V.Shelf.faults c.open.new.shelf)
     c.sync_all.ensures.call c.in-Ok.ensures.uncounted c.open.ensures.counts
+
+pub returns-in-Ok-clause-small : goal.returns-in-Ok-clause-small
+returns-in-Ok-clause-small g c =
+    let state = state_of c.open.new.self in
+    on_ok c.open.result _ _ (λ is. region_small state.current.half state.start.header.format state.start.checkpoint is.behind) c.open.ensures.start

@@ -8,6 +8,7 @@ use Rattle.half_journal.specs.States.{state_of, IsReading}
 use Rattle.cloud_memory.specs.Rooms.{memory_of, HasRooms}
 use Rattle.cloud_memory.specs.Steps.{begun}
 use Rattle.store_opening.specs.Exact.{ReplaysAll}
+use Rattle.store_opening.specs.Roomy.{IsRoomy}
 use Rattle.store_opening.specs.Steps.{HasEnded}
 use Rattle.store_opening.proofs.Loaded.{region_is, loaded_as}
 use Rattle.store_opening.proofs.Synced.{still, counted_behind, on_answer, on_ok}
@@ -18,7 +19,7 @@ read_records-requires-clause-rooms g c = subst (λ (r : Rooms). HasRooms r c.cle
 
 pub read_records-requires-clause-begun : goal.read_records-requires-clause-begun
 read_records-requires-clause-begun g c =
-    c.clear.ensures.value ∙ ap (λ (n : ℕ). begun n c.region_in-region.result) (c.requires.rooms.users ∙ ap (λ (r : Rooms). r.users) (sym c.in-Ok.ensures.known.1))
+    c.clear.ensures.value ∙ ap (λ (n : ℕ). begun n c.region-region.result) (c.requires.rooms.users ∙ ap (λ (r : Rooms). r.users) (sym c.in-Ok.ensures.known.1))
     ∙ ap (λ (n : ℕ). begun c.in-Ok.ground.rooms.users n) (sym c.in-Ok.ensures.known.2)
 
 pub returns-in-Ok-clause-exact : goal.returns-in-Ok-clause-exact
@@ -26,7 +27,7 @@ returns-in-Ok-clause-exact g c told w reading none =
     let number = c.args.cloud.0 in let c0 = g.V.Shelf.cloud_at c.args.shelf.now number in let c1 = g.V.Shelf.cloud_at c.survey.new.shelf number in let state = state_of c.args.journal.now in
     let told1 = told_on c0 c1 c.survey.ensures.call.told told in let back : c1.now ≡ c0.now = c.survey.ensures.stays.now in
     let header = c.args.header.now in let ground = c.in-Ok.ground in let known = c.in-Ok.ensures.known in let lengths = c.in-Ok.ensures.lengths told in let new = memory_of c.read_records.new.memory in
-    let region = region_is state (c0.now Journal) w c.region_in-region.result reading c.region_in-region.ensures.value in
+    let region = region_is state (c0.now Journal) w c.region-region.result reading (λ small. c.region-region.ensures) in
     let before = subst (λ (a : Areas). IsReading state (a Journal) w) (sym back) reading in
     on_answer c.read_records.result _ (ReplaysAll header w.half w.start (reads c0.now) new c.read_records.result)
     (loaded_as header c0 c1 state w reading none back ground new c.read_records.result known.0 known.1 (known.2 ∙ region) lengths.0 lengths.1)
@@ -52,3 +53,10 @@ pub returns-in-Ok-clause-counts : goal.returns-in-Ok-clause-counts
 returns-in-Ok-clause-counts g c =
     counted_behind c.read_records.result (g.V.Shelf.cloud_at c.args.shelf.now) (g.V.Shelf.cloud_at c.survey.new.shelf) (g.V.Shelf.cloud_at c.read_records.new.shelf) c.args.cloud.0 (g.V.Shelf.faults c.args.shelf.now) (g.V.Shelf.faults c.survey.new.shelf) (g.V.Shelf.faults c.read_records.new.shelf)
     c.survey.ensures.call c.in-Ok.ensures.uncounted c.read_records.ensures.counts
+
+pub returns-in-Ok-clause-roomy : goal.returns-in-Ok-clause-roomy
+returns-in-Ok-clause-roomy g c =
+    let known = c.in-Ok.ensures.known in let m = memory_of c.read_records.new.memory in
+    on_ok c.read_records.result _ _ (λ r.
+    subst (λ (n : ℕ). IsRoomy c.args.header.now.rooms n m) (known.2 ∙ c.region-region.ensures)
+    (subst (λ (rooms : Rooms). IsRoomy rooms c.in-Ok.ground.region m) known.1 r)) c.read_records.ensures.roomy

@@ -1,4 +1,4 @@
-use Rattle.std.proofs.Common.{refl, sym, subst}
+use Rattle.std.proofs.Common.{refl, sym, ◌∙◌, ap, subst}
 use Rattle.cd_edges.specs.declared.area.Area.TheVariants.{Journal, Recipes}
 use Rattle.journal_start.specs.declared.start.Start.{Start}
 use Rattle.half_journal.specs.States.{State, state_of}
@@ -6,6 +6,7 @@ use Rattle.cloud_memory.specs.Rooms.{memory_of}
 use Rattle.store_opening.specs.Exact.{Closes, number_behind}
 use Rattle.store_opening.specs.Steps.{HasEnded}
 use Rattle.store_opening.proofs.Ended.{traced_begun, all_closed, all_ended, all_failed, restaged_end, unfailed_counts}
+use Rattle.store_opening.proofs.Roomy.{roomy_closed}
 use Rattle.store_opening.proofs.Synced.{always, of_all}
 use Rattle.store_opening.proofs.loading.read_records.Goals as goal
 
@@ -51,3 +52,12 @@ returns-in-Err-clause-exact g c told w reading none =
 
 pub returns-in-Err-clause-ended : goal.returns-in-Err-clause-ended
 returns-in-Err-clause-ended g c told w reading none = tt
+
+pub returns-in-Ok-clause-roomy : goal.returns-in-Ok-clause-roomy
+returns-in-Ok-clause-roomy g c =
+    let ground = c.args.ground.now in
+    let traced = c.in-Ok.ensures.traced (traced_begun ground ground.rooms.users (memory_of c.args.memory.now) c.new-taking.result c.requires.begun c.new-taking.ensures) in
+    roomy_closed ground (memory_of c.take_all.new.memory) c.take_all.new.taking _ c.finish.result traced.spent c.finish.ensures.closes
+
+pub returns-in-Ok-clause-start : goal.returns-in-Ok-clause-start
+returns-in-Ok-clause-start g c = ap (λ (s : State). s.start) c.finish.ensures.journal ∙ c.take_all.ensures.start

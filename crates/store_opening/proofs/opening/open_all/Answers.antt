@@ -1,14 +1,17 @@
-use Rattle.std.proofs.Common.{ℕ, Err, ◌∙◌}
+use Rattle.std.proofs.Common.{ℕ, ◌≤◌, Err, sym, ◌∙◌, subst}
 use Rattle.cd_edges.specs.Disk.{reads}
 use Rattle.cd_edges.proofs.Calls.{called_twice}
 use Rattle.cd_edges.proofs.Moments.{told_on}
+use Rattle.journal_start.specs.declared.start.Start.{Start}
+use Rattle.journal_start.specs.Spelling.{region_of}
 use Rattle.half_journal.specs.Openings.{MayBecome}
 use Rattle.half_journal.specs.States.{state_of}
 use Rattle.cloud_memory.specs.Rooms.{memory_of}
 use Rattle.store_opening.proofs.Opened.{opens_err, opens_ok, then_stays, spares_err, spares_ok, keeps, read_whole, stands_after}
 use Rattle.store_opening.proofs.Found.{whole, found_after}
 use Rattle.store_opening.proofs.Stated.{Laws}
-use Rattle.store_opening.proofs.Synced.{counted_behind, same_err}
+use Rattle.store_opening.specs.Roomy.{IsRoomy}
+use Rattle.store_opening.proofs.Synced.{counted_behind, same_err, always, on_ok, begins_ok, begins_err}
 use Rattle.store_opening.proofs.opening.open_all.Goals as goal
 
 pub returns-in-Err-clause-kept : goal.returns-in-Err-clause-kept
@@ -136,3 +139,18 @@ pub returns-in-Ok-clause-counts : goal.returns-in-Ok-clause-counts
 returns-in-Ok-clause-counts g c =
     counted_behind c.load.result (g.V.Shelf.cloud_at c.args.shelf.now) (g.V.Shelf.cloud_at c.open_journal.new.shelf) (g.V.Shelf.cloud_at c.load.new.shelf) c.args.cloud.0 (g.V.Shelf.faults c.args.shelf.now) (g.V.Shelf.faults c.open_journal.new.shelf) (g.V.Shelf.faults c.load.new.shelf)
     c.open_journal.ensures.call c.in-Ok.ensures.counts c.load.ensures.counts
+
+pub returns-in-Ok-clause-roomy : goal.returns-in-Ok-clause-roomy
+returns-in-Ok-clause-roomy g c =
+    let m = memory_of c.load.new.memory in
+    on_ok c.load.result _ _ (subst (λ (s : Start). IsRoomy c.args.header.now.rooms (region_of s.checkpoint) m) (sym c.load.ensures.start)) c.load.ensures.roomy
+
+pub returns-in-Ok-clause-small : goal.returns-in-Ok-clause-small
+returns-in-Ok-clause-small g c =
+    always c.load.result _ (subst (λ (s : Start). region_of s.checkpoint ≤ 1) (sym c.load.ensures.start) c.in-Ok.ensures.small)
+
+pub returns-in-Ok-clause-begins : goal.returns-in-Ok-clause-begins
+returns-in-Ok-clause-begins g c begin = begins_ok c.load.result c.load.ensures.kind
+
+pub returns-in-Err-clause-begins : goal.returns-in-Err-clause-begins
+returns-in-Err-clause-begins g c begin = begins_err c.in-Err.error (c.in-Err.ensures.begins begin)

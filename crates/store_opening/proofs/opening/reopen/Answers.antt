@@ -1,7 +1,9 @@
-use Rattle.std.proofs.Common.{ℕ, sym, ◌∙◌, ap, subst}
+use Rattle.std.proofs.Common.{ℕ, ◌≤◌, sym, ◌∙◌, ap, subst}
+use Rattle.journal_start.specs.Spelling.{region_of}
 use Rattle.half_journal.specs.States.{State, state_of}
 use Rattle.cloud_disk.specs.Disk.{Disk, AreEnds}
 use Rattle.cloud_memory.specs.Rooms.{memory_of}
+use Rattle.store_opening.specs.Roomy.{IsRoomy}
 use Rattle.store_opening.specs.Spared.{IsReadWhole}
 use Rattle.store_opening.proofs.Found.{ends_of, loaded_by}
 use Rattle.store_opening.proofs.opening.reopen.Goals as goal
@@ -20,3 +22,10 @@ returns-in-Ok-clause-loaded g c told is list stands may =
     let on = c.reset.ensures.on header list f.c c1 (subst (λ (n : ℕ). AreEnds header list f.c disk c.shares_end.result n c1) (sym c.recipes_end.ensures)
     (subst (λ (n : ℕ). AreEnds header list f.c disk n m.recipes_end c1) (sym c.shares_end.ensures) ends)) in
     loaded_by header list journal c.reset.new.self m c.in-Ok.commands c1 f on
+
+pub returns-in-Ok-clause-roomy : goal.returns-in-Ok-clause-roomy
+returns-in-Ok-clause-roomy g c =
+    subst (λ (s : State). IsRoomy c.args.header.now.rooms (region_of s.start.checkpoint) (memory_of c.open_all.new.memory)) (sym c.reset.ensures.journal) c.in-Ok.ensures.roomy
+
+pub returns-in-Ok-clause-small : goal.returns-in-Ok-clause-small
+returns-in-Ok-clause-small g c = subst (λ (s : State). region_of s.start.checkpoint ≤ 1) (sym c.reset.ensures.journal) c.in-Ok.ensures.small

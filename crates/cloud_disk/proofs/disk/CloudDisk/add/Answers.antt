@@ -1,6 +1,7 @@
 use Rattle.std.proofs.Common.{◌≡◌, ◌+◌, ◌≤◌, sym, ap, subst}
 use Rattle.std.specs.Prelude.{OnOk, length}
-use Rattle.cd_edges.specs.Disk.{moment}
+use Rattle.cd_edges.specs.declared.area.Area.TheVariants.{Journal}
+use Rattle.cd_edges.specs.Disk.{Store, moment}
 use Rattle.cd_edges.proofs.Calls.{called_twice}
 use Rattle.cd_edges.proofs.Moments.{told_on}
 use Rattle.half_journal.specs.States as journals
@@ -9,11 +10,12 @@ use Rattle.cloud_areas.specs.Placing.{shares_in}
 use Rattle.cloud_areas.specs.Chains.{laid_shares}
 use Rattle.cloud_areas.specs.Standing.{where_of}
 use Rattle.cloud_disk.specs.Held.{flush_moments}
-use Rattle.cloud_disk.specs.Disk.{Disk, IsPrepared, KeepsFronts, SameRooms}
+use Rattle.cloud_disk.specs.Disk.{Disk, IsPrepared, KeepsOrGrows, KeepsFronts, SameRooms}
 use Rattle.cloud_disk.proofs.Both.{moments_after, failed_later, counts_kept}
 use Rattle.cloud_disk.proofs.Standing.{logs_hold}
 use Rattle.cloud_disk.proofs.Adding.{OneMore, while_flushed, while_added, still_ended, added_on}
 use Rattle.cloud_disk.proofs.Fronts.{fronts_kept}
+use Rattle.cloud_disk.proofs.Grown.{grown_flushed, grown_added}
 use Rattle.cloud_disk.proofs.disk.CloudDisk.add.Goals as goal
 
 pub returns-in-Err-clause-any_moment : goal.returns-in-Err-clause-any_moment
@@ -114,3 +116,23 @@ returns-in-Ok-clause-uncounted g c =
     let at = g.V.Shelf.cloud_at in let faults = g.V.Shelf.faults in let number = c.args.cloud.0 in
     counts_kept c.append.result (at c.args.shelf.now number) (at c.flush_both.new.shelf number) (at c.append.new.shelf number)
     (faults c.args.shelf.now) (faults c.flush_both.new.shelf) (faults c.append.new.shelf) c.in-Ok.ensures.uncounted c.append.ensures.uncounted
+
+pub returns-in-Err-clause-chain : goal.returns-in-Err-clause-chain
+returns-in-Err-clause-chain g c =
+    let number = c.args.cloud.0 in let inside = c.self.inside in
+    let disk : Disk = record { journal = journals.state_of inside.journal; shares = inside.shares; recipes = inside.recipes } in
+    let c0 = g.V.Shelf.cloud_at c.args.shelf.now number in let c1 = g.V.Shelf.cloud_at c.flush_both.new.shelf number in
+    subst (λ (d : Disk). KeepsOrGrows d c.args.body.now c0 c1) c.self.view_is
+    (λ told is_shares is_recipes w ended. grown_flushed disk c.args.body.now c0 w ended c1 (c.flush_both.ensures.fronts told is_shares is_recipes))
+
+pub returns-in-Ok-clause-chain : goal.returns-in-Ok-clause-chain
+returns-in-Ok-clause-chain g c =
+    let number = c.args.cloud.0 in let inside = c.self.inside in let body = c.args.body.now in
+    let disk : Disk = record { journal = journals.state_of inside.journal; shares = inside.shares; recipes = inside.recipes } in
+    let c0 = g.V.Shelf.cloud_at c.args.shelf.now number in let c1 = g.V.Shelf.cloud_at c.flush_both.new.shelf number in let c2 = g.V.Shelf.cloud_at c.append.new.shelf number in
+    subst (λ (d : Disk). KeepsOrGrows d body c0 c2) c.self.view_is
+    (λ told is_shares is_recipes w ended.
+    let told1 = told_on c0 c1 c.flush_both.ensures.call.told told in
+    let same = c.in-Ok.ensures.journal told is_shares is_recipes in
+    grown_added disk body c0 w ended c1 c2 (c.flush_both.ensures.fronts told is_shares is_recipes) (g.met.V.Shelf.reads_image c.flush_both.new.shelf number told1 Journal)
+    (c.append.ensures.any_moment told1 w (subst (λ (s : Store). journals.IsEnded disk.journal s w) (sym same) ended)))

@@ -2,6 +2,7 @@ use Rattle.std.proofs.Common.{◌≡◌, ◌+◌, ◌-◌, ℕ, List, [], ◌∷
 use Rattle.cd_edges.specs.declared.area.Area.TheVariants.{Journal}
 use Rattle.cd_edges.specs.Disk.{LeavesOnly, IsAtArea}
 use Rattle.cd_edges.proofs.Moments.{told_on}
+use Rattle.journal_start.specs.Ranges.{IsStart}
 use Rattle.journal_start.specs.Spelling.{start_bytes}
 use Rattle.journal_halves.specs.Journals.{all_bodies}
 use Rattle.journal_halves.specs.Findings.{part_of}
@@ -10,7 +11,8 @@ use Rattle.journal_halves.specs.States.{IsAdded, begun_at}
 use Rattle.journal_halves.specs.States as records
 use Rattle.half_journal.specs.States.{State, state_of}
 use Rattle.journal_halves.specs.Beginnings.{new_of}
-use Rattle.half_journal.proofs.Opening.{closed_first, beginning, ready_ended, begun_new, reading_at}
+use Rattle.half_journal.proofs.Kept.{unbegun_stays}
+use Rattle.half_journal.proofs.Opening.{closed_first, beginning, ready_ended, begun_new, reading_at, plain_start}
 use Rattle.half_journal.proofs.journal.Journal.begin.Goals as goal
 
 pub returns-in_err-close-clause-any_moment : goal.returns-in_err-close-clause-any_moment
@@ -55,6 +57,11 @@ returns-clause-begun g c told is =
     let ended = subst (λ (l : List ℕ). records.IsEnded (records.state_of c.append.new.self) last (l ∷ [])) body more.0 in
     let same = subst (λ (s : records.State). part_of (1 - s.half) last.read ≡ part_of (1 - s.half) (c1.now Journal).read) c.begin.ensures more.1 in
     let has = begun_new (c1.now Journal) last header (records.state_of c.append.new.self) ready c.requires.header half ended same in
+    let alone = unbegun_stays (c1.now Journal).read last.read 1 same ready.unbegun.second in
     let after : State = record (state_of c.args.self.now) { stage = Reading; start = (new_of header).start; left = 0; current = records.state_of c.begin-2.new.self } in
     let current : after.current ≡ begun_at 0 (length (start_bytes (new_of header).start) + 5) = c.begin-2.ensures ∙ ap (λ (n : ℕ). begun_at 0 (n + 5)) (c.len.ensures.value ∙ ap length c.bytes-bytes.ensures) in
-    (reading_at after last 0 (new_of header).start ended.synced has.current current refl refl, has)
+    (reading_at after last 0 (new_of header).start ended.synced has.current current refl refl, has, alone)
+
+pub returns-clause-start : goal.returns-clause-start
+returns-clause-start g c =
+    subst (λ (s : records.State). IsStart s.half (new_of c.args.asked.now).start) (sym c.begin-2.ensures) (plain_start c.args.asked.now c.requires.header)

@@ -34,7 +34,7 @@ returns-in-Ok-begin-clause-opens g c told synced =
     let stays = c.find.ensures.stays in let told1 = told_on c0 c1 c.find.ensures.call.told told in
     let free : IsFree (c1.now Journal) c.in-Err-NotBegun.len = subst (λ (a : Areas). IsFree (a Journal) c.in-Err-NotBegun.len) (sym stays.now) (record { synced = synced; unbegun = none; len_is = found.2 }) in
     let has = c.in-Ok-begin.ensures.begun told1 free in
-    began_ok c.args.asked.now c.args.begin c0 c1 c2 (state_of c.begin.new.self) asked none stays (c.begin.ensures.any_moment told1 free) has.0 has.1 (c.in-Ok-begin.ensures.others told1)
+    began_ok c.args.asked.now c.args.begin c0 c1 c2 (state_of c.begin.new.self) asked none stays (c.begin.ensures.any_moment told1 free) has.0 has.1 has.2 (c.in-Ok-begin.ensures.others told1)
 
 pub returns-in-Err-clause-opens : goal.returns-in-Err-clause-opens
 returns-in-Err-clause-opens g c told synced =

@@ -1,4 +1,6 @@
-use Rattle.std.proofs.Common.{sym, ap, subst, arith}
+use Rattle.std.proofs.Common.{◌≡◌, sym, ◌∙◌, ap, subst, arith}
+use Rattle.half_journal.specs.declared.journal.Stage.{Stage}
+use Rattle.half_journal.specs.declared.journal.Stage.TheVariants.{AtEnd, Shut}
 use Rattle.cloud_memory.specs.Fitting.{FitsRecords}
 use Rattle.cloud_memory.proofs.Fitting.{begun_fits}
 use Rattle.open_store.proofs.store.OpenStore.make.Goals as goal
@@ -14,5 +16,8 @@ returns-clause-settled c = record {
     shares = ap (λ s. s.area) c.in_ok-disk.ensures.logs.0;
     recipes = ap (λ s. s.area) c.in_ok-disk.ensures.logs.1;
   };
+  roomy = λ at_end. absurd (let no : ◌≡◌ {A = Stage} Shut AtEnd = sym c.in_ok-disk.ensures.journal.1 ∙ at_end in cc);
+  shares_limit = ap (λ s. s.limit) c.in_ok-disk.ensures.logs.0;
+  recipes_limit = ap (λ s. s.limit) c.in_ok-disk.ensures.logs.1;
   region = omega arith;
 }

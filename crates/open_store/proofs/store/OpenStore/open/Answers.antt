@@ -9,19 +9,17 @@ use Rattle.cloud_areas.specs.Standing.{region_in}
 use Rattle.cloud_disk.proofs.Standing.{start_on}
 use Rattle.cloud_memory.specs.Memory.{HasEnds}
 use Rattle.cloud_memory.specs.Rooms.{memory_of}
-use Rattle.store_opening.proofs.Current.{region_small}
-use Rattle.open_store.proofs.opening.open.Goals as goal
+use Rattle.store_opening.specs.Roomy.{IsRoomy}
+use Rattle.open_store.proofs.store.OpenStore.open.Goals as goal
 
 pub returns-in-Ok-clause-serves : goal.returns-in-Ok-clause-serves
 returns-in-Ok-clause-serves g c told list stands may =
-    let store = c.args.store.now in let header = store.header in let number = header.cloud.0 in
+    let store = c.args.self.now in let header = store.header in let number = header.cloud.0 in
     let c1 = g.V.Shelf.cloud_at c.reopen.new.shelf number in let disk = c.reopen.new.disk in
     let l = c.in-Ok.ensures.loaded told c.requires.settled.disk list stands may in
     let loaded = l.1 in let chain = loaded.c in
-    let small = region_small chain.half chain.start.header.format chain.start.checkpoint loaded.on.read.is_chain.there.current.begun.is_start.behind in
-    let same : region_of (journals.state_of c.journal.result.now).start.checkpoint ≡ region_in chain =
-    ap (λ (j : journals.State). region_of j.start.checkpoint) c.journal.ensures ∙ ap (λ (s : Start). region_of s.checkpoint) (start_on header list chain disk c1 loaded.on) in
-    let region = c.region_of-store.ensures.value (omega (arith, small, same)) ∙ same in
+    let region : c.region-self.result ≡ region_in chain =
+    c.region-self.ensures ∙ ap (λ (j : journals.State). region_of j.start.checkpoint) c.journal.ensures ∙ ap (λ (s : Start). region_of s.checkpoint) (start_on header list chain disk c1 loaded.on) in
     record {
       c = chain;
       serves = record {
@@ -42,17 +40,22 @@ returns-in-Ok-clause-serves g c told list stands may =
 
 pub returns-in-Ok-clause-settled : goal.returns-in-Ok-clause-settled
 returns-in-Ok-clause-settled g c =
-    let settled = c.requires.settled in record {
+    let settled = c.requires.settled in
+    let region : c.region-self.result ≡ region_of c.reopen.new.disk.journal.start.checkpoint = c.region-self.ensures ∙ ap (λ (j : journals.State). region_of j.start.checkpoint) c.journal.ensures in
+    record {
       header = settled.header;
       format = settled.format;
       rooms = c.reopen.ensures.rooms;
       fit = λ at_end. c.in-Ok.ensures.fit;
+      roomy = λ at_end. subst (λ (n : ℕ). IsRoomy c.args.self.now.header.rooms n (memory_of c.reopen.new.memory)) (sym region) c.in-Ok.ensures.roomy;
       disk = record {
         limit = c.reopen.ensures.limit ∙ settled.disk.limit;
         shares = ap (λ (s : logs.State). s.area) c.in-Ok.ensures.shares ∙ settled.disk.shares;
         recipes = ap (λ (s : logs.State). s.area) c.in-Ok.ensures.recipes ∙ settled.disk.recipes;
       };
-      region = c.region_of-store.ensures.small;
+      shares_limit = ap (λ (s : logs.State). s.limit) c.in-Ok.ensures.shares ∙ settled.shares_limit;
+      recipes_limit = ap (λ (s : logs.State). s.limit) c.in-Ok.ensures.recipes ∙ settled.recipes_limit;
+      region = (let small = c.in-Ok.ensures.small in omega (arith, small, region));
     }
 
 pub returns-in-Err-clause-settled : goal.returns-in-Err-clause-settled
@@ -67,5 +70,11 @@ returns-in-Err-clause-settled g c =
         shares = ap (λ (s : logs.State). s.area) c.in-Err.ensures.logs.0 ∙ settled.disk.shares;
         recipes = ap (λ (s : logs.State). s.area) c.in-Err.ensures.logs.1 ∙ settled.disk.recipes;
       };
+      roomy = λ at_end. absurd (let no : ◌≡◌ {A = Stage} Shut AtEnd = sym c.in-Err.ensures.stage ∙ at_end in cc);
+      shares_limit = ap (λ (s : logs.State). s.limit) c.in-Err.ensures.logs.0 ∙ settled.shares_limit;
+      recipes_limit = ap (λ (s : logs.State). s.limit) c.in-Err.ensures.logs.1 ∙ settled.recipes_limit;
       region = settled.region;
     }
+
+pub returns-in-Ok-clause-meet : goal.returns-in-Ok-clause-meet
+returns-in-Ok-clause-meet g c = record { shares = ap (λ (s : logs.State). s.end) c.in-Ok.ensures.shares; recipes = ap (λ (s : logs.State). s.end) c.in-Ok.ensures.recipes }

@@ -1,4 +1,4 @@
-use Rattle.std.proofs.Common.{◌≡◌, ◌≤◌, ℕ, [], ◌∷◌, ◌++◌, inl, Err, sym, ap, ◌∙◌, subst, arith, ◌+◌}
+use Rattle.std.proofs.Common.{◌≡◌, ◌≤◌, ℕ, [], ◌∷◌, ◌++◌, inl, Err, sym, ap, ◌∙◌, subst, arith, ◌+◌, IsTrue, refl}
 use Rattle.cd_edges.proofs.Moments.{started}
 use Rattle.std.specs.Prelude.{◌-◌, ◌^◌, min}
 use Rattle.open_store.specs.Adding.{IsTooLong}
@@ -28,11 +28,19 @@ use Rattle.open_store.proofs.Fields.{sample, sample_fits, sample_long, commit_fi
 use Rattle.open_store.proofs.Moving.{commit_moved}
 use Rattle.open_store.proofs.Preparing.{ends_near}
 use Rattle.open_store.proofs.Stepping.{staged_small}
-use Rattle.open_store.proofs.commits.add_commit.Goals as goal
+use Rattle.cd_edges.specs.Disk.{moment}
+use Rattle.cd_edges.proofs.Moments.{told_on}
+use Rattle.container_log.specs.States as logs
+use Rattle.cloud_disk.specs.Held.{flush_moments}
+use Rattle.cloud_disk.specs.Disk.{KeepsOrGrows as GrowsBy}
+use Rattle.open_store.proofs.Growing.{grows_both, grows_sums, grows_still}
+use Rattle.cloud_disk.specs.Disk.{Disk}
+use Rattle.open_store.proofs.Keeping.{serves_on}
+use Rattle.open_store.proofs.store.OpenStore.add_commit.Goals as goal
 
 pub returns-in-Some-clause-any_moment : goal.returns-in-Some-clause-any_moment
 returns-in-Some-clause-any_moment g c list chain bytes p =
-    let store = c.args.store.now in let header = store.header in let number = header.cloud.0 in
+    let store = c.args.self.now in let header = store.header in let number = header.cloud.0 in
     let user = c.args.user in let tag = c.args.tag in let version = c.args.version in let fp = c.args.fp in let len = c.args.len in let command = asked.Commit user tag version bytes in
     let c0 = g.V.Shelf.cloud_at c.args.shelf.now number in
     let s = p.serves in let k = s.known in
@@ -40,7 +48,7 @@ returns-in-Some-clause-any_moment g c list chain bytes p =
 
 pub returns-in-Some-clause-full_list : goal.returns-in-Some-clause-full_list
 returns-in-Some-clause-full_list g c list chain bytes p =
-    let store = c.args.store.now in let header = store.header in let number = header.cloud.0 in
+    let store = c.args.self.now in let header = store.header in let number = header.cloud.0 in
     let user = c.args.user in let tag = c.args.tag in let version = c.args.version in let fp = c.args.fp in let len = c.args.len in let command = asked.Commit user tag version bytes in
     let c0 = g.V.Shelf.cloud_at c.args.shelf.now number in
     let s = p.serves in let k = s.known in
@@ -49,7 +57,7 @@ returns-in-Some-clause-full_list g c list chain bytes p =
 
 pub returns-in-Err-Long-clause-full_list : goal.returns-in-Err-Long-clause-full_list
 returns-in-Err-Long-clause-full_list g c list chain bytes p =
-    let store = c.args.store.now in let header = store.header in let number = header.cloud.0 in
+    let store = c.args.self.now in let header = store.header in let number = header.cloud.0 in
     let user = c.args.user in let tag = c.args.tag in let version = c.args.version in let fp = c.args.fp in let len = c.args.len in let command = asked.Commit user tag version bytes in
     let c0 = g.V.Shelf.cloud_at c.args.shelf.now number in
     let s = p.serves in let k = s.known in
@@ -58,7 +66,7 @@ returns-in-Err-Long-clause-full_list g c list chain bytes p =
 
 pub returns-in-Err-Failed-clause-full_list : goal.returns-in-Err-Failed-clause-full_list
 returns-in-Err-Failed-clause-full_list g c list chain bytes p =
-    let store = c.args.store.now in let header = store.header in let number = header.cloud.0 in
+    let store = c.args.self.now in let header = store.header in let number = header.cloud.0 in
     let user = c.args.user in let tag = c.args.tag in let version = c.args.version in let fp = c.args.fp in let len = c.args.len in let command = asked.Commit user tag version bytes in
     let c0 = g.V.Shelf.cloud_at c.args.shelf.now number in
     let s = p.serves in let k = s.known in
@@ -67,7 +75,7 @@ returns-in-Err-Failed-clause-full_list g c list chain bytes p =
 
 pub returns-in-Ok-add_roomy-clause-full_list : goal.returns-in-Ok-add_roomy-clause-full_list
 returns-in-Ok-add_roomy-clause-full_list g c list chain bytes p =
-    let store = c.args.store.now in let header = store.header in let number = header.cloud.0 in
+    let store = c.args.self.now in let header = store.header in let number = header.cloud.0 in
     let user = c.args.user in let tag = c.args.tag in let version = c.args.version in let fp = c.args.fp in let len = c.args.len in let command = asked.Commit user tag version bytes in
     let c0 = g.V.Shelf.cloud_at c.args.shelf.now number in
     let s = p.serves in let k = s.known in
@@ -76,7 +84,7 @@ returns-in-Ok-add_roomy-clause-full_list g c list chain bytes p =
 
 pub returns-in-Err-clause-full_list : goal.returns-in-Err-clause-full_list
 returns-in-Err-clause-full_list g c list chain bytes p =
-    let store = c.args.store.now in let header = store.header in let number = header.cloud.0 in
+    let store = c.args.self.now in let header = store.header in let number = header.cloud.0 in
     let user = c.args.user in let tag = c.args.tag in let version = c.args.version in let fp = c.args.fp in let len = c.args.len in let command = asked.Commit user tag version bytes in
     let c0 = g.V.Shelf.cloud_at c.args.shelf.now number in
     let s = p.serves in let k = s.known in
@@ -85,7 +93,7 @@ returns-in-Err-clause-full_list g c list chain bytes p =
 
 pub returns-in-Err-Long-clause-never_long : goal.returns-in-Err-Long-clause-never_long
 returns-in-Err-Long-clause-never_long g c list chain bytes p =
-    let store = c.args.store.now in let header = store.header in let number = header.cloud.0 in
+    let store = c.args.self.now in let header = store.header in let number = header.cloud.0 in
     let user = c.args.user in let tag = c.args.tag in let version = c.args.version in let fp = c.args.fp in let len = c.args.len in let command = asked.Commit user tag version bytes in
     let c0 = g.V.Shelf.cloud_at c.args.shelf.now number in
     let s = p.serves in let k = s.known in
@@ -93,7 +101,7 @@ returns-in-Err-Long-clause-never_long g c list chain bytes p =
 
 pub returns-in-Err-Failed-clause-any_moment : goal.returns-in-Err-Failed-clause-any_moment
 returns-in-Err-Failed-clause-any_moment g c list chain bytes p =
-    let store = c.args.store.now in let header = store.header in let number = header.cloud.0 in
+    let store = c.args.self.now in let header = store.header in let number = header.cloud.0 in
     let user = c.args.user in let tag = c.args.tag in let version = c.args.version in let fp = c.args.fp in let len = c.args.len in let command = asked.Commit user tag version bytes in
     let c0 = g.V.Shelf.cloud_at c.args.shelf.now number in
     let s = p.serves in let k = s.known in
@@ -101,7 +109,7 @@ returns-in-Err-Failed-clause-any_moment g c list chain bytes p =
 
 pub returns-in-Ok-add_roomy-clause-any_moment : goal.returns-in-Ok-add_roomy-clause-any_moment
 returns-in-Ok-add_roomy-clause-any_moment g c list chain bytes p =
-    let store = c.args.store.now in let header = store.header in let number = header.cloud.0 in
+    let store = c.args.self.now in let header = store.header in let number = header.cloud.0 in
     let user = c.args.user in let tag = c.args.tag in let version = c.args.version in let fp = c.args.fp in let len = c.args.len in let command = asked.Commit user tag version bytes in
     let c0 = g.V.Shelf.cloud_at c.args.shelf.now number in
     let s = p.serves in let k = s.known in
@@ -116,7 +124,7 @@ returns-in-Ok-add_roomy-clause-any_moment g c list chain bytes p =
 
 pub returns-in-Err-clause-any_moment : goal.returns-in-Err-clause-any_moment
 returns-in-Err-clause-any_moment g c list chain bytes p =
-    let store = c.args.store.now in let header = store.header in let number = header.cloud.0 in
+    let store = c.args.self.now in let header = store.header in let number = header.cloud.0 in
     let user = c.args.user in let tag = c.args.tag in let version = c.args.version in let fp = c.args.fp in let len = c.args.len in let command = asked.Commit user tag version bytes in
     let c0 = g.V.Shelf.cloud_at c.args.shelf.now number in
     let s = p.serves in let k = s.known in
@@ -131,7 +139,7 @@ returns-in-Err-clause-any_moment g c list chain bytes p =
 
 pub returns-in-Ok-add_roomy-clause-added : goal.returns-in-Ok-add_roomy-clause-added
 returns-in-Ok-add_roomy-clause-added g c list chain bytes p =
-    let store = c.args.store.now in let header = store.header in let number = header.cloud.0 in
+    let store = c.args.self.now in let header = store.header in let number = header.cloud.0 in
     let user = c.args.user in let tag = c.args.tag in let version = c.args.version in let fp = c.args.fp in let len = c.args.len in let command = asked.Commit user tag version bytes in
     let c0 = g.V.Shelf.cloud_at c.args.shelf.now number in
     let s = p.serves in let k = s.known in
@@ -154,7 +162,7 @@ returns-in-Ok-add_roomy-clause-added g c list chain bytes p =
 
 pub returns-in-Ok-add_roomy-clause-checkpoint_first : goal.returns-in-Ok-add_roomy-clause-checkpoint_first
 returns-in-Ok-add_roomy-clause-checkpoint_first g c list chain bytes p not =
-    let store = c.args.store.now in let header = store.header in let number = header.cloud.0 in
+    let store = c.args.self.now in let header = store.header in let number = header.cloud.0 in
     let user = c.args.user in let tag = c.args.tag in let version = c.args.version in let fp = c.args.fp in let len = c.args.len in let command = asked.Commit user tag version bytes in
     let c0 = g.V.Shelf.cloud_at c.args.shelf.now number in
     let s = p.serves in let k = s.known in
@@ -193,4 +201,73 @@ returns-in-Ok-add_roomy-clause-number g c =
 
 pub returns-in-Err-Long-clause-long : goal.returns-in-Err-Long-clause-long
 returns-in-Err-Long-clause-long g c =
-    subst (λ (why : Unsettled). IfLong {A = Unit {0}} (Err why) (IsTooLong c.args.store.now 89)) c.in-Err-Long.field-0-is c.in-Err-Long.ensures.long
+    subst (λ (why : Unsettled). IfLong {A = Unit {0}} (Err why) (IsTooLong c.args.self.now 89)) c.in-Err-Long.field-0-is c.in-Err-Long.ensures.long
+
+pub returns-in-Ok-add_roomy-clause-chain : goal.returns-in-Ok-add_roomy-clause-chain
+returns-in-Ok-add_roomy-clause-chain g c =
+    let store = c.args.self.now in let header = store.header in let number = header.cloud.0 in
+    let c0 = g.V.Shelf.cloud_at c.args.shelf.now number in
+    let mid = c.have_room.new.store in let keeps = c.in-Ok.ensures.same in
+    let at = g.V.Shelf.cloud_at c.have_room.new.shelf in let later = g.V.Shelf.cloud_at c.add_roomy.new.shelf in
+    let header_is : mid.header ≡ header = ap (λ (x : OpenStore). x.header) keeps.same in
+    let grows = subst (λ (x : OpenStore). GrowsBy mid.disk (body_bytes (bodies.Commit (commit_body x c.args.user c.args.tag c.args.version c.args.fp c.args.len))) (at number) (later number)) keeps.same
+    (subst (λ (h : Header). GrowsBy mid.disk (body_bytes (bodies.Commit (commit_body mid c.args.user c.args.tag c.args.version c.args.fp c.args.len))) (at h.cloud.0) (later h.cloud.0)) header_is c.add_roomy.ensures.chain) in
+    grows_both store mid (body_bytes (bodies.Commit (commit_body store c.args.user c.args.tag c.args.version c.args.fp c.args.len))) c0 (at number) (later number) keeps.shares keeps.recipes c.requires.settled.disk.shares c.requires.settled.disk.recipes
+    (told_on c0 (at number) c.have_room.ensures.call.told) c.have_room.ensures.chain grows c.in-Ok.ensures.made
+
+pub returns-in-Err-clause-chain : goal.returns-in-Err-clause-chain
+returns-in-Err-clause-chain g c =
+    let store = c.args.self.now in let header = store.header in let number = header.cloud.0 in
+    let c0 = g.V.Shelf.cloud_at c.args.shelf.now number in
+    let mid = c.have_room.new.store in let keeps = c.in-Ok.ensures.same in
+    let at = g.V.Shelf.cloud_at c.have_room.new.shelf in let later = g.V.Shelf.cloud_at c.add_roomy.new.shelf in
+    let header_is : mid.header ≡ header = ap (λ (x : OpenStore). x.header) keeps.same in
+    let grows = subst (λ (x : OpenStore). GrowsBy mid.disk (body_bytes (bodies.Commit (commit_body x c.args.user c.args.tag c.args.version c.args.fp c.args.len))) (at number) (later number)) keeps.same
+    (subst (λ (h : Header). GrowsBy mid.disk (body_bytes (bodies.Commit (commit_body mid c.args.user c.args.tag c.args.version c.args.fp c.args.len))) (at h.cloud.0) (later h.cloud.0)) header_is c.add_roomy.ensures.chain) in
+    grows_both store mid (body_bytes (bodies.Commit (commit_body store c.args.user c.args.tag c.args.version c.args.fp c.args.len))) c0 (at number) (later number) keeps.shares keeps.recipes c.requires.settled.disk.shares c.requires.settled.disk.recipes
+    (told_on c0 (at number) c.have_room.ensures.call.told) c.have_room.ensures.chain grows c.in-Ok.ensures.made
+
+pub returns-in-Some-clause-chain : goal.returns-in-Some-clause-chain
+returns-in-Some-clause-chain g c =
+    let store = c.args.self.now in
+    grows_still store (body_bytes (bodies.Commit (commit_body store c.args.user c.args.tag c.args.version c.args.fp c.args.len))) (g.V.Shelf.cloud_at c.args.shelf.now store.header.cloud.0)
+
+pub returns-in-Some-clause-unadded : goal.returns-in-Some-clause-unadded
+returns-in-Some-clause-unadded g c = (ap (λ (d : Disk). record c.args.self.now { disk = d }) c.unstage.ensures.forgets, refl)
+
+pub returns-in-Some-clause-serves_still : goal.returns-in-Some-clause-serves_still
+returns-in-Some-clause-serves_still g c list chain cloud serves =
+    let store = c.args.self.now in let same = c.unstage.ensures.forgets in
+    serves_on list chain store c.unstage.new.self cloud cloud serves (c.unstage.ensures.on store.header list chain cloud serves.known.on) refl (ap (λ (d : Disk). d.shares.end) same) (ap (λ (d : Disk). d.recipes.end) same)
+
+pub returns-in-Err-Long-clause-chain : goal.returns-in-Err-Long-clause-chain
+returns-in-Err-Long-clause-chain g c =
+    let store = c.args.self.now in let number = store.header.cloud.0 in
+    grows_sums store (body_bytes (bodies.Commit (commit_body store c.args.user c.args.tag c.args.version c.args.fp c.args.len))) (g.V.Shelf.cloud_at c.args.shelf.now number) (g.V.Shelf.cloud_at c.have_room.new.shelf number) c.have_room.ensures.chain
+
+pub returns-in-Err-Failed-clause-chain : goal.returns-in-Err-Failed-clause-chain
+returns-in-Err-Failed-clause-chain g c =
+    let store = c.args.self.now in let number = store.header.cloud.0 in
+    grows_sums store (body_bytes (bodies.Commit (commit_body store c.args.user c.args.tag c.args.version c.args.fp c.args.len))) (g.V.Shelf.cloud_at c.args.shelf.now number) (g.V.Shelf.cloud_at c.have_room.new.shelf number) c.have_room.ensures.chain
+
+pub returns-in-Ok-add_roomy-clause-ends : goal.returns-in-Ok-add_roomy-clause-ends
+returns-in-Ok-add_roomy-clause-ends g c =
+    let keeps = c.in-Ok.ensures.same in let ends = c.in-Ok-add_roomy.ensures.ends in
+    record { shares = ends.shares ∙ ap logs.staged_end keeps.shares; recipes = ends.recipes ∙ ap logs.staged_end keeps.recipes }
+
+pub returns-in-Ok-add_roomy-clause-moments : goal.returns-in-Ok-add_roomy-clause-moments
+returns-in-Ok-add_roomy-clause-moments g c told fits =
+    let number = c.args.self.now.header.cloud.0 in let later = g.V.Shelf.cloud_at c.add_roomy.new.shelf in let disk = c.args.self.now.disk in
+    let at = g.V.Shelf.cloud_at c.have_room.new.shelf in
+    let still = c.have_room.ensures.untouched (fits) in
+    let run = subst (λ (x : OpenStore). IsTrue (at x.header.cloud.0).told → moment (later x.header.cloud.0) ≡ moment (at x.header.cloud.0) + flush_moments x.disk.shares + flush_moments x.disk.recipes + 4) still.0
+    c.in-Ok-add_roomy.ensures.moments in
+    subst (λ sh. IsTrue (g.V.Shelf.cloud_at sh number).told → moment (later number) ≡ moment (g.V.Shelf.cloud_at sh number) + flush_moments disk.shares + flush_moments disk.recipes + 4) still.1 run told
+
+pub returns-in-Err-Long-clause-any_moment : goal.returns-in-Err-Long-clause-any_moment
+returns-in-Err-Long-clause-any_moment g c list chain bytes p =
+    let store = c.args.self.now in let header = store.header in let number = header.cloud.0 in
+    let user = c.args.user in let tag = c.args.tag in let version = c.args.version in let fp = c.args.fp in let len = c.args.len in let command = asked.Commit user tag version bytes in
+    let c0 = g.V.Shelf.cloud_at c.args.shelf.now number in
+    let s = p.serves in let k = s.known in
+    images_kept header list command c0 (g.V.Shelf.cloud_at c.have_room.new.shelf number) (c.have_room.ensures.any_moment list chain s)

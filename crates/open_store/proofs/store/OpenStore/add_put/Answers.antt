@@ -1,4 +1,4 @@
-use Rattle.std.proofs.Common.{◌≡◌, ℕ, [], ◌∷◌, ◌++◌, inl, Err, sym, ap, ◌∙◌, subst, arith, ◌+◌}
+use Rattle.std.proofs.Common.{◌≡◌, ℕ, [], ◌∷◌, ◌++◌, inl, Err, sym, ap, ◌∙◌, subst, arith, ◌+◌, IsTrue, refl}
 use Rattle.cd_edges.proofs.Moments.{started}
 use Rattle.std.specs.Prelude.{◌-◌, ◌^◌, min}
 use Rattle.open_store.specs.Adding.{IsTooLong}
@@ -22,11 +22,22 @@ use Rattle.open_store.proofs.Fields.{user_fits, are_long}
 use Rattle.open_store.proofs.Moving.{put_moved}
 use Rattle.open_store.proofs.Preparing.{ends_near}
 use Rattle.open_store.proofs.Putting.{put_fits}
-use Rattle.open_store.proofs.puts.add_put.Goals as goal
+use Rattle.cd_edges.specs.Disk.{moment}
+use Rattle.cd_edges.specs.Shelf.{IsCall}
+use Rattle.cd_edges.proofs.Calls.{called_twice}
+use Rattle.cd_edges.proofs.Moments.{told_on}
+use Rattle.container_log.specs.States as logs
+use Rattle.cloud_disk.specs.Held.{flush_moments}
+use Rattle.cloud_disk.specs.Disk.{KeepsOrGrows as GrowsBy}
+use Rattle.open_store.proofs.Growing.{grows_both, grows_sums, grows_still}
+use Rattle.cloud_disk.specs.Disk.{Disk}
+use Rattle.open_store.proofs.Keeping.{serves_on}
+use Rattle.record_bodies.specs.Spelling.{body_bytes}
+use Rattle.open_store.proofs.store.OpenStore.add_put.Goals as goal
 
 pub returns-in-Some-clause-any_moment : goal.returns-in-Some-clause-any_moment
 returns-in-Some-clause-any_moment g c list chain strings p =
-    let store = c.args.store.now in let header = store.header in let number = header.cloud.0 in
+    let store = c.args.self.now in let header = store.header in let number = header.cloud.0 in
     let user = c.args.user in let news = c.args.news.now in let command = asked.Put user strings in
     let c0 = g.V.Shelf.cloud_at c.args.shelf.now number in
     let s = p.serves in let k = s.known in
@@ -34,7 +45,7 @@ returns-in-Some-clause-any_moment g c list chain strings p =
 
 pub returns-in-Some-clause-full_list : goal.returns-in-Some-clause-full_list
 returns-in-Some-clause-full_list g c list chain strings p =
-    let store = c.args.store.now in let header = store.header in let number = header.cloud.0 in
+    let store = c.args.self.now in let header = store.header in let number = header.cloud.0 in
     let user = c.args.user in let news = c.args.news.now in let command = asked.Put user strings in
     let c0 = g.V.Shelf.cloud_at c.args.shelf.now number in
     let s = p.serves in let k = s.known in
@@ -43,7 +54,7 @@ returns-in-Some-clause-full_list g c list chain strings p =
 
 pub returns-in-Err-Long-clause-full_list : goal.returns-in-Err-Long-clause-full_list
 returns-in-Err-Long-clause-full_list g c list chain strings p =
-    let store = c.args.store.now in let header = store.header in let number = header.cloud.0 in
+    let store = c.args.self.now in let header = store.header in let number = header.cloud.0 in
     let user = c.args.user in let news = c.args.news.now in let command = asked.Put user strings in
     let c0 = g.V.Shelf.cloud_at c.args.shelf.now number in
     let s = p.serves in let k = s.known in
@@ -52,7 +63,7 @@ returns-in-Err-Long-clause-full_list g c list chain strings p =
 
 pub returns-in-Err-Failed-clause-full_list : goal.returns-in-Err-Failed-clause-full_list
 returns-in-Err-Failed-clause-full_list g c list chain strings p =
-    let store = c.args.store.now in let header = store.header in let number = header.cloud.0 in
+    let store = c.args.self.now in let header = store.header in let number = header.cloud.0 in
     let user = c.args.user in let news = c.args.news.now in let command = asked.Put user strings in
     let c0 = g.V.Shelf.cloud_at c.args.shelf.now number in
     let s = p.serves in let k = s.known in
@@ -61,7 +72,7 @@ returns-in-Err-Failed-clause-full_list g c list chain strings p =
 
 pub returns-in-Ok-add_roomy-clause-full_list : goal.returns-in-Ok-add_roomy-clause-full_list
 returns-in-Ok-add_roomy-clause-full_list g c list chain strings p =
-    let store = c.args.store.now in let header = store.header in let number = header.cloud.0 in
+    let store = c.args.self.now in let header = store.header in let number = header.cloud.0 in
     let user = c.args.user in let news = c.args.news.now in let command = asked.Put user strings in
     let c0 = g.V.Shelf.cloud_at c.args.shelf.now number in
     let s = p.serves in let k = s.known in
@@ -70,7 +81,7 @@ returns-in-Ok-add_roomy-clause-full_list g c list chain strings p =
 
 pub returns-in-Err-clause-full_list : goal.returns-in-Err-clause-full_list
 returns-in-Err-clause-full_list g c list chain strings p =
-    let store = c.args.store.now in let header = store.header in let number = header.cloud.0 in
+    let store = c.args.self.now in let header = store.header in let number = header.cloud.0 in
     let user = c.args.user in let news = c.args.news.now in let command = asked.Put user strings in
     let c0 = g.V.Shelf.cloud_at c.args.shelf.now number in
     let s = p.serves in let k = s.known in
@@ -79,7 +90,7 @@ returns-in-Err-clause-full_list g c list chain strings p =
 
 pub returns-in-Err-Long-clause-never_long : goal.returns-in-Err-Long-clause-never_long
 returns-in-Err-Long-clause-never_long g c list chain strings p =
-    let store = c.args.store.now in let header = store.header in let number = header.cloud.0 in
+    let store = c.args.self.now in let header = store.header in let number = header.cloud.0 in
     let user = c.args.user in let news = c.args.news.now in let command = asked.Put user strings in
     let c0 = g.V.Shelf.cloud_at c.args.shelf.now number in
     let s = p.serves in let k = s.known in
@@ -90,7 +101,7 @@ returns-in-Err-Long-clause-never_long g c list chain strings p =
 
 pub returns-in-Err-Failed-clause-any_moment : goal.returns-in-Err-Failed-clause-any_moment
 returns-in-Err-Failed-clause-any_moment g c list chain strings p =
-    let store = c.args.store.now in let header = store.header in let number = header.cloud.0 in
+    let store = c.args.self.now in let header = store.header in let number = header.cloud.0 in
     let user = c.args.user in let news = c.args.news.now in let command = asked.Put user strings in
     let c0 = g.V.Shelf.cloud_at c.args.shelf.now number in
     let s = p.serves in let k = s.known in
@@ -98,7 +109,7 @@ returns-in-Err-Failed-clause-any_moment g c list chain strings p =
 
 pub returns-in-Ok-add_roomy-clause-any_moment : goal.returns-in-Ok-add_roomy-clause-any_moment
 returns-in-Ok-add_roomy-clause-any_moment g c list chain strings p =
-    let store = c.args.store.now in let header = store.header in let number = header.cloud.0 in
+    let store = c.args.self.now in let header = store.header in let number = header.cloud.0 in
     let user = c.args.user in let news = c.args.news.now in let command = asked.Put user strings in
     let c0 = g.V.Shelf.cloud_at c.args.shelf.now number in
     let s = p.serves in let k = s.known in
@@ -113,7 +124,7 @@ returns-in-Ok-add_roomy-clause-any_moment g c list chain strings p =
 
 pub returns-in-Err-clause-any_moment : goal.returns-in-Err-clause-any_moment
 returns-in-Err-clause-any_moment g c list chain strings p =
-    let store = c.args.store.now in let header = store.header in let number = header.cloud.0 in
+    let store = c.args.self.now in let header = store.header in let number = header.cloud.0 in
     let user = c.args.user in let news = c.args.news.now in let command = asked.Put user strings in
     let c0 = g.V.Shelf.cloud_at c.args.shelf.now number in
     let s = p.serves in let k = s.known in
@@ -128,7 +139,7 @@ returns-in-Err-clause-any_moment g c list chain strings p =
 
 pub returns-in-Ok-add_roomy-clause-added : goal.returns-in-Ok-add_roomy-clause-added
 returns-in-Ok-add_roomy-clause-added g c list chain strings p =
-    let store = c.args.store.now in let header = store.header in let number = header.cloud.0 in
+    let store = c.args.self.now in let header = store.header in let number = header.cloud.0 in
     let user = c.args.user in let news = c.args.news.now in let command = asked.Put user strings in
     let c0 = g.V.Shelf.cloud_at c.args.shelf.now number in
     let s = p.serves in let k = s.known in
@@ -146,7 +157,7 @@ returns-in-Ok-add_roomy-clause-added g c list chain strings p =
 
 pub returns-in-Ok-add_roomy-clause-checkpoint_first : goal.returns-in-Ok-add_roomy-clause-checkpoint_first
 returns-in-Ok-add_roomy-clause-checkpoint_first g c list chain strings p not =
-    let store = c.args.store.now in let header = store.header in let number = header.cloud.0 in
+    let store = c.args.self.now in let header = store.header in let number = header.cloud.0 in
     let user = c.args.user in let news = c.args.news.now in let command = asked.Put user strings in
     let c0 = g.V.Shelf.cloud_at c.args.shelf.now number in
     let s = p.serves in let k = s.known in
@@ -180,4 +191,80 @@ returns-in-Ok-add_roomy-clause-number g c =
 
 pub returns-in-Err-Long-clause-long : goal.returns-in-Err-Long-clause-long
 returns-in-Err-Long-clause-long g c =
-    subst (λ (n : ℕ). IsTooLong c.args.store.now n) (c.put_len-len.ensures.len c.args.user c.requires.new) (subst (λ (why : Unsettled). IfLong {A = Unit {0}} (Err why) (IsTooLong c.args.store.now c.put_len-len.result)) c.in-Err-Long.field-0-is c.in-Err-Long.ensures.long)
+    subst (λ (n : ℕ). IsTooLong c.args.self.now n) (c.put_len-len.ensures.len c.args.user c.requires.new) (subst (λ (why : Unsettled). IfLong {A = Unit {0}} (Err why) (IsTooLong c.args.self.now c.put_len-len.result)) c.in-Err-Long.field-0-is c.in-Err-Long.ensures.long)
+
+pub returns-in-Ok-add_roomy-clause-chain : goal.returns-in-Ok-add_roomy-clause-chain
+returns-in-Ok-add_roomy-clause-chain g c =
+    let store = c.args.self.now in let header = store.header in let number = header.cloud.0 in
+    let c0 = g.V.Shelf.cloud_at c.args.shelf.now number in
+    let mid = c.have_room.new.store in let keeps = c.in-Ok.ensures.same in
+    let at = g.V.Shelf.cloud_at c.have_room.new.shelf in let later = g.V.Shelf.cloud_at c.add_roomy.new.shelf in
+    let header_is : mid.header ≡ header = ap (λ (x : OpenStore). x.header) keeps.same in
+    let grows = subst (λ (x : OpenStore). GrowsBy mid.disk (body_bytes (put_record x c.args.user c.args.news.now)) (at number) (later number)) keeps.same
+    (subst (λ (h : Header). GrowsBy mid.disk (body_bytes (put_record mid c.args.user c.args.news.now)) (at h.cloud.0) (later h.cloud.0)) header_is c.add_roomy.ensures.chain) in
+    grows_both store mid (body_bytes (put_record store c.args.user c.args.news.now)) c0 (at number) (later number) keeps.shares keeps.recipes c.requires.settled.disk.shares c.requires.settled.disk.recipes
+    (told_on c0 (at number) c.have_room.ensures.call.told) c.have_room.ensures.chain grows c.in-Ok.ensures.made
+
+pub returns-in-Err-clause-chain : goal.returns-in-Err-clause-chain
+returns-in-Err-clause-chain g c =
+    let store = c.args.self.now in let header = store.header in let number = header.cloud.0 in
+    let c0 = g.V.Shelf.cloud_at c.args.shelf.now number in
+    let mid = c.have_room.new.store in let keeps = c.in-Ok.ensures.same in
+    let at = g.V.Shelf.cloud_at c.have_room.new.shelf in let later = g.V.Shelf.cloud_at c.add_roomy.new.shelf in
+    let header_is : mid.header ≡ header = ap (λ (x : OpenStore). x.header) keeps.same in
+    let grows = subst (λ (x : OpenStore). GrowsBy mid.disk (body_bytes (put_record x c.args.user c.args.news.now)) (at number) (later number)) keeps.same
+    (subst (λ (h : Header). GrowsBy mid.disk (body_bytes (put_record mid c.args.user c.args.news.now)) (at h.cloud.0) (later h.cloud.0)) header_is c.add_roomy.ensures.chain) in
+    grows_both store mid (body_bytes (put_record store c.args.user c.args.news.now)) c0 (at number) (later number) keeps.shares keeps.recipes c.requires.settled.disk.shares c.requires.settled.disk.recipes
+    (told_on c0 (at number) c.have_room.ensures.call.told) c.have_room.ensures.chain grows c.in-Ok.ensures.made
+
+pub returns-in-Some-clause-chain : goal.returns-in-Some-clause-chain
+returns-in-Some-clause-chain g c =
+    let store = c.args.self.now in
+    grows_still store (body_bytes (put_record store c.args.user c.args.news.now)) (g.V.Shelf.cloud_at c.args.shelf.now store.header.cloud.0)
+
+pub returns-in-Some-clause-unadded : goal.returns-in-Some-clause-unadded
+returns-in-Some-clause-unadded g c = (ap (λ (d : Disk). record c.args.self.now { disk = d }) c.unstage.ensures.forgets, refl)
+
+pub returns-in-Some-clause-serves_still : goal.returns-in-Some-clause-serves_still
+returns-in-Some-clause-serves_still g c list chain cloud serves =
+    let store = c.args.self.now in let same = c.unstage.ensures.forgets in
+    serves_on list chain store c.unstage.new.self cloud cloud serves (c.unstage.ensures.on store.header list chain cloud serves.known.on) refl (ap (λ (d : Disk). d.shares.end) same) (ap (λ (d : Disk). d.recipes.end) same)
+
+pub returns-in-Err-Long-clause-chain : goal.returns-in-Err-Long-clause-chain
+returns-in-Err-Long-clause-chain g c =
+    let store = c.args.self.now in let number = store.header.cloud.0 in
+    grows_sums store (body_bytes (put_record store c.args.user c.args.news.now)) (g.V.Shelf.cloud_at c.args.shelf.now number) (g.V.Shelf.cloud_at c.have_room.new.shelf number) c.have_room.ensures.chain
+
+pub returns-in-Err-Failed-clause-chain : goal.returns-in-Err-Failed-clause-chain
+returns-in-Err-Failed-clause-chain g c =
+    let store = c.args.self.now in let number = store.header.cloud.0 in
+    grows_sums store (body_bytes (put_record store c.args.user c.args.news.now)) (g.V.Shelf.cloud_at c.args.shelf.now number) (g.V.Shelf.cloud_at c.have_room.new.shelf number) c.have_room.ensures.chain
+
+pub returns-in-Ok-add_roomy-clause-ends : goal.returns-in-Ok-add_roomy-clause-ends
+returns-in-Ok-add_roomy-clause-ends g c =
+    let keeps = c.in-Ok.ensures.same in let ends = c.in-Ok-add_roomy.ensures.ends in
+    record { shares = ends.shares ∙ ap logs.staged_end keeps.shares; recipes = ends.recipes ∙ ap logs.staged_end keeps.recipes }
+
+pub returns-in-Ok-add_roomy-clause-moments : goal.returns-in-Ok-add_roomy-clause-moments
+returns-in-Ok-add_roomy-clause-moments g c told fits =
+    let number = c.args.self.now.header.cloud.0 in let later = g.V.Shelf.cloud_at c.add_roomy.new.shelf in let disk = c.args.self.now.disk in
+    let at = g.V.Shelf.cloud_at c.have_room.new.shelf in
+    let still = c.have_room.ensures.untouched (subst (λ (n : ℕ). Fits c.args.self.now n) (sym (c.put_len-len.ensures.len c.args.user c.requires.new)) fits) in
+    let run = subst (λ (x : OpenStore). IsTrue (at x.header.cloud.0).told → moment (later x.header.cloud.0) ≡ moment (at x.header.cloud.0) + flush_moments x.disk.shares + flush_moments x.disk.recipes + 4) still.0
+    c.in-Ok-add_roomy.ensures.moments in
+    subst (λ sh. IsTrue (g.V.Shelf.cloud_at sh number).told → moment (later number) ≡ moment (g.V.Shelf.cloud_at sh number) + flush_moments disk.shares + flush_moments disk.recipes + 4) still.1 run told
+
+pub returns-in-Err-Long-clause-any_moment : goal.returns-in-Err-Long-clause-any_moment
+returns-in-Err-Long-clause-any_moment g c list chain strings p =
+    let store = c.args.self.now in let header = store.header in let number = header.cloud.0 in
+    let user = c.args.user in let news = c.args.news.now in let command = asked.Put user strings in
+    let c0 = g.V.Shelf.cloud_at c.args.shelf.now number in
+    let s = p.serves in let k = s.known in
+    images_kept header list command c0 (g.V.Shelf.cloud_at c.have_room.new.shelf number) (c.have_room.ensures.any_moment list chain s)
+
+pub returns-in-Err-clause-call : goal.returns-in-Err-clause-call
+returns-in-Err-clause-call g c =
+    let keeps = c.in-Ok.ensures.same in
+    let header_is : c.have_room.new.store.header ≡ c.args.self.now.header = ap (λ (x : OpenStore). x.header) keeps.same in
+    called_twice _ _ _ _ _ _ _ c.have_room.ensures.call
+    (subst (λ (h : Header). IsCall (g.V.Shelf.cloud_at c.have_room.new.shelf) (g.V.Shelf.cloud_at c.add_roomy.new.shelf) h.cloud.0 (g.V.Shelf.faults c.have_room.new.shelf) (g.V.Shelf.faults c.add_roomy.new.shelf)) header_is c.add_roomy.ensures.call)

@@ -1,0 +1,80 @@
+-- What an add leaves of areas whose records may say anything: the chain or one record more, and what lies below the ends of both logs.
+use Rattle.std.proofs.Common.{◌≡◌, ◌≢◌, inl, ℕ, List, Result, Ok, Err, subst, sym, ◌∙◌}
+use Rattle.std.specs.Prelude.{OnOk}
+use Rattle.cd_edges.specs.declared.area.Area.{Area}
+use Rattle.cd_edges.specs.declared.area.Area.TheVariants.{Journal, Shares, Recipes}
+use Rattle.cd_edges.specs.Disk.{Store, Areas, Image, Cloud, IsImage, IsAtArea, MayLeave, LeavesOnly}
+use Rattle.cd_edges.proofs.Moments.{weaker, joined, at_end}
+use Rattle.container_log.specs.Kept.{KeepsBelow}
+use Rattle.container_log.specs.States.{State}
+use Rattle.journal_halves.specs.Journals.{Where, with_body, HasChain, IsEither}
+use Rattle.half_journal.specs.States as journals
+use Rattle.cloud_disk.specs.Held.{HasFronts}
+use Rattle.cloud_disk.specs.Disk.{Disk, IsGrown}
+use Rattle.cloud_disk.proofs.Adding.{chain_there}
+use Rattle.cloud_disk.proofs.Both.{as_read}
+
+pub below : (end : ℕ) (store : Store) (image : List ℕ) → MayLeave store image → KeepsBelow end store image
+below end store image may = record { no_shorter = may.no_shorter; kept = λ place low within outside. may.kept place within outside }
+
+-- an image by its areas
+abbrev by_areas : List ℕ → List ℕ → List ℕ → Image
+by_areas journal shares recipes Journal = journal
+by_areas journal shares recipes Shares = shares
+by_areas journal shares recipes Recipes = recipes
+
+is_by_areas : (now : Areas) (journal shares recipes : List ℕ) → MayLeave (now Journal) journal → MayLeave (now Shares) shares → MayLeave (now Recipes) recipes
+    → IsImage now (by_areas journal shares recipes)
+is_by_areas now journal shares recipes in_journal in_shares in_recipes Journal = in_journal
+is_by_areas now journal shares recipes in_journal in_shares in_recipes Shares = in_shares
+is_by_areas now journal shares recipes in_journal in_shares in_recipes Recipes = in_recipes
+
+-- while the shares are written
+pub fronts_first : (shares recipes : State) (c0 c1 : Cloud) → shares.area ≡ Shares
+    → LeavesOnly c0 c1 (IsAtArea c0.now shares.area (KeepsBelow shares.end (c0.now shares.area))) → LeavesOnly c0 c1 (HasFronts shares recipes c0)
+fronts_first shares recipes c0 c1 is run =
+    weaker c0 c1 _ _ (subst (λ (a : Area). LeavesOnly c0 c1 (IsAtArea c0.now a (KeepsBelow shares.end (c0.now a)))) is run)
+    (λ image at. (at.others Journal (λ e. cc), at.area, below recipes.end (c0.now Recipes) (image Recipes) (at.others Recipes (λ e. cc))))
+
+-- and then the recipes
+pub fronts_second : (shares recipes : State) (c0 c1 c2 : Cloud) → MayLeave (c1.now Recipes) (c1.now Recipes).read → recipes.area ≡ Recipes
+    → LeavesOnly c0 c1 (HasFronts shares recipes c0) → c1.now Recipes ≡ c0.now Recipes
+    → LeavesOnly c1 c2 (IsAtArea c1.now recipes.area (KeepsBelow recipes.end (c1.now recipes.area)))
+    → LeavesOnly c0 c2 (HasFronts shares recipes c0)
+fronts_second shares recipes c0 c1 c2 there is first same run =
+    joined c0 c1 c2 _ first
+    (weaker c1 c2 _ _ (subst (λ (a : Area). LeavesOnly c1 c2 (IsAtArea c1.now a (KeepsBelow recipes.end (c1.now a)))) is run)
+    (λ image at.
+    let last = (c1.now Recipes).read in
+    let im = by_areas (image Journal) (image Shares) last in
+    let h = at_end c0 c1 (HasFronts shares recipes c0) first im (is_by_areas c1.now (image Journal) (image Shares) last (at.others Journal (λ e. cc)) (at.others Shares (λ e. cc)) there) in
+    (h.0, h.1, subst (λ (s : Store). KeepsBelow recipes.end s (image Recipes)) same at.area)))
+
+-- the journal stays behind both
+pub journal_still : {T E : Type 0} (r : Result T E) (area : Area) (c0 c1 c2 : Cloud) → area ≡ Recipes → c1.now Journal ≡ c0.now Journal
+    → OnOk r ((other : Area) → other ≢ area → c2.now other ≡ c1.now other) → OnOk r (c2.now Journal ≡ c0.now Journal)
+journal_still (Err e) area c0 c1 c2 is first others = tt
+journal_still (Ok v) area c0 c1 c2 is first others =
+    let away : (other : Area) → other ≢ Recipes → c2.now other ≡ c1.now other = subst (λ (a : Area). (other : Area) → other ≢ a → c2.now other ≡ c1.now other) is others in
+    away Journal (λ e. cc) ∙ first
+
+module _ (disk : Disk) (body : List ℕ) (c0 : Cloud) (w : Where) (ended : journals.IsEnded disk.journal (c0.now Journal) w) where
+  still : (image : Image) → HasFronts disk.shares disk.recipes c0 image → IsGrown disk c0 w (with_body w body) image
+  still image h =
+      let same = as_read (c0.now Journal) (image Journal) ended.read.synced h.0 in
+      (inl (subst (λ (j : List ℕ). HasChain j w) (sym same) (chain_there disk.journal (c0.now Journal) w ended)), h.1, h.2)
+
+  -- while both logs are written
+  pub grown_flushed : (c1 : Cloud) → LeavesOnly c0 c1 (HasFronts disk.shares disk.recipes c0) → LeavesOnly c0 c1 (IsGrown disk c0 w (with_body w body))
+  grown_flushed c1 run = weaker c0 c1 _ _ run still
+
+  -- and then the record
+  pub grown_added : (c1 c2 : Cloud) → LeavesOnly c0 c1 (HasFronts disk.shares disk.recipes c0) → MayLeave (c1.now Journal) (c1.now Journal).read
+      → LeavesOnly c1 c2 (IsAtArea c1.now Journal (IsEither w (with_body w body))) → LeavesOnly c0 c2 (IsGrown disk c0 w (with_body w body))
+  grown_added c1 c2 first there run =
+      joined c0 c1 c2 _ (grown_flushed c1 first)
+      (weaker c1 c2 _ _ run (λ image at.
+      let last = (c1.now Journal).read in
+      let im = by_areas last (image Shares) (image Recipes) in
+      let h = at_end c0 c1 (HasFronts disk.shares disk.recipes c0) first im (is_by_areas c1.now last (image Shares) (image Recipes) there (at.others Shares (λ e. cc)) (at.others Recipes (λ e. cc))) in
+      (at.area, h.1, h.2)))
