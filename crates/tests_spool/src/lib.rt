@@ -1,0 +1,7 @@
+//! Tests of what a client keeps of an upload.
+#![tactic(auto)]
+
+#[cfg(test)]
+mod cases;
+#[cfg(test)]
+mod opens;

@@ -1,0 +1,12 @@
+pub mod Begins
+pub mod Bodies
+pub mod Chains
+pub mod Jobs
+pub mod Lanes
+pub mod Notes
+pub mod Opened
+pub mod Picks
+pub mod Readings
+pub mod Sizes
+pub mod Steps
+pub mod Walks

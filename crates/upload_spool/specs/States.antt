@@ -1,0 +1,261 @@
+-- What a spool knows, and what its calls leave of a told cloud.
+use Rattle.std.specs.Prelude.{◌≡◌, ◌≢◌, ◌⊎◌, ◌==◌, ℕ, ◌≤◌, zero, suc, if◌then◌else◌, false, IsTrue, List, [], ◌∷◌, ◌++◌, length, map, take, Option, Some, None, Result, Ok, Err, OnOk, IfOk}
+use Rattle.std.specs.List.{range_with_len}
+use Rattle.sha2.specs.Sha256.{sha256 as sha256_of}
+use Rattle.cd_base.specs.declared.ids.CloudNo.{CloudNo}
+use Rattle.cd_base.specs.declared.ids.UserId.{UserId}
+use Rattle.cd_base.specs.declared.ids.Version.{Version}
+use Rattle.cd_base.specs.declared.ids.Fp.{Fp}
+use Rattle.cd_base.specs.declared.shape.Shape.{Shape}
+use Rattle.cd_edges.specs.declared.area.Area.{Area}
+use Rattle.cd_edges.specs.declared.area.Area.TheVariants.{Journal, Shares, Recipes}
+use Rattle.cd_edges.specs.Disk.{Store, Areas, Cloud, Image, MayLeave, LeavesOnly, reads}
+use Rattle.cd_edges.specs.Shelf.{stable}
+use Rattle.journal_start.specs.declared.start.Header.{Header}
+use Rattle.journal_halves.specs.Beginnings.{IsUnbegun, new_of}
+use Rattle.journal_halves.specs.Halves.{is_half_begun}
+use Rattle.journal_halves.specs.Journals.{HasChain, with_body, used_by}
+use Rattle.half_journal.specs.declared.journal.Stage.TheVariants.{AtEnd}
+use Rattle.half_journal.specs.declared.errors.OpenErr.{OpenErr}
+use Rattle.half_journal.specs.declared.errors.OpenErr.TheVariants as opens
+use Rattle.half_journal.specs.States.{IsEnded, IsReading}
+use Rattle.half_journal.specs.States as half
+use Rattle.upload_job.specs.Lane.{Done}
+use Rattle.upload_job.specs.Lanes.{LaneView}
+use Rattle.upload_job.specs.Upload.{FileVersion, work_of}
+use Rattle.upload_spool.specs.declared.error.SpoolErr.{SpoolErr}
+use Rattle.upload_spool.specs.declared.error.SpoolErr.TheVariants.{NotEmpty, Fault, Damaged, OtherStore, Rotten, NoMemory}
+use Rattle.upload_spool.specs.declared.spool.Spool.{Spool}
+use Rattle.upload_spool.specs.Spools.{HasOpenJob, IsBegunOr, IsNotedOr, spool_chain, spool_limit, job_bytes}
+
+-- what a spool shows
+pub record State : Type 0 where
+  pub shape : Shape
+  pub user : UserId
+  pub version : Version
+  pub path : List ℕ
+  pub len : ℕ  -- how many bytes the file has
+  pub digest : Fp  -- its SHA-256
+  pub noted : List CloudNo  -- the lanes that were noted, in order
+  pub journal : half.State
+
+abbrev pub state_of : Spool → State
+state_of s = record {
+  shape = s.shape;
+  user = s.user;
+  version = s.version;
+  path = s.path;
+  len = s.len;
+  digest = s.digest;
+  noted = s.noted.items;
+  journal = half.state_of s.journal;
+}
+
+-- The spool keeps this version of a file, as far as a spool knows it.
+pub record IsOf (state : State) (v : FileVersion) : Type 0 where
+  pub user : state.user ≡ v.user
+  pub number : state.version ≡ v.number
+  pub path : state.path ≡ v.path
+  pub len : state.len ≡ length v.file
+  pub digest : state.digest.0 ≡ sha256_of v.file
+
+-- a crash leaves the file's bytes in front of the area
+abbrev pub HasFile : List ℕ → Store → Type 0
+HasFile file store = (image : List ℕ) → MayLeave store image → take (length file) image ≡ file
+
+-- The cloud keeps this version and these lanes, all of it on the disk, and the spool stands at the end of its records.
+pub record IsSpool (state : State) (v : FileVersion) (lanes : List CloudNo) (cloud : Cloud) : Type 0 where
+  pub of : IsOf state v
+  pub noted : state.noted ≡ lanes
+  pub ended : IsEnded state.journal (cloud.now Journal) (spool_chain state.shape v lanes)
+  pub within : used_by (spool_chain state.shape v lanes) ≤ spool_limit
+  pub alone : is_half_begun 1 (cloud.now Journal).read ≡ false
+  pub file : HasFile v.file (cloud.now Shares)
+
+-- ---- whose job it is
+
+-- each lane's work is that of this version
+abbrev pub IsJobOf : Shape → FileVersion → List LaneView → Type 0
+IsJobOf shape v lanes = map (λ (lane : LaneView). lane.work) lanes ≡ map (work_of shape v) (range_with_len 0 shape.n)
+
+-- the lane of that number has entered its version
+abbrev pub IsDoneAt : List LaneView → ℕ → Type 0
+IsDoneAt [] i = ⊥
+IsDoneAt (lane ∷ lanes) zero = lane.state ≡ Done
+IsDoneAt (lane ∷ lanes) (suc i) = IsDoneAt lanes i
+
+-- ---- beginning
+
+-- the first area that isn't empty, and how many bytes it has: journal, shares, recipes
+abbrev pub chosen : ℕ → ℕ → ℕ → Option (Area × ℕ)
+chosen journal shares recipes =
+    if journal == 0 then
+    if shares == 0 then
+    if recipes == 0 then None
+    else Some (Recipes, recipes)
+    else Some (Shares, shares)
+    else Some (Journal, journal)
+
+abbrev pub first_filled : Image → Option (Area × ℕ)
+first_filled image = chosen (length (image Journal)) (length (image Shares)) (length (image Recipes))
+
+-- what `begin` answers of these areas
+abbrev pub BeginsIs : {T : Type 0} → Image → Result T SpoolErr → Type 0
+BeginsIs image (Ok value) = first_filled image ≡ None
+BeginsIs image (Err (NotEmpty area len)) = first_filled image ≡ Some (area, len)
+BeginsIs image (Err Fault) = Unit {0}
+BeginsIs image (Err NoMemory) = first_filled image ≡ None
+BeginsIs image (Err (Damaged at byte)) = ⊥
+BeginsIs image (Err (OtherStore found asked)) = ⊥
+BeginsIs image (Err (Rotten named found)) = ⊥
+
+-- no image of the journal has an open job
+abbrev pub NoOpenJob : Store → Type 0
+NoOpenJob store = (image : List ℕ) → MayLeave store image → ¬ (HasOpenJob image)
+
+-- Where the areas are empty and no crash leaves a job, each image since has none, or this one.
+abbrev pub LeavesJob : Shape → FileVersion → Cloud → Cloud → Type 0
+LeavesJob shape v old new = IsTrue old.told → first_filled (reads old.now) ≡ None → NoOpenJob (old.now Journal)
+    → LeavesOnly old new (IsBegunOr shape v)
+
+abbrev pub HasBegun : FileVersion → Cloud → Cloud → Result Spool SpoolErr → Type 0
+HasBegun v old new result = IsTrue old.told → first_filled (reads old.now) ≡ None → IfOk result (λ spool. IsSpool (state_of spool) v [] new)
+
+-- the spool is that of this version, no lane is noted, and it is open
+pub record IsBegunSpool (shape : Shape) (v : FileVersion) (spool : Spool) : Type 0 where
+  pub shape_is : spool.shape ≡ shape
+  pub of : IsOf (state_of spool) v
+  pub none : spool.noted.items ≡ []
+  pub stage : (state_of spool).journal.stage ≡ AtEnd
+
+-- ---- the steps of a beginning
+
+-- each image since that state of a cloud has in Journal what a crash might have left there then
+abbrev pub IsKept : Cloud → Cloud → Type 0
+IsKept start now = LeavesOnly start now (λ image. MayLeave (start.now Journal) (image Journal))
+
+-- the area has so many of the file's bytes, which a crash leaves
+abbrev pub Holds : ℕ → List ℕ → Store → Type 0
+Holds at file store = (store.read ≡ take at file) × ((at ≡ 0) ⊎ (store ≡ stable (take at file)))
+
+-- So many of the file's bytes are written since that state of a cloud.
+pub record Along (start now : Cloud) (at : ℕ) (file : List ℕ) : Type 0 where
+  pub leaves : IsKept start now
+  pub others : (other : Area) → other ≢ Shares → now.now other ≡ start.now other
+  pub held : (start.now Shares).read ≡ [] → Holds at file (now.now Shares)
+
+-- each image since has in Journal what a crash might have left there before
+abbrev pub KeepsJournal : Cloud → Cloud → Type 0
+KeepsJournal old new = IsTrue old.told → IsKept old new
+
+-- Shares, which was empty, has the file
+abbrev pub HasWritten : {T E : Type 0} → List ℕ → Cloud → Cloud → Result T E → Type 0
+HasWritten file old new result = IsTrue old.told → (old.now Shares).read ≡ [] → OnOk result (HasFile file (new.now Shares))
+
+-- the areas but this one are as they were
+abbrev pub OthersStay : {T E : Type 0} → Area → Cloud → Cloud → Result T E → Type 0
+OthersStay area old new result = IsTrue old.told → OnOk result ((other : Area) → other ≢ area → new.now other ≡ old.now other)
+
+-- where no half was begun, each image since has no open job, and Shares as a crash might have left it before
+pub record HasNone (old : Areas) (image : Image) : Type 0 where
+  pub none : ¬ (HasOpenJob (image Journal))
+  pub shares : MayLeave (old Shares) (image Shares)
+
+abbrev pub LeavesNone : Cloud → Cloud → Type 0
+LeavesNone old new = IsTrue old.told → IsUnbegun (old.now Journal).read → NoOpenJob (old.now Journal) → LeavesOnly old new (HasNone old.now)
+
+-- half 0 has the header and no record, and half 1 isn't begun
+pub record IsNew (state : half.State) (header : Header) (cloud : Cloud) : Type 0 where
+  pub ended : IsEnded state (cloud.now Journal) (new_of header)
+  pub alone : is_half_begun 1 (cloud.now Journal).read ≡ false
+
+abbrev pub HasNew : {T E : Type 0} → half.State → Header → Cloud → Cloud → Result T E → Type 0
+HasNew after header old new result = IsTrue old.told → IsUnbegun (old.now Journal).read → OnOk result (IsNew after header new)
+
+-- such a journal, read up to its start
+pub record IsNewRead (state : half.State) (header : Header) (cloud : Cloud) : Type 0 where
+  pub reading : IsReading state (cloud.now Journal) (new_of header)
+  pub has : HasChain (cloud.now Journal).read (new_of header)
+  pub alone : is_half_begun 1 (cloud.now Journal).read ≡ false
+
+-- no job is open, or half 0 alone has the header and this record, and Shares begins with the file
+pub record IsNewJob (header : Header) (file body : List ℕ) (image : Image) : Type 0 where
+  pub alone : is_half_begun 1 (image Journal) ≡ false
+  pub has : HasChain (image Journal) (with_body (new_of header) body)
+  pub file_is : take (length file) (image Shares) ≡ file
+
+abbrev pub IsNewJobOr : Header → List ℕ → List ℕ → Image → Type 0
+IsNewJobOr header file body image = (¬ (HasOpenJob (image Journal))) ⊎ IsNewJob header file body image
+
+abbrev pub KeepsNewJob : Header → List ℕ → List ℕ → Cloud → Cloud → Type 0
+KeepsNewJob header file body old new = IsTrue old.told → first_filled (reads old.now) ≡ None → NoOpenJob (old.now Journal)
+    → LeavesOnly old new (IsNewJobOr header file body)
+
+-- the same of a cloud, all of whose journal is on the disk
+pub record HasJob (state : half.State) (header : Header) (file body : List ℕ) (cloud : Cloud) : Type 0 where
+  pub ended : IsEnded state (cloud.now Journal) (with_body (new_of header) body)
+  pub alone : is_half_begun 1 (cloud.now Journal).read ≡ false
+  pub file_is : HasFile file (cloud.now Shares)
+
+abbrev pub HasNewJob : {T E : Type 0} → half.State → Header → List ℕ → List ℕ → Cloud → Cloud → Result T E → Type 0
+HasNewJob after header file body old new result = IsTrue old.told → first_filled (reads old.now) ≡ None
+    → OnOk result (HasJob after header file body new)
+
+-- a spool of this version that isn't open, and the body of its record
+pub record IsDraft (shape : Shape) (v : FileVersion) (spool : Spool) (body : List ℕ) : Type 0 where
+  pub shape_is : spool.shape ≡ shape
+  pub of : IsOf (state_of spool) v
+  pub none : spool.noted.items ≡ []
+  pub body_is : body ≡ job_bytes v
+  pub some : 1 ≤ length body
+  pub few : length body ≤ 1079
+
+-- the same cause, as a spool says it
+abbrev pub spool_error : OpenErr → SpoolErr
+spool_error opens.Fault = Fault
+spool_error (opens.NotBegun len) = Damaged len 0
+spool_error (opens.Damaged at byte) = Damaged at byte
+spool_error (opens.OtherStore found asked at) = OtherStore found asked
+
+-- nothing but a fault comes
+abbrev pub IsOkOrFault : {T : Type 0} → Result T SpoolErr → Type 0
+IsOkOrFault (Ok value) = Unit {0}
+IsOkOrFault (Err Fault) = Unit {0}
+IsOkOrFault (Err NoMemory) = ⊥
+IsOkOrFault (Err (NotEmpty area len)) = ⊥
+IsOkOrFault (Err (Damaged at byte)) = ⊥
+IsOkOrFault (Err (OtherStore found asked)) = ⊥
+IsOkOrFault (Err (Rotten named found)) = ⊥
+
+-- a note ends well, or a device call or memory failed
+abbrev pub IsNoteAnswer : {T : Type 0} → Result T SpoolErr → Type 0
+IsNoteAnswer (Ok value) = Unit {0}
+IsNoteAnswer (Err Fault) = Unit {0}
+IsNoteAnswer (Err NoMemory) = Unit {0}
+IsNoteAnswer (Err (NotEmpty area len)) = ⊥
+IsNoteAnswer (Err (Damaged at byte)) = ⊥
+IsNoteAnswer (Err (OtherStore found asked)) = ⊥
+IsNoteAnswer (Err (Rotten named found)) = ⊥
+
+-- ---- notes
+
+-- Whatever spool it is: each image since has the lanes before, or this one more.
+abbrev pub KeepsOrNotes : State → CloudNo → Cloud → Cloud → Type 0
+KeepsOrNotes before lane old new = IsTrue old.told → (v : FileVersion) (lanes : List CloudNo) → IsSpool before v lanes old
+    → LeavesOnly old new (IsNotedOr before.shape v lanes lane)
+
+abbrev pub HasNoted : {T E : Type 0} → State → State → CloudNo → Cloud → Cloud → Result T E → Type 0
+HasNoted before after lane old new result = IsTrue old.told → (v : FileVersion) (lanes : List CloudNo) → IsSpool before v lanes old
+    → OnOk result (IsSpool after v (lanes ++ lane ∷ []) new)
+
+-- ---- answers
+
+-- one fact where a device call failed, and another for every other answer
+abbrev pub OnFault : {T : Type 0} → Result T SpoolErr → Type 0 → Type 0 → Type 0
+OnFault (Ok value) failed other = other
+OnFault (Err Fault) failed other = failed
+OnFault (Err NoMemory) failed other = other
+OnFault (Err (NotEmpty area len)) failed other = other
+OnFault (Err (Damaged at byte)) failed other = other
+OnFault (Err (OtherStore found asked)) failed other = other
+OnFault (Err (Rotten named found)) failed other = other
