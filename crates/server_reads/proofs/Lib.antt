@@ -1,0 +1,12 @@
+pub mod Marks
+pub mod Rising
+pub mod Keys
+pub mod Sound
+pub mod Held
+pub mod Calling
+pub mod Along
+pub mod Logs
+pub mod Plain
+pub mod Spelled
+pub mod Rotting
+pub mod Unowned

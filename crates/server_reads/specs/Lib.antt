@@ -1,0 +1,5 @@
+pub mod Allowed
+pub mod Found
+pub mod Owned
+pub mod Reading
+pub mod Steps

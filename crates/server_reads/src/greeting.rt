@@ -1,0 +1,18 @@
+//! The reply to Hello.
+
+ghost use Rattle.std.specs.Prelude.{◌≡◌, List};
+ghost use Rattle.messages.specs.declared.request.Request.TheVariants as requests;
+ghost use Rattle.messages.specs.Replies.{reply_bytes};
+ghost use Rattle.user_dedup.specs.declared.command.Command.{Command};
+ghost use Rattle.user_dedup.specs.Dedup.{answer_over};
+
+use cd_base::{CloudNo, Shape};
+use frames::ReplyBuf;
+use messages::write_hello;
+
+/// The reply to Hello becomes the content: the shape of the store, the number of the cloud, and the format 1.
+pub fn hello(shape: Shape, cloud: CloudNo, reply: &mut ReplyBuf)
+    ensures { (list : List Command) → reply.new ≡ reply_bytes (answer_over shape cloud.0 list requests.Hello).reply }
+{
+    write_hello(reply, shape.n(), shape.k(), cloud.0, 1);
+}
