@@ -1,0 +1,96 @@
+-- Two calls of a device, one after the other, the first of which only read.
+use Rattle.std.proofs.Common.{◌≡◌, ℕ, ◌++◌, List, Result, Ok, Err, refl, sym, ap, ◌∙◌, subst, arith}
+use Rattle.std.specs.Prelude.{OnOk, OnErr}
+use Rattle.cd_edges.specs.declared.area.Area.TheVariants.{Journal}
+use Rattle.cd_edges.specs.declared.stream.Failed.{Failed}
+use Rattle.cd_edges.specs.Disk.{Areas, Cloud, Image, LeavesOnly}
+use Rattle.cd_edges.specs.Causes.{Rose}
+use Rattle.cd_edges.specs.Shelf.{IsCall, HasFailed, KeepsCounts, Stays}
+use Rattle.cd_edges.proofs.Moments.{weaker, told_on}
+use Rattle.half_journal.specs.States as journals
+use Rattle.journal_halves.specs.Journals.{Where}
+use Rattle.open_store.specs.declared.store.OpenStore.{OpenStore}
+use Rattle.open_store.specs.Adding.{IsLeftOf}
+use Rattle.server_reads.specs.Reading.{HasRead}
+use Rattle.server_reads.specs.declared.blobs.Stop.{Stop}
+use Rattle.server_reads.specs.declared.blobs.Stop.TheVariants as stops
+use Rattle.server_commands.specs.Executing.{GrowsBehind}
+use Rattle.server_commands.specs.Steps.{Calls}
+
+abbrev pub ok_result : Result (Unit {0}) Failed
+ok_result = Ok tt
+
+abbrev pub failed_result : Result (Unit {0}) Failed
+failed_result = Err (record {})
+
+abbrev pub ok_read : Result (Unit {0}) Stop
+ok_read = Ok tt
+
+abbrev pub failed_read : Result (Unit {0}) Stop
+failed_read = Err stops.Failed
+
+-- ---- calls
+
+called_twice : (a b c : ℕ → Cloud) (number before mid now : ℕ) → IsCall a b number before mid → IsCall b c number mid now → IsCall a c number before now
+called_twice a b c number before mid now first second = record {
+  others = λ other ne. second.others other ne ∙ first.others other ne;
+  told = second.told ∙ first.told;
+  armings = second.armings ∙ first.armings;
+  later = omega (arith, first.later, second.later);
+  total_later = omega (arith, first.total_later, second.total_later);
+}
+
+failed_then : {T E : Type 0} (r : Result T E) (a b c : Cloud) (before mid now : ℕ) → KeepsCounts a b before mid → OnErr r (HasFailed b c mid now) → OnErr r (HasFailed a c before now)
+failed_then (Ok v) a b c before mid now kept failed = tt
+failed_then (Err e) a b c before mid now kept failed = record {
+  cloud = subst (λ (n : ℕ). Rose n c.faults) kept.cloud failed.cloud;
+  total = subst (λ (n : ℕ). Rose n now) kept.total failed.total;
+}
+
+counts_then : {T E : Type 0} (r : Result T E) (a b c : Cloud) (before mid now : ℕ) → KeepsCounts a b before mid → OnOk r (KeepsCounts b c mid now) → OnOk r (KeepsCounts a c before now)
+counts_then (Err e) a b c before mid now kept counts = tt
+counts_then (Ok v) a b c before mid now kept counts = record { cloud = counts.cloud ∙ kept.cloud; total = counts.total ∙ kept.total }
+
+pub calls_then : {T E : Type 0} (r : Result T E) (a b c : ℕ → Cloud) (number before mid now : ℕ) → HasRead a b number before mid ok_read → Calls b c number mid now r → Calls a c number before now r
+calls_then r a b c number before mid now read calls = record {
+  call = called_twice a b c number before mid now read.call calls.call;
+  failed = failed_then r (a number) (b number) (c number) before mid now read.counts calls.failed;
+  counts = counts_then r (a number) (b number) (c number) before mid now read.counts calls.counts;
+}
+
+pub calls_failed : (a b : ℕ → Cloud) (number before now : ℕ) → HasRead a b number before now failed_read → Calls a b number before now failed_result
+calls_failed a b number before now read = record { call = read.call; failed = read.failed; counts = tt }
+
+pub calls_read : (a b : ℕ → Cloud) (number before now : ℕ) → IsCall a b number before now → KeepsCounts (a number) (b number) before now → Calls a b number before now ok_result
+calls_read a b number before now call counts = record { call = call; failed = tt; counts = counts }
+
+pub no_calls : (a : ℕ → Cloud) (number now : ℕ) → Calls a a number now now ok_result
+no_calls a number now = record {
+  call = record { others = λ other ne. refl; told = refl; armings = refl; later = omega arith; total_later = omega arith };
+  failed = tt;
+  counts = record { cloud = refl; total = refl };
+}
+
+-- ---- moments
+
+pub since_read : (a b c : Cloud) (P : Image → Type 0) → Stays a b → LeavesOnly b c P → LeavesOnly a c P
+since_read a b c P stays run = record { since = run.since; past = run.past ∙ ap (λ (p : List Areas). p ++ run.since) stays.past; each = run.each }
+
+pub stays_twice : (a b c : Cloud) → Stays a b → Stays b c → Stays a c
+stays_twice a b c first second = record { armed = second.armed ∙ first.armed; past = second.past ∙ first.past; now = second.now ∙ first.now }
+
+pub stays_still : (a : Cloud) → Stays a a
+stays_still a = record { armed = refl; past = refl; now = refl }
+
+-- what a store adds behind what it has, where only a read was made before
+pub grows_read : (s mid : OpenStore) (a b c : Cloud) → mid.disk.journal ≡ s.disk.journal → ((w : Where) (body : List ℕ) (image : Image) → IsLeftOf mid b w body image → IsLeftOf s a w body image)
+    → Stays a b → b.told ≡ a.told → GrowsBehind mid b c → GrowsBehind s a c
+grows_read s mid a b c journal left stays told grows = record {
+  body = grows.body;
+  chain = λ is w ended.
+      since_read a b c (IsLeftOf s a w grows.body) stays
+      (weaker b c (IsLeftOf mid b w grows.body) (IsLeftOf s a w grows.body)
+      (grows.chain (told_on a b told is) w
+      (subst (λ (j : journals.State). journals.IsEnded j (b.now Journal) w) (sym journal) (subst (λ (x : Areas). journals.IsEnded s.disk.journal (x Journal) w) (sym stays.now) ended)))
+      (λ image. left w grows.body image));
+}

@@ -1,0 +1,120 @@
+-- A Delete, by what its exits leave.
+use Rattle.std.proofs.Common.{◌≡◌, ℕ, List, Some, Result, Err, refl, sym, ◌∙◌, subst, arith}
+use Rattle.std.specs.Prelude.{OnOk}
+use Rattle.cd_base.specs.declared.ids.Fp.{Fp}
+use Rattle.cd_base.specs.declared.ids.Tag.{Tag}
+use Rattle.cd_base.specs.declared.ids.UserId.{UserId}
+use Rattle.cd_base.specs.declared.ids.Version.{Version}
+use Rattle.cd_edges.specs.Disk.{Cloud}
+use Rattle.file_index.specs.declared.key.FileKey.{FileKey}
+use Rattle.file_index.specs.Files.{key_of}
+use Rattle.messages.specs.declared.request.Request.{Request}
+use Rattle.messages.specs.declared.request.Request.TheVariants as requests
+use Rattle.messages.specs.declared.reply.Reply.TheVariants as replies
+use Rattle.messages.specs.Replies.{IsReply}
+use Rattle.user_dedup.specs.declared.command.Command.{Command}
+use Rattle.user_dedup.specs.declared.file_list.FileEntry.{FileEntry}
+use Rattle.user_dedup.specs.Cloud.{user_view}
+use Rattle.user_dedup.specs.Pages.{entry_at}
+use Rattle.cloud_areas.specs.Standing.{Chain}
+use Rattle.cloud_memory.specs.Rooms.{memory_of}
+use Rattle.open_store.specs.declared.store.OpenStore.{OpenStore}
+use Rattle.open_store.specs.Store.{IsSettled, IsOpen, Serves, closed}
+use Rattle.server_reads.specs.declared.blobs.Stop.{Stop}
+use Rattle.server_reads.specs.declared.blobs.Stop.TheVariants as stops
+use Rattle.server_reads.specs.Allowed.{Replies}
+use Rattle.server_reads.specs.Found.{HasNone, IsFoundRecipe}
+use Rattle.server_reads.specs.Reading.{HasRead, IfRotten}
+use Rattle.server_reads.proofs.Calling.{rotten_at}
+use Rattle.server_reads.proofs.Held.{none_there}
+use Rattle.server_commands.specs.Executing.{IsReady, GrowsBehind, Executes}
+use Rattle.server_commands.specs.Steps.{Calls, Leaves, Does, OnlyReads, ReadsFile, IsOfDelete}
+use Rattle.server_commands.proofs.Calls.{ok_result, failed_result, ok_read, failed_read, calls_then, calls_failed, calls_read, no_calls, stays_still}
+use Rattle.server_commands.proofs.Contents.{one_kind, rotten_said, rotten_leaves, delete_never_rotten, delete_adds, delete_gives, missing_given, rotten_of_delete}
+use Rattle.server_commands.proofs.Deletions.{missing_served}
+use Rattle.server_commands.proofs.Doing.{served_still, stays_executes, adds_executes}
+use Rattle.server_commands.proofs.Entries.{Answer}
+use Rattle.server_commands.proofs.Reread.{does_read, behind_read, both_read, both_failed, leaves_failed, leaves_rotten, counts_at}
+
+module _ (user : UserId) (tag : Tag) (version : Version) where
+  abbrev request : Request
+  request = requests.Delete user tag version
+
+  abbrev key : FileKey
+  key = key_of user.0 tag.0 version.0
+
+  -- what adding the Delete of this recipe leaves of a store
+  pub record Forgets {T E : Type 0} (x new : OpenStore) (b c : ℕ → Cloud) (f1 f2 : ℕ) (recipe content : List ℕ) (r : Result T E) : Type 0 where
+    pub leaves : Leaves x new r
+    pub does : (list : List Command) (chain : Chain) (file : FileEntry) → Serves list chain x (b x.header.cloud.0)
+        → entry_at (user_view x.header.shape list user).files (tag, version) ≡ Some file → file.recipe ≡ recipe
+        → Does x new (b x.header.cloud.0) (c x.header.cloud.0) list (requests.Delete user tag version) content r
+    pub behind : GrowsBehind x (b x.header.cloud.0) (c x.header.cloud.0)
+    pub some : OnOk r (Replies content IsOfDelete)
+    pub calls : Calls b c x.header.cloud.0 f1 f2 r
+
+  -- what a list says of the bytes that were read
+  abbrev pub ByLists : OpenStore → Cloud → List ℕ → Answer → Type 0
+  ByLists old cloud bytes read = (list : List Command) (chain : Chain) → Serves list chain old cloud → ReadsFile (user_view old.header.shape list user).files (tag, version) bytes read
+
+  module _ (Same : Type 0) (old mid new : OpenStore) (a b c : ℕ → Cloud) (f0 f1 f2 : ℕ) (bytes content : List ℕ) where
+    pub deleted : {T E : Type 0} (r : Result T E) (recipe : List ℕ) → OnlyReads old mid (a old.header.cloud.0) (b old.header.cloud.0) → HasRead a b old.header.cloud.0 f0 f1 ok_read
+        → ByLists old (a old.header.cloud.0) bytes ok_read → recipe ≡ bytes → Forgets mid new b c f1 f2 recipe content r
+        → Executes Same old new a c f0 f2 (requests.Delete user tag version) content r
+    deleted r recipe o read there front forgets =
+        let n = old.header.cloud.0 in
+        let kept = mid.disk.recipes.kept in
+        let f = subst (λ (x : OpenStore). Forgets x new b c f1 f2 recipe content r) o.same forgets in
+        adds_executes r Same old new a c f0 f2 request content
+        (record { ready = f.leaves.ready; settled = f.leaves.settled; none = f.leaves.none; shut = f.leaves.shut; header = f.leaves.header })
+        (λ list some.
+        let file = there list some.c some.serves in
+        let serves = subst (λ (x : OpenStore). Serves list some.c x (b n)) o.same (o.serves list some.c some.serves) in
+        does_read old kept new (a n) (b n) (c n) read.stays r list request content (f.does list some.c file.file serves file.here (sym file.given ∙ sym front)))
+        (behind_read old kept new (a n) (b n) (c n) read.stays read.call.told f.behind)
+        (calls_then r a b c n f0 f1 f2 read f.calls)
+        (λ none. none)
+        (delete_never_rotten content r f.some)
+        (delete_adds content r (Same × (new ≡ old)) f.some)
+        (delete_gives content r old.header.shape user tag version f.some)
+
+  module _ (Same : Type 0) (old mid : OpenStore) (a b : ℕ → Cloud) (f0 f1 : ℕ) (content : List ℕ) (o : OnlyReads old mid (a old.header.cloud.0) (b old.header.cloud.0)) (ready : IsReady old) where
+    pub failed : (new : OpenStore) → HasRead a b old.header.cloud.0 f0 f1 failed_read → new ≡ closed mid → IsSettled new → ¬ (IsOpen new)
+        → Executes Same old new a b f0 f1 (requests.Delete user tag version) content failed_result
+    failed new read is settled shut =
+        let n = old.header.cloud.0 in
+        stays_executes failed_result Same old new a b f0 f1 request content
+        (leaves_failed old mid new (a n) (b n) o ready is settled shut)
+        (both_failed old mid new (a n) (b n) o is read.stays)
+        (calls_failed a b n f0 f1 read)
+        (λ list some. tt) (λ named found. tt) (λ answer leaves. tt) tt
+
+    pub rotten : (stop : Stop) (named found : Fp) (bytes : List ℕ) → stop ≡ stops.Rotten named found → HasRead {A = Unit {0}} a b old.header.cloud.0 f0 f1 (Err stop)
+        → ByLists old (a old.header.cloud.0) bytes (Err stop) → IfRotten {A = Unit {0}} (Err stop) (IsFoundRecipe (a old.header.cloud.0) (memory_of old.memory) (key_of user.0 tag.0 version.0))
+        → IsReply content (replies.Rotten named found) → Executes Same old mid a b f0 f1 (requests.Delete user tag version) content ok_result
+    rotten stop named found bytes is read there lies content_is =
+        let n = old.header.cloud.0 in
+        let finds = IsFoundRecipe (a n) (memory_of old.memory) key in
+        stays_executes ok_result Same old mid a b f0 f1 request content
+        (leaves_rotten old mid (a n) (b n) o ready)
+        (both_read old mid (a n) (b n) o read.stays)
+        (calls_read a b n f0 f1 read.call (counts_at stop named found _ is read.counts))
+        (λ list some. absurd (rotten_at stop named found (λ (x y : Fp). ⊥) is (there list some.c some.serves).never))
+        (λ x y other. rotten_said content finds named found x y content_is other (rotten_at stop named found finds is lies))
+        (λ answer leaves other. rotten_leaves content named found (Same × (mid ≡ old)) content_is answer leaves other)
+        (record { reply = replies.Rotten named found; is = content_is; given = rotten_of_delete old.header.shape user tag version named found })
+
+  pub missing : (Same : Type 0) (old : OpenStore) (a : ℕ → Cloud) (f : ℕ) (content : List ℕ) → Same → IsReady old → HasNone (memory_of old.memory) (key_of user.0 tag.0 version.0)
+      → IsReply content replies.Missing → Executes Same old old a a f f (requests.Delete user tag version) content ok_result
+  missing Same old a f content same ready none content_is =
+      let n = old.header.cloud.0 in
+      stays_executes ok_result Same old old a a f f request content
+      (record { ready = ready; settled = ready.settled; none = ready.none; shut = tt; header = refl })
+      (record { cloud = stays_still (a n); memory = refl })
+      (no_calls a n f)
+      (λ list some.
+      served_still old old (a n) list request content replies.Missing
+      (missing_served old list user tag version (none_there old.header.shape list (memory_of old.memory) user tag version some.serves.known.remembers none)) content_is.spelled some)
+      (λ named found other. absurd (omega (arith, one_kind content 136 143 _ _ content_is.spelled other.spelled)))
+      (λ answer leaves other. (same, refl))
+      (missing_given old.header.shape user tag version content content_is)

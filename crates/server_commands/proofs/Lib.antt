@@ -1,0 +1,10 @@
+pub mod Entries
+pub mod Calls
+pub mod Doing
+pub mod Contents
+pub mod Deletions
+pub mod Reread
+pub mod Deleted
+pub mod Commits
+pub mod Repeats
+pub mod Entered

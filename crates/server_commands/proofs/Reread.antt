@@ -1,0 +1,82 @@
+-- A store whose entry was read, and what is done behind the read.
+use Rattle.std.proofs.Common.{◌≡◌, ℕ, List, Result, Ok, Err, refl, sym, ap, ◌∙◌, subst}
+use Rattle.std.specs.Prelude.{OnOk}
+use Rattle.cd_base.specs.declared.ids.Fp.{Fp}
+use Rattle.cd_edges.specs.declared.area.Area.TheVariants.{Journal, Shares, Recipes}
+use Rattle.cd_edges.specs.Disk.{Areas, Cloud}
+use Rattle.cd_edges.specs.Shelf.{Stays}
+use Rattle.cloud_areas.specs.Peers.{StandsForSome}
+use Rattle.container_log.specs.Caches.{Kept}
+use Rattle.container_log.specs.Kept.{KeepsBelow}
+use Rattle.messages.specs.declared.request.Request.{Request}
+use Rattle.user_dedup.specs.declared.command.Command.{Command}
+use Rattle.open_store.specs.declared.store.OpenStore.{OpenStore}
+use Rattle.open_store.specs.Adding.{NoneStaged, IsOneOf}
+use Rattle.open_store.specs.Store.{IsSettled, IsOpen, closed}
+use Rattle.server_reads.specs.declared.blobs.Stop.{Stop}
+use Rattle.server_reads.specs.declared.blobs.Stop.TheVariants as stops
+use Rattle.server_reads.specs.Reading.{UnlessFailed}
+use Rattle.server_commands.specs.Executing.{IsReady, GrowsBehind, LeavesBoth}
+use Rattle.server_commands.specs.Serving.{Served, IsServedOrNot}
+use Rattle.server_commands.specs.Steps.{Leaves, Does, OnlyReads}
+use Rattle.server_commands.proofs.Calls.{failed_result, ok_result, since_read, stays_twice, grows_read}
+use Rattle.server_commands.proofs.Entries.{keeping, kept_ready}
+
+pub ready_read : (old mid : OpenStore) (a b : Cloud) → OnlyReads old mid a b → IsReady old → IsReady mid
+ready_read old mid a b o ready = subst IsReady (sym o.same) (kept_ready old mid.disk.recipes.kept ready)
+
+pub both_read : (old mid : OpenStore) (a b : Cloud) → OnlyReads old mid a b → Stays a b → LeavesBoth old mid a b
+both_read old mid a b o stays = record { cloud = stays; memory = ap (λ (s : OpenStore). s.memory) o.same }
+
+-- ---- a command is added behind the read
+
+module _ (old : OpenStore) (kept : List Kept) (new : OpenStore) (a b c : Cloud) (stays : Stays a b) where
+  leaves_read : {T E : Type 0} (r : Result T E) → Leaves (keeping old kept) new r → Leaves old new r
+  leaves_read r l = record { ready = l.ready; settled = l.settled; none = l.none; shut = l.shut; header = l.header }
+
+  both_then : LeavesBoth (keeping old kept) new b c → LeavesBoth old new a c
+  both_then l = record { cloud = stays_twice a b c stays l.cloud; memory = l.memory }
+
+  pub does_read : {T E : Type 0} (r : Result T E) (list : List Command) (request : Request) (content : List ℕ) → Does (keeping old kept) new b c list request content r
+      → Does old new a c list request content r
+  does_read r list request content d = record {
+    any_moment = since_read a b c (StandsForSome old.header (IsServedOrNot old list request)) stays d.any_moment;
+    served = by r d.served;
+    stays = λ none. both_then (d.stays none);
+  }
+    where
+      by : {T E : Type 0} (r : Result T E) → OnOk r (Served (keeping old kept) new c list request content) → OnOk r (Served old new c list request content)
+      by (Err e) s = tt
+      by (Ok v) s = record { reply = s.reply; next = s.next }
+
+  pub behind_read : b.told ≡ a.told → GrowsBehind (keeping old kept) b c → GrowsBehind old a c
+  behind_read told grows =
+      grows_read old (keeping old kept) a b c refl
+      (λ w body image left. subst (λ (s : Areas). IsOneOf old w body (image Journal) × KeepsBelow old.disk.shares.end (s Shares) (image Shares) × KeepsBelow old.disk.recipes.end (s Recipes) (image Recipes)) stays.now left)
+      stays told grows
+
+-- ---- the read failed
+
+pub leaves_failed : (old mid new : OpenStore) (a b : Cloud) → OnlyReads old mid a b → IsReady old → new ≡ closed mid → IsSettled new → ¬ (IsOpen new) → Leaves old new failed_result
+leaves_failed old mid new a b o ready is settled shut =
+    let m = ready_read old mid a b o ready in
+    record {
+      ready = tt;
+      settled = settled;
+      none = subst NoneStaged (sym is) (record { shares = m.none.shares; recipes = m.none.recipes });
+      shut = shut;
+      header = ap (λ (s : OpenStore). s.header) is ∙ ap (λ (s : OpenStore). s.header) o.same;
+    }
+
+pub both_failed : (old mid new : OpenStore) (a b : Cloud) → OnlyReads old mid a b → new ≡ closed mid → Stays a b → LeavesBoth old new a b
+both_failed old mid new a b o is stays = record { cloud = stays; memory = ap (λ (s : OpenStore). s.memory) is ∙ ap (λ (s : OpenStore). s.memory) o.same }
+
+-- ---- something else was read
+
+pub leaves_rotten : (old mid : OpenStore) (a b : Cloud) → OnlyReads old mid a b → IsReady old → Leaves old mid ok_result
+leaves_rotten old mid a b o ready =
+    let m = ready_read old mid a b o ready in
+    record { ready = m; settled = m.settled; none = m.none; shut = tt; header = ap (λ (s : OpenStore). s.header) o.same }
+
+pub counts_at : (stop : Stop) (named found : Fp) (P : Type 0) → stop ≡ stops.Rotten named found → UnlessFailed {A = Unit {0}} (Err stop) P → P
+counts_at stop named found P is counts = subst (λ (x : Stop). UnlessFailed {A = Unit {0}} (Err x) P) is counts

@@ -1,0 +1,76 @@
+use Rattle.std.proofs.Common.{rules, ◌≡◌, List, Some, None, Err, sym, ap, subst}
+use Rattle.cd_edges.specs.Shelf.{Stays}
+use Rattle.messages.specs.Requests.{FitsRequest}
+use Rattle.messages.specs.declared.request.Request.TheVariants as requests
+use Rattle.messages.specs.declared.reply.Reply.TheVariants as replies
+use Rattle.recipe.specs.Spelling.{spelling}
+use Rattle.user_dedup.specs.declared.command.Command.TheVariants as commands
+use Rattle.user_dedup.specs.Spending.{full_for}
+use Rattle.cloud_memory.specs.News.{seen}
+use Rattle.open_store.specs.declared.store.OpenStore.{OpenStore}
+use Rattle.open_store.specs.declared.store.Unadded.{Unadded}
+use Rattle.cloud_areas.specs.Standing.{Chain}
+use Rattle.cd_edges.specs.Disk.{Cloud}
+use Rattle.user_dedup.specs.declared.command.Command.{Command}
+use Rattle.open_store.specs.Store.{Serves}
+use Rattle.open_store.specs.Adding.{NotLong, MatchFull, unstaged}
+use Rattle.server_commands.proofs.Calls.{ok_result, failed_result, stays_still}
+use Rattle.server_commands.proofs.Commits.{only_journal}
+use Rattle.server_commands.proofs.Doing.{adds_does, stays_does, served_added, served_full, full_reply}
+use Rattle.server_commands.proofs.Entered.{is_commit}
+use Rattle.server_commands.proofs.committing.add_staged.Goals as goal
+
+pub returns-in-Ok-clause-does : goal.returns-in-Ok-clause-does
+returns-in-Ok-clause-does g c = λ list chain serves answered.
+    let old = c.args.store.now in let user = c.args.user in let tag = c.args.tag in let version = c.args.version in let recipe = spelling c.args.recipe.now in
+    let before = g.V.Shelf.cloud_at c.args.shelf.now old.header.cloud.0 in let after = g.V.Shelf.cloud_at c.add_commit.new.shelf old.header.cloud.0 in
+    let fits : FitsRequest (requests.Commit user tag version recipe) = search rules in
+    let is = is_commit old list chain before user tag version c.args.fp c.args.len c.args.recipe.now serves fits answered c.requires.recipe c.requires.fp c.requires.len c.requires.staged in
+    adds_does old _ before after list (requests.Commit user tag version recipe) replies.Committed (commands.Commit user tag version recipe)
+    (served_added (full_for old.header.shape old.header.rooms list) _ replies.Committed (commands.Commit user tag version recipe) answered.answer (c.in-Ok.ensures.full_list list chain recipe is))
+    c.write_committed.new.out ok_result c.write_committed.ensures.spelled (c.add_commit.ensures.any_moment list chain recipe is)
+    (record { c = _; serves = c.in-Ok.ensures.added list chain recipe is })
+
+pub returns-in-Err-Full-clause-does : goal.returns-in-Err-Full-clause-does
+returns-in-Err-Full-clause-does g c = λ list chain serves answered.
+    let old = c.args.store.now in let user = c.args.user in let tag = c.args.tag in let version = c.args.version in let recipe = spelling c.args.recipe.now in
+    let before = g.V.Shelf.cloud_at c.args.shelf.now old.header.cloud.0 in let after = g.V.Shelf.cloud_at c.add_commit.new.shelf old.header.cloud.0 in
+    let fits : FitsRequest (requests.Commit user tag version recipe) = search rules in
+    let is = is_commit old list chain before user tag version c.args.fp c.args.len c.args.recipe.now serves fits answered c.requires.recipe c.requires.fp c.requires.len c.requires.staged in
+    let room = full_for old.header.shape old.header.rooms list (commands.Commit user tag version recipe) in
+    let full : room ≡ Some (seen c.in-Err-Full.full) =
+    subst (λ (why : Unadded). MatchFull (Err why) (room ≡ None) (λ f. room ≡ Some (seen f))) c.in-Err-Full.field-0-is (c.in-Err-Full.ensures.full_list list chain recipe is) in
+    let un = subst (λ (why : Unadded). MatchFull (Err why) (Unit {0}) (λ f. (c.add_commit.new.self ≡ unstaged old) × (c.add_commit.new.shelf ≡ c.args.shelf.now))) c.in-Err-Full.field-0-is c.in-Err-Full.ensures.unadded in
+    let still = subst (λ (why : Unadded). MatchFull (Err why) (Unit {0}) (λ f. (l : List Command) (ch : Chain) (cloud : Cloud) → Serves l ch old cloud → Serves l ch c.add_commit.new.self cloud)) c.in-Err-Full.field-0-is c.in-Err-Full.ensures.serves_still in
+    stays_does old c.add_commit.new.self before after list (requests.Commit user tag version recipe) c.write_full.new.out (full_reply (seen c.in-Err-Full.full)) ok_result
+    (served_full (full_for old.header.shape old.header.rooms list) _ replies.Committed (commands.Commit user tag version recipe) (seen c.in-Err-Full.full) answered.answer full)
+    c.write_full.ensures.spelled
+    (record { c = chain; serves = serves })
+    (record {
+      cloud = subst (λ s. Stays before (g.V.Shelf.cloud_at s old.header.cloud.0)) (sym un.1) (stays_still before);
+      memory = ap (λ (s : OpenStore). s.memory) un.0;
+    })
+    (record { c = chain; serves = subst (λ s. Serves list chain c.add_commit.new.self (g.V.Shelf.cloud_at s old.header.cloud.0)) (sym un.1) (still list chain before serves) })
+
+pub returns-in-Err-Long-clause-does : goal.returns-in-Err-Long-clause-does
+returns-in-Err-Long-clause-does g c = λ list chain serves answered.
+    let old = c.args.store.now in let user = c.args.user in let tag = c.args.tag in let version = c.args.version in let recipe = spelling c.args.recipe.now in
+    let before = g.V.Shelf.cloud_at c.args.shelf.now old.header.cloud.0 in
+    let fits : FitsRequest (requests.Commit user tag version recipe) = search rules in
+    let is = is_commit old list chain before user tag version c.args.fp c.args.len c.args.recipe.now serves fits answered c.requires.recipe c.requires.fp c.requires.len c.requires.staged in
+    absurd (subst (λ (why : Unadded). NotLong (Err why)) c.in-Err-Long.field-0-is (c.in-Err-Long.ensures.never_long list chain recipe is))
+
+pub returns-in-Err-Long-clause-full : goal.returns-in-Err-Long-clause-full
+returns-in-Err-Long-clause-full g c = λ room used need limit other is. absurd (other (only_journal c.refuse_long.new.reply _ _ _ room used need limit c.refuse_long.ensures is))
+
+pub returns-in-Err-Failed-clause-does : goal.returns-in-Err-Failed-clause-does
+returns-in-Err-Failed-clause-does g c = λ list chain serves answered.
+    let old = c.args.store.now in let user = c.args.user in let tag = c.args.tag in let version = c.args.version in let recipe = spelling c.args.recipe.now in
+    let before = g.V.Shelf.cloud_at c.args.shelf.now old.header.cloud.0 in let after = g.V.Shelf.cloud_at c.add_commit.new.shelf old.header.cloud.0 in
+    let fits : FitsRequest (requests.Commit user tag version recipe) = search rules in
+    let is = is_commit old list chain before user tag version c.args.fp c.args.len c.args.recipe.now serves fits answered c.requires.recipe c.requires.fp c.requires.len c.requires.staged in
+    let room = full_for old.header.shape old.header.rooms list (commands.Commit user tag version recipe) in
+    let none : room ≡ None = subst (λ (why : Unadded). MatchFull (Err why) (room ≡ None) (λ f. room ≡ Some (seen f))) c.in-Err-Failed.field-0-is (c.in-Err-Failed.ensures.full_list list chain recipe is) in
+    adds_does old _ before after list (requests.Commit user tag version recipe) replies.Committed (commands.Commit user tag version recipe)
+    (served_added (full_for old.header.shape old.header.rooms list) _ replies.Committed (commands.Commit user tag version recipe) answered.answer none)
+    c.args.reply.now failed_result tt (c.add_commit.ensures.any_moment list chain recipe is) tt

@@ -1,0 +1,28 @@
+use Rattle.std.proofs.Common.{◌≡◌, ℕ, List, refl, sym, ap, ◌∙◌, subst}
+use Rattle.messages.specs.declared.request.Request.TheVariants as requests
+use Rattle.user_dedup.specs.Cloud.{user_view}
+use Rattle.user_dedup.specs.Owning.{first_lacking}
+use Rattle.user_dedup.specs.Requests.{fps_of}
+use Rattle.server_commands.specs.Executing.{Executes}
+use Rattle.server_commands.proofs.Commits.{fps_spelled}
+use Rattle.server_commands.proofs.Repeats.{lacking}
+use Rattle.server_commands.proofs.committing.commit.Goals as goal
+
+pub returns-in-Some : goal.returns-in-Some
+returns-in-Some g c =
+    lacking c.args.user c.args.tag.now c.args.version (c.args.shelf.now ≡ c.args.shelf.now) c.args.store.now (g.V.Shelf.cloud_at c.args.shelf.now) (g.V.Shelf.faults c.args.shelf.now) c.args.recipe.now
+    c.write_lacking.new.out c.in-Some.place refl c.requires.ready c.requires.recipe c.in-Some.ensures.within
+    (λ list remembers. sym (c.first_unowned.ensures.value c.args.store.now.header.shape list remembers) ∙ c.in-Some.is) c.write_lacking.ensures
+
+pub repeat-requires-clause-owned : goal.repeat-requires-clause-owned
+repeat-requires-clause-owned g c = λ list remembers.
+    let shape = c.args.store.now.header.shape in
+    ap (λ (bytes : List ℕ). first_lacking (user_view shape list c.args.user).own (fps_of shape bytes)) c.bytes.ensures
+    ∙ ap (first_lacking (user_view shape list c.args.user).own) (fps_spelled shape c.args.recipe.now c.requires.recipe)
+    ∙ sym (c.first_unowned.ensures.value shape list remembers) ∙ c.in-None.is
+
+pub returns-in-Some-entry : goal.returns-in-Some-entry
+returns-in-Some-entry g c =
+    subst (λ (bytes : List ℕ). Executes (c.repeat.new.shelf ≡ c.args.shelf.now) c.args.store.now c.repeat.new.store (g.V.Shelf.cloud_at c.args.shelf.now) (g.V.Shelf.cloud_at c.repeat.new.shelf)
+    (g.V.Shelf.faults c.args.shelf.now) (g.V.Shelf.faults c.repeat.new.shelf) (requests.Commit c.args.user c.args.tag.now c.args.version bytes) c.repeat.new.reply c.repeat.result)
+    c.bytes.ensures c.repeat.ensures

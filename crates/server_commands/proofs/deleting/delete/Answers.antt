@@ -1,0 +1,8 @@
+use Rattle.std.proofs.Common.{◌≡◌, refl, sym, ◌∙◌}
+use Rattle.server_commands.proofs.Deleted.{missing}
+use Rattle.server_commands.proofs.deleting.delete.Goals as goal
+
+pub returns-in-None : goal.returns-in-None
+returns-in-None g c =
+    missing c.args.user c.args.tag.now c.args.version (c.args.shelf.now ≡ c.args.shelf.now) c.args.store.now (g.V.Shelf.cloud_at c.args.shelf.now) (g.V.Shelf.faults c.args.shelf.now) c.write_missing.new.out refl
+    c.requires.ready (sym c.entry.ensures.kept ∙ c.in-None.is) c.write_missing.ensures

@@ -1,0 +1,48 @@
+use Rattle.std.proofs.Common.{◌≡◌, Err, IsSome, refl, sym, subst}
+use Rattle.std.specs.FinMap.{get}
+use Rattle.file_index.specs.Files.{key_of}
+use Rattle.cloud_memory.specs.Rooms.{memory_of}
+use Rattle.open_store.specs.declared.store.OpenStore.{OpenStore}
+use Rattle.server_reads.specs.declared.blobs.Stop.{Stop}
+use Rattle.server_reads.specs.Reading.{HasRead}
+use Rattle.server_reads.proofs.Spelled.{rotten_is}
+use Rattle.server_commands.proofs.Reread.{ready_read}
+use Rattle.server_commands.proofs.Deleted.{deleted, failed, rotten}
+use Rattle.server_commands.proofs.deleting.delete_entry.Goals as goal
+
+pub forget-requires-clause-ready : goal.forget-requires-clause-ready
+forget-requires-clause-ready g c = ready_read c.args.store.now c.read_entry.new.store _ _ c.in-Ok.ensures.store c.requires.ready
+
+pub forget-requires-clause-there : goal.forget-requires-clause-there
+forget-requires-clause-there g c =
+    subst (λ (x : OpenStore). IsSome (get (memory_of x.memory).files (key_of c.args.user.0 c.args.tag.0 c.args.version.0))) (sym c.in-Ok.ensures.store.same)
+    (subst (λ o. IsSome o) (sym c.requires.there) refl)
+
+pub returns-in-Ok : goal.returns-in-Ok
+returns-in-Ok g c =
+    let old = c.args.store.now in let at = g.V.Shelf.cloud_at in let faults = g.V.Shelf.faults in
+    deleted c.args.user c.args.tag c.args.version (c.forget.new.shelf ≡ c.args.shelf.now) old c.read_entry.new.store c.forget.new.store
+    (at c.args.shelf.now) (at c.read_entry.new.shelf) (at c.forget.new.shelf) (faults c.args.shelf.now) (faults c.read_entry.new.shelf) (faults c.forget.new.shelf) _ c.forget.new.reply
+    c.forget.result c.split_at.result.0.now c.in-Ok.ensures.store c.in-Ok.ensures.reads
+    (λ list chain serves. c.in-Ok.ensures.there list chain c.args.user c.args.tag c.args.version serves c.requires.there)
+    c.split_at.ensures.front
+    (record { leaves = c.forget.ensures.leaves; does = c.forget.ensures.does; behind = c.forget.ensures.behind; some = c.forget.ensures.some; calls = c.forget.ensures.calls })
+
+pub returns-in-Err-Failed : goal.returns-in-Err-Failed
+returns-in-Err-Failed g c =
+    let old = c.args.store.now in let at = g.V.Shelf.cloud_at in let faults = g.V.Shelf.faults in
+    failed c.args.user c.args.tag c.args.version (c.read_entry.new.shelf ≡ c.args.shelf.now) old c.read_entry.new.store
+    (at c.args.shelf.now) (at c.read_entry.new.shelf) (faults c.args.shelf.now) (faults c.read_entry.new.shelf) c.args.reply.now c.in-Err-Failed.ensures.store c.requires.ready
+    c.shut.new.self
+    (subst (λ (stop : Stop). HasRead {A = Unit {0}} (at c.args.shelf.now) (at c.read_entry.new.shelf) old.header.cloud.0 (faults c.args.shelf.now) (faults c.read_entry.new.shelf) (Err stop)) c.in-Err-Failed.field-0-is c.in-Err-Failed.ensures.reads)
+    c.shut.ensures.same c.shut.ensures.settled c.shut.ensures.shut
+
+pub returns-in-Err-Rotten : goal.returns-in-Err-Rotten
+returns-in-Err-Rotten g c =
+    let old = c.args.store.now in let at = g.V.Shelf.cloud_at in let faults = g.V.Shelf.faults in
+    rotten c.args.user c.args.tag c.args.version (c.read_entry.new.shelf ≡ c.args.shelf.now) old c.read_entry.new.store
+    (at c.args.shelf.now) (at c.read_entry.new.shelf) (faults c.args.shelf.now) (faults c.read_entry.new.shelf) c.write_rotten.new.out c.in-Err-Rotten.ensures.store c.requires.ready
+    c.in-Err-Rotten.field-0 c.in-Err-Rotten.named c.in-Err-Rotten.found _ c.in-Err-Rotten.field-0-is c.in-Err-Rotten.ensures.reads
+    (λ list chain serves. c.in-Err-Rotten.ensures.there list chain c.args.user c.args.tag c.args.version serves c.requires.there)
+    (c.in-Err-Rotten.ensures.rotten (memory_of old.memory) (key_of c.args.user.0 c.args.tag.0 c.args.version.0) c.requires.there)
+    (rotten_is c.write_rotten.new.out _ _ c.in-Err-Rotten.named c.in-Err-Rotten.found c.write_rotten.ensures c.in-Err-Rotten.named-is c.in-Err-Rotten.found-is)

@@ -1,0 +1,38 @@
+use Rattle.std.proofs.Common.{rules, Err, subst}
+use Rattle.messages.specs.Requests.{FitsRequest}
+use Rattle.messages.specs.declared.request.Request.TheVariants as requests
+use Rattle.messages.specs.declared.reply.Reply.TheVariants as replies
+use Rattle.user_dedup.specs.declared.command.Command.TheVariants as commands
+use Rattle.open_store.specs.declared.store.Unadded.{Unadded}
+use Rattle.open_store.specs.Adding.{NotLong}
+use Rattle.server_commands.proofs.Calls.{ok_result, failed_result}
+use Rattle.server_commands.proofs.Doing.{adds_does}
+use Rattle.server_commands.proofs.Deletions.{deleted_served, is_delete}
+use Rattle.server_commands.proofs.deleting.forget.Goals as goal
+
+pub returns-in-Ok-clause-does : goal.returns-in-Ok-clause-does
+returns-in-Ok-clause-does g c = λ list chain file serves at same.
+    let old = c.args.store.now in let user = c.args.user in let tag = c.args.tag in let version = c.args.version in
+    let before = g.V.Shelf.cloud_at c.args.shelf.now old.header.cloud.0 in let after = g.V.Shelf.cloud_at c.add_delete.new.shelf old.header.cloud.0 in
+    let fits : FitsRequest (requests.Delete user tag version) = search rules in
+    let is = is_delete old list user tag version chain before file c.args.recipe.now serves fits at same c.requires.ready.none in
+    adds_does old _ before after list (requests.Delete user tag version) replies.Deleted (commands.Delete user tag version) (deleted_served old list user tag version file at)
+    c.write_deleted.new.out ok_result c.write_deleted.ensures.spelled (c.add_delete.ensures.any_moment list chain file is)
+    (record { c = _; serves = c.in-Ok.ensures.added list chain file is })
+
+pub returns-in-Err-Long-clause-does : goal.returns-in-Err-Long-clause-does
+returns-in-Err-Long-clause-does g c = λ list chain file serves at same.
+    let old = c.args.store.now in let user = c.args.user in let tag = c.args.tag in let version = c.args.version in
+    let before = g.V.Shelf.cloud_at c.args.shelf.now old.header.cloud.0 in
+    let fits : FitsRequest (requests.Delete user tag version) = search rules in
+    let is = is_delete old list user tag version chain before file c.args.recipe.now serves fits at same c.requires.ready.none in
+    absurd (subst (λ (why : Unadded). NotLong (Err why)) c.in-Err-Long.field-0-is (c.in-Err-Long.ensures.never_long list chain file is))
+
+pub returns-in-Err-Failed-clause-does : goal.returns-in-Err-Failed-clause-does
+returns-in-Err-Failed-clause-does g c = λ list chain file serves at same.
+    let old = c.args.store.now in let user = c.args.user in let tag = c.args.tag in let version = c.args.version in
+    let before = g.V.Shelf.cloud_at c.args.shelf.now old.header.cloud.0 in let after = g.V.Shelf.cloud_at c.add_delete.new.shelf old.header.cloud.0 in
+    let fits : FitsRequest (requests.Delete user tag version) = search rules in
+    let is = is_delete old list user tag version chain before file c.args.recipe.now serves fits at same c.requires.ready.none in
+    adds_does old _ before after list (requests.Delete user tag version) replies.Deleted (commands.Delete user tag version) (deleted_served old list user tag version file at)
+    c.args.reply.now failed_result tt (c.add_delete.ensures.any_moment list chain file is) tt

@@ -1,0 +1,65 @@
+-- One request that may add a command, executed by an open store.
+use Rattle.std.specs.Prelude.{◌≡◌, ◌⊎◌, ℕ, List, None, Result, OnOk, OnErr}
+use Rattle.cd_base.specs.declared.ids.Fp.{Fp}
+use Rattle.cd_edges.specs.Disk.{Cloud}
+use Rattle.cd_edges.specs.Shelf.{IsCall, HasFailed, KeepsCounts, Stays}
+use Rattle.messages.specs.declared.request.Request.{Request}
+use Rattle.messages.specs.declared.reply.Reply.{Reply}
+use Rattle.messages.specs.declared.reply.Reply.TheVariants as replies
+use Rattle.messages.specs.Replies.{IsReply}
+use Rattle.user_dedup.specs.declared.command.Command.{Command}
+use Rattle.cloud_areas.specs.Peers.{ImagesSince}
+use Rattle.cloud_memory.specs.Rooms.{memory_of}
+use Rattle.open_store.specs.declared.store.OpenStore.{OpenStore}
+use Rattle.open_store.specs.Store.{IsOpen, IsSettled, EndsMeet, ServesSome}
+use Rattle.open_store.specs.Adding.{NoneStaged, KeepsOrGrows}
+use Rattle.server_commands.specs.Leaving.{LeavesAll, HasEntry, IsFound}
+use Rattle.server_commands.specs.Serving.{serves, Served, IsServedOrNot, Gives}
+
+-- What holds of an open store between two requests: nothing is staged, and both logs end where the memory says.
+pub record IsReady (s : OpenStore) : Type 0 where
+  pub settled : IsSettled s
+  pub at_end : IsOpen s
+  pub none : NoneStaged s
+  pub meet : EndsMeet s
+
+-- Each list that the store serves has this.
+abbrev pub ForServed : OpenStore → Cloud → (List Command → Type 0) → Type 0
+ForServed s cloud P = (list : List Command) → ServesSome list s cloud → P list
+
+-- Whatever the records say: each image since has the chain that was read, or the memory's checkpoint in its place, or one of the two with one
+-- record more; and all that lay below the ends of both logs.
+pub record GrowsBehind (old : OpenStore) (before after : Cloud) : Type 0 where
+  pub body : List ℕ
+  pub chain : KeepsOrGrows old body before after
+
+-- The cloud's areas and the memory stay.
+pub record LeavesBoth (old new : OpenStore) (before after : Cloud) : Type 0 where
+  pub cloud : Stays before after
+  pub memory : new.memory ≡ old.memory
+
+-- What an open store does with a request, and leaves. The clouds are those by their numbers, with the count of all faults; `Same` says that no
+-- device was called.
+pub record Executes {T E : Type 0} (Same : Type 0) (old new : OpenStore) (before after : ℕ → Cloud) (faults_before faults_after : ℕ) (request : Request) (content : List ℕ) (result : Result T E) : Type 0 where
+  -- what the store is then
+  pub ready : OnOk result (IsReady new)
+  pub settled : IsSettled new
+  pub none : NoneStaged new
+  pub shut : OnErr result (¬ IsOpen new)
+  pub header : new.header ≡ old.header
+  -- by each list that the store serves
+  pub any_moment : ForServed old (before old.header.cloud.0) (λ list. ImagesSince (before old.header.cloud.0) (after old.header.cloud.0) old.header (IsServedOrNot old list request))
+  pub served : ForServed old (before old.header.cloud.0) (λ list. OnOk result (Served old new (after old.header.cloud.0) list request content))
+  pub stays : ForServed old (before old.header.cloud.0) (λ list. (serves old list request).adds ≡ None → LeavesBoth old new (before old.header.cloud.0) (after old.header.cloud.0))
+  -- whatever the cloud has
+  pub behind : Stays (before old.header.cloud.0) (after old.header.cloud.0) ⊎ GrowsBehind old (before old.header.cloud.0) (after old.header.cloud.0)
+  pub steady : HasEntry (memory_of old.memory) request → LeavesBoth old new (before old.header.cloud.0) (after old.header.cloud.0)
+  pub spared : (named found : Fp) → OnOk result (IsReply content (replies.Rotten named found) → LeavesBoth old new (before old.header.cloud.0) (after old.header.cloud.0))
+  pub rotten : (named found : Fp) → OnOk result (IsReply content (replies.Rotten named found) → IsFound (before old.header.cloud.0) (memory_of old.memory) request named found)
+  pub found : (named found : Fp) → OnOk result (IsReply content (replies.Rotten named found) → IsFound (after old.header.cloud.0) (memory_of new.memory) request named found)
+  pub untouched : (answer : Reply) → LeavesAll request answer → OnOk result (IsReply content answer → Same × (new ≡ old))
+  pub kind : OnOk result (Gives old.header.shape request content)
+  -- the calls of the device
+  pub call : IsCall before after old.header.cloud.0 faults_before faults_after
+  pub failed : OnErr result (HasFailed (before old.header.cloud.0) (after old.header.cloud.0) faults_before faults_after)
+  pub uncounted : OnOk result (KeepsCounts (before old.header.cloud.0) (after old.header.cloud.0) faults_before faults_after)

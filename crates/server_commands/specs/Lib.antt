@@ -1,0 +1,5 @@
+pub mod Served
+pub mod Serving
+pub mod Leaving
+pub mod Executing
+pub mod Steps

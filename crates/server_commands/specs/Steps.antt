@@ -1,0 +1,105 @@
+-- What the steps of a request leave. No public clause cites this module.
+use Rattle.std.specs.Prelude.{[], ◌∷◌, bytes_eq, if◌then◌else◌, ◌≡◌, ℕ, List, None, Some, Result, OnOk, OnErr}
+use Rattle.cd_base.specs.declared.ids.Tag.{Tag}
+use Rattle.cd_base.specs.declared.ids.UserId.{UserId}
+use Rattle.cd_base.specs.declared.ids.Version.{Version}
+use Rattle.cd_base.specs.declared.rooms.Room.TheVariants as rooms
+use Rattle.cd_edges.specs.Disk.{Cloud}
+use Rattle.cd_edges.specs.Shelf.{IsCall, HasFailed, KeepsCounts}
+use Rattle.container_log.specs.States.{HasStaged, with_blob}
+use Rattle.journal_start.specs.declared.start.Header.{Header}
+use Rattle.messages.specs.declared.request.Request.{Request}
+use Rattle.messages.specs.declared.request.Request.TheVariants as requests
+use Rattle.messages.specs.declared.reply.Reply.{Reply}
+use Rattle.messages.specs.declared.reply.Reply.TheVariants as replies
+use Rattle.user_dedup.specs.declared.command.Command.{Command}
+use Rattle.user_dedup.specs.declared.command.Command.TheVariants as commands
+use Rattle.user_dedup.specs.Dedup.{answer_over}
+use Rattle.user_dedup.specs.Requests.{HasRecipe}
+use Rattle.user_dedup.specs.declared.file_list.FileEntry.{FileEntry}
+use Rattle.user_dedup.specs.Pages.{entry_at}
+use Rattle.cloud_areas.specs.Peers.{ImagesSince}
+use Rattle.cloud_areas.specs.Standing.{Chain}
+use Rattle.open_store.specs.declared.store.OpenStore.{OpenStore}
+use Rattle.open_store.specs.Store.{IsOpen, IsSettled, EndsMeet, Serves}
+use Rattle.open_store.specs.Adding.{NoneStaged}
+use Rattle.server_reads.specs.declared.blobs.Stop.{Stop}
+use Rattle.server_reads.specs.Reading.{IfRotten}
+use Rattle.server_commands.specs.Executing.{IsReady, LeavesBoth}
+use Rattle.server_commands.specs.Serving.{serves, Served, IsServedOrNot}
+
+-- ---- calls of a device
+
+-- One cloud was called alone; its counts rose where a call failed, and else stayed.
+pub record Calls {T E : Type 0} (old new : ℕ → Cloud) (number before now : ℕ) (result : Result T E) : Type 0 where
+  pub call : IsCall old new number before now
+  pub failed : OnErr result (HasFailed (old number) (new number) before now)
+  pub counts : OnOk result (KeepsCounts (old number) (new number) before now)
+
+-- ---- the store
+
+-- It is settled with nothing staged; ready after Ok, and shut after Failed.
+pub record Leaves {T E : Type 0} (old new : OpenStore) (result : Result T E) : Type 0 where
+  pub ready : OnOk result (IsReady new)
+  pub settled : IsSettled new
+  pub none : NoneStaged new
+  pub shut : OnErr result (¬ IsOpen new)
+  pub header : new.header ≡ old.header
+
+-- A request is served by a list that the store serves.
+pub record Does {T E : Type 0} (old new : OpenStore) (before after : Cloud) (list : List Command) (request : Request) (content : List ℕ) (result : Result T E) : Type 0 where
+  pub any_moment : ImagesSince before after old.header (IsServedOrNot old list request)
+  pub served : OnOk result (Served old new after list request content)
+  pub stays : (serves old list request).adds ≡ None → LeavesBoth old new before after
+
+-- ---- reading
+
+-- Of the store only the containers have changed that the log of the recipes keeps; it is what it was else, and serves what it served.
+pub record OnlyReads (old new : OpenStore) (before after : Cloud) : Type 0 where
+  pub same : new ≡ record old { disk = record old.disk { recipes = record old.disk.recipes { kept = new.disk.recipes.kept } } }
+  pub serves : (list : List Command) (c : Chain) → Serves list c old before → Serves list c new after
+
+-- By a list the key has a file: after Ok the bytes are its recipe, and Rotten never comes.
+pub record ReadsFile (files : List FileEntry) (key : Tag × Version) (bytes : List ℕ) (result : Result (Unit {0}) Stop) : Type 0 where
+  pub file : FileEntry
+  pub here : entry_at files key ≡ Some file
+  pub given : OnOk result (bytes ≡ file.recipe)
+  pub never : IfRotten result (λ named found. ⊥)
+
+-- ---- replies
+
+-- to a Delete of a version that is there
+abbrev pub IsOfDelete : Reply → Type 0
+IsOfDelete replies.Deleted = Unit {0}
+IsOfDelete (replies.Full room used need limit) = room ≡ rooms.Journal
+IsOfDelete reply = ⊥
+
+-- to a Commit of a version that has no entry
+abbrev pub IsOfNew : Reply → Type 0
+IsOfNew replies.Committed = Unit {0}
+IsOfNew (replies.Full room used need limit) = Unit {0}
+IsOfNew reply = ⊥
+
+-- to a Commit of a version that has an entry, by the recipe that is there
+abbrev pub by_recipe : List ℕ → List ℕ → Reply
+by_recipe there recipe = if bytes_eq there recipe then replies.Committed else replies.Exists
+
+-- ---- a Commit
+
+-- the store with the recipe staged
+abbrev pub staging : OpenStore → List ℕ → OpenStore
+staging s recipe = record s { disk = record s.disk { recipes = with_blob s.disk.recipes recipe } }
+
+-- An open store in which just this recipe is staged, and whose logs end where its memory says.
+pub record HasRecipeStaged (s : OpenStore) (recipe : List ℕ) : Type 0 where
+  pub settled : IsSettled s
+  pub at_end : IsOpen s
+  pub meet : EndsMeet s
+  pub shares : HasStaged s.disk.shares []
+  pub recipes : HasStaged s.disk.recipes (recipe ∷ [])
+
+-- By the list the request adds its command.
+pub record IsAnsweredNew (header : Header) (list : List Command) (user : UserId) (tag : Tag) (version : Version) (recipe : List ℕ) : Type 0 where
+  pub has_recipe : HasRecipe header.shape (requests.Commit user tag version recipe)
+  pub answer : answer_over header.shape header.cloud.0 list (requests.Commit user tag version recipe)
+      ≡ record { reply = replies.Committed; adds = Some (commands.Commit user tag version recipe) }

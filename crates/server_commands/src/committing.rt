@@ -1,0 +1,240 @@
+//! A Commit.
+
+ghost use Rattle.std.specs.Prelude.{◌≡◌, ◌≢◌, ◌<◌, ◌≤◌, ℕ, List, length, Some, None, OnOk};
+ghost use Rattle.std.specs.FinMap.{get};
+ghost use Rattle.cd_base.specs.Limits.{recipe_limit};
+ghost use Rattle.cd_base.specs.declared.rooms.Room.{Room};
+ghost use Rattle.cd_base.specs.declared.rooms.Room.TheVariants as rooms;
+ghost use Rattle.cd_edges.specs.Disk.{Cloud};
+ghost use Rattle.file_index.specs.Files.{key_of};
+ghost use Rattle.messages.specs.declared.request.Request.TheVariants as requests;
+ghost use Rattle.messages.specs.declared.reply.Reply.TheVariants as replies;
+ghost use Rattle.messages.specs.Replies.{IsReply};
+ghost use Rattle.recipe.specs.Spelling.{IsRecipe, spelling};
+ghost use Rattle.user_dedup.specs.declared.command.Command.{Command};
+ghost use Rattle.user_dedup.specs.Cloud.{fingerprint, user_view};
+ghost use Rattle.user_dedup.specs.Owning.{fps_in, first_lacking};
+ghost use Rattle.user_dedup.specs.Requests.{fps_of};
+ghost use Rattle.cloud_areas.specs.Standing.{Chain};
+ghost use Rattle.cloud_memory.specs.Memory.{Remembers};
+ghost use Rattle.cloud_memory.specs.Rooms.{memory_of};
+ghost use Rattle.cloud_memory.specs.Sharing.{AreOwned};
+ghost use Rattle.open_store.specs.Store.{Serves};
+ghost use Rattle.open_store.specs.Adding.{unstaged};
+ghost use Rattle.server_reads.specs.Allowed.{Replies};
+ghost use Rattle.server_commands.specs.Executing.{IsReady, GrowsBehind, Executes};
+ghost use Rattle.server_commands.specs.Steps.{Calls, Leaves, Does, HasRecipeStaged, IsOfNew, by_recipe, staging, IsAnsweredNew};
+
+use crate::reading::read_entry;
+use crate::refusing::refuse_long;
+use cd_base::{Fp, Tag, UserId, Version, sha256};
+use cd_edges::{Failed, Shelf};
+use file_index::Entry;
+use frames::ReplyBuf;
+use messages::{write_committed, write_exists, write_full, write_lacking, write_rotten};
+use open_store::{OpenStore, Unadded};
+use recipe::RecipeView;
+use server_reads::Stop;
+
+// The bytes of a Commit's body.
+const COMMIT_LEN: u32 = 89;
+
+// The reply by the recipe that is there.
+fn put_compared(there: &[u8], recipe: &[u8], reply: &mut ReplyBuf)
+    ensures { IsReply reply.new (by_recipe there.now recipe.now) }
+{
+    if there == recipe {
+        write_committed(reply);
+    } else {
+        write_exists(reply);
+    }
+}
+
+// A Commit of a version that has this entry: its recipe is read back and compared.
+fn repeat<V: Shelf>(
+    store: &mut OpenStore,
+    shelf: &mut V,
+    user: UserId,
+    tag: Tag,
+    version: Version,
+    entry: &Entry,
+    recipe: &[u8],
+    buffer: &mut [u8],
+    reply: &mut ReplyBuf,
+) -> Result<(), Failed>
+    requires ready { IsReady store.old }
+    requires there { get (memory_of store.old.memory).files (key_of user.0 tag.0 version.0) ≡ Some entry.now }
+    requires owned { (list : List Command) → Remembers store.old.header.shape list (memory_of store.old.memory)
+        → first_lacking (user_view store.old.header.shape list user).own
+        (fps_of store.old.header.shape recipe.now) ≡ None }
+    requires buffer { recipe_limit ≤ length buffer.old }
+    ensures { Executes (shelf.new ≡ shelf.old) store.old store.new (V.cloud_at shelf.old) (V.cloud_at shelf.new)
+        (V.faults shelf.old) (V.faults shelf.new) (requests.Commit user tag version recipe.now) reply.new result }
+{
+    match read_entry(store, shelf, entry, buffer) {
+        Ok(()) => {
+            let (there, _) = buffer.split_at(entry.len as usize);
+            put_compared(there, recipe, reply);
+            Ok(())
+        }
+        Err(Stop::Failed) => {
+            store.shut();
+            Err(Failed)
+        }
+        Err(Stop::Rotten { named, found }) => {
+            write_rotten(reply, named, found);
+            Ok(())
+        }
+    }
+}
+
+// Stages a recipe where nothing is staged.
+fn stage(store: &mut OpenStore, recipe: &[u8])
+    requires ready { IsReady store.old }
+    requires few { length recipe.now ≤ recipe_limit }
+    ensures staged { store.new ≡ staging store.old recipe.now }
+    ensures has { HasRecipeStaged store.new recipe.now }
+    ensures serves { (list : List Command) (c : Chain) (cloud : Cloud) → Serves list c store.old cloud
+        → Serves list c store.new cloud }
+{
+    match store.stage_recipe(recipe) {
+        Ok(_) => {}
+        Err(_) => unreachable!(),
+    }
+}
+
+// Adds the Commit of a recipe that is staged.
+fn add_staged<V: Shelf>(
+    store: &mut OpenStore,
+    shelf: &mut V,
+    user: UserId,
+    tag: Tag,
+    version: Version,
+    fp: Fp,
+    len: u32,
+    recipe: &RecipeView<'_>,
+    reply: &mut ReplyBuf,
+) -> Result<(), Failed>
+    requires staged { HasRecipeStaged store.old (spelling recipe.now) }
+    requires recipe { IsRecipe store.old.header.shape (spelling recipe.now) recipe.now }
+    requires fp { fingerprint (spelling recipe.now) ≡ fp }
+    requires len { length (spelling recipe.now) ≡ len }
+    requires some { 1 ≤ len }
+    requires new { get (memory_of store.old.memory).files (key_of user.0 tag.0 version.0) ≡ None }
+    requires owned { AreOwned (memory_of store.old.memory).owners user (fps_in recipe.now.items) }
+    ensures leaves { Leaves store.old store.new result }
+    ensures does { (list : List Command) (c : Chain)
+        → Serves list c store.old (V.cloud_at shelf.old store.old.header.cloud.0)
+        → IsAnsweredNew store.old.header list user tag version (spelling recipe.now)
+        → Does store.old store.new (V.cloud_at shelf.old store.old.header.cloud.0)
+        (V.cloud_at shelf.new store.old.header.cloud.0) list
+        (requests.Commit user tag version (spelling recipe.now)) reply.new result }
+    ensures behind { GrowsBehind store.old (V.cloud_at shelf.old store.old.header.cloud.0)
+        (V.cloud_at shelf.new store.old.header.cloud.0) }
+    ensures some { OnOk result (Replies reply.new IsOfNew) }
+    ensures full { (room : Room) (used need limit : ℕ) → room ≢ rooms.Journal
+        → OnOk result (IsReply reply.new (replies.Full room used need limit)
+        → (shelf.new ≡ shelf.old) × (store.new ≡ unstaged store.old)) }
+    ensures calls { Calls (V.cloud_at shelf.old) (V.cloud_at shelf.new) store.old.header.cloud.0 (V.faults shelf.old)
+        (V.faults shelf.new) result }
+{
+    match store.add_commit(shelf, user, tag, version, fp, len, recipe) {
+        Ok(()) => {
+            write_committed(reply);
+            Ok(())
+        }
+        Err(Unadded::Full(full)) => {
+            write_full(reply, full.room, full.used, full.need, full.limit);
+            Ok(())
+        }
+        Err(Unadded::Long) => {
+            refuse_long(store, COMMIT_LEN, reply);
+            Ok(())
+        }
+        Err(Unadded::Failed) => Err(Failed),
+    }
+}
+
+// A Commit of a version that has no entry.
+fn enter<V: Shelf>(
+    store: &mut OpenStore,
+    shelf: &mut V,
+    user: UserId,
+    tag: Tag,
+    version: Version,
+    recipe: &RecipeView<'_>,
+    reply: &mut ReplyBuf,
+) -> Result<(), Failed>
+    requires ready { IsReady store.old }
+    requires recipe { IsRecipe store.old.header.shape (spelling recipe.now) recipe.now }
+    requires new { get (memory_of store.old.memory).files (key_of user.0 tag.0 version.0) ≡ None }
+    requires owned { AreOwned (memory_of store.old.memory).owners user (fps_in recipe.now.items) }
+    requires lacks { (list : List Command) → Remembers store.old.header.shape list (memory_of store.old.memory)
+        → first_lacking (user_view store.old.header.shape list user).own (fps_in recipe.now.items) ≡ None }
+    ensures { Executes (shelf.new ≡ shelf.old) store.old store.new (V.cloud_at shelf.old) (V.cloud_at shelf.new)
+        (V.faults shelf.old) (V.faults shelf.new) (requests.Commit user tag version (spelling recipe.now)) reply.new
+        result }
+{
+    let bytes = recipe.bytes();
+    let fp = sha256(bytes);
+    let len = bytes.len() as u32;
+    stage(store, bytes);
+    add_staged(store, shelf, user, tag, version, fp, len, recipe, reply)
+}
+
+/// Serves a Commit: a version of a user's file, whose recipe is of the store's shape. The reply becomes the content.
+///
+/// - Lacking names the place of the first item whose fingerprint the user doesn't own. No device is called then, and nothing
+///   changes.
+/// - Else, where the user has the version, its recipe is read back: Committed where it has the same bytes, and Exists
+///   where it has others. Rotten comes where fewer bytes lie there than were kept, or others, whatever recipe is asked;
+///   it names the fingerprint that was kept, and that of what was found. No area changes, and nothing that is remembered.
+/// - Else Full names the first of the user's rooms that the command would pass, in the order files, recipes. No device is
+///   called then, and nothing changes.
+/// - Else the recipe is written and synced, and then the command's record, with a checkpoint before both where the journal has
+///   no room: Committed, and the list has one command more.
+///
+/// Full of the journal comes only over a cloud of which the store serves no list. Failed comes only where the cloud's count
+/// of faults rose. The store is shut then, the cloud stands for the list without the command or with it, and nothing is known
+/// of the content.
+///
+/// It asks for a buffer of 1,180,190 bytes at least, the most that a recipe has. It takes no memory but for the containers
+/// that the log keeps, and goes on without where there is none for them.
+pub fn commit<V: Shelf>(
+    store: &mut OpenStore,
+    shelf: &mut V,
+    user: UserId,
+    tag: &Tag,
+    version: Version,
+    recipe: &RecipeView<'_>,
+    buffer: &mut [u8],
+    reply: &mut ReplyBuf,
+) -> Result<(), Failed>
+    requires ready { IsReady store.old }
+    requires recipe { IsRecipe store.old.header.shape (spelling recipe.now) recipe.now }
+    requires buffer { recipe_limit ≤ length buffer.old }
+    ensures { Executes (shelf.new ≡ shelf.old) store.old store.new (V.cloud_at shelf.old) (V.cloud_at shelf.new)
+        (V.faults shelf.old) (V.faults shelf.new) (requests.Commit user tag.now version (spelling recipe.now)) reply.new
+        result }
+{
+    match store.memory.first_unowned(user, recipe) {
+        Some(place) => {
+            write_lacking(reply, place);
+            Ok(())
+        }
+        None => match store.memory.entry(user, tag, version) {
+            Some(entry) => repeat(
+                store,
+                shelf,
+                user,
+                *tag,
+                version,
+                &entry,
+                recipe.bytes(),
+                buffer,
+                reply,
+            ),
+            None => enter(store, shelf, user, *tag, version, recipe, reply),
+        },
+    }
+}
