@@ -6,7 +6,7 @@
 . "$(dirname "$0")/build.sh"
 build digits cd_base cd_edges cd_fakes grammar hex
 digits="$program"
-build lines answers cd_base cd_edges cd_fakes grammar hex session transcript
+build lines cd_base cd_edges cd_fakes grammar hex session transcript
 PYTHONPATH="$top/bench" PYTHONDONTWRITEBYTECODE=1 python3 - "$program" "$digits" <<'PY'
 import sys
 from measure import least

@@ -2,7 +2,7 @@
 # Times a restore of 64 MiB, shape 4 3, over replies that were prepared, beside the SHA-256 that it needs: one pass over the shares
 # of k clouds, which have as many bytes as the file, and two to open the secrets: 3 passes.
 . "$(dirname "$0")/build.sh"
-build restore cd_base file_recipe recipe restore_job restore_job_tests
+build restore cd_base file_recipe recipe restore_job tests_clients
 python3 - "$program" <<'PY'
 import subprocess, sys
 told = subprocess.run([sys.argv[1]], capture_output=True, text=True, check=True).stdout
