@@ -10,7 +10,8 @@ use std::simd::prelude::*;
 #[inline(always)]
 fn swap1(a: u8x16, b: u8x16) -> (u8x16, u8x16)
     ensures first { (p : ℕ) → p < 16 → slice_index result.0 p ≡ swap_first 1 0x55 (slice_index a p) (slice_index b p) }
-    ensures second { (p : ℕ) → p < 16 → slice_index result.1 p ≡ swap_second 1 0x55 (slice_index a p) (slice_index b p) }
+    ensures second { (p : ℕ) → p < 16 → slice_index result.1 p
+        ≡ swap_second 1 0x55 (slice_index a p) (slice_index b p) }
     ensures first_small { (p : ℕ) → p < 16 → slice_index result.0 p < 256 }
     ensures second_small { (p : ℕ) → p < 16 → slice_index result.1 p < 256 }
 {
@@ -45,7 +46,8 @@ fn stage1(s: Planes) -> Planes
 #[inline(always)]
 fn swap2(a: u8x16, b: u8x16) -> (u8x16, u8x16)
     ensures first { (p : ℕ) → p < 16 → slice_index result.0 p ≡ swap_first 2 0x33 (slice_index a p) (slice_index b p) }
-    ensures second { (p : ℕ) → p < 16 → slice_index result.1 p ≡ swap_second 2 0x33 (slice_index a p) (slice_index b p) }
+    ensures second { (p : ℕ) → p < 16 → slice_index result.1 p
+        ≡ swap_second 2 0x33 (slice_index a p) (slice_index b p) }
     ensures first_small { (p : ℕ) → p < 16 → slice_index result.0 p < 256 }
     ensures second_small { (p : ℕ) → p < 16 → slice_index result.1 p < 256 }
 {
@@ -80,7 +82,8 @@ fn stage2(s: Planes) -> Planes
 #[inline(always)]
 fn swap4(a: u8x16, b: u8x16) -> (u8x16, u8x16)
     ensures first { (p : ℕ) → p < 16 → slice_index result.0 p ≡ swap_first 4 0x0f (slice_index a p) (slice_index b p) }
-    ensures second { (p : ℕ) → p < 16 → slice_index result.1 p ≡ swap_second 4 0x0f (slice_index a p) (slice_index b p) }
+    ensures second { (p : ℕ) → p < 16 → slice_index result.1 p
+        ≡ swap_second 4 0x0f (slice_index a p) (slice_index b p) }
     ensures first_small { (p : ℕ) → p < 16 → slice_index result.0 p < 256 }
     ensures second_small { (p : ℕ) → p < 16 → slice_index result.1 p < 256 }
 {

@@ -48,7 +48,8 @@ fn first_nonzero(bytes: &[u8]) -> Option<usize>
 fn test_pad(secret_len: u32, text: &[u8]) -> Result<(), RecoverErr>
     requires within { secret_len ≤ length text.now }
     requires few { length text.now < 2 ^ 32 }
-    ensures { without_pad secret_len text.now (position (λ byte. not (byte == 0)) (drop secret_len text.now)) ≡ answer_of result (take secret_len text.now) }
+    ensures { without_pad secret_len text.now (position (λ byte. not (byte == 0)) (drop secret_len text.now))
+        ≡ answer_of result (take secret_len text.now) }
 {
     match first_nonzero(&text[secret_len as usize..]) {
         None => Ok(()),
@@ -135,7 +136,8 @@ pub fn recover(
     requires few { secret_len ≤ secret_limit }
     requires choice { AreChoice shape points.now }
     requires whole { length shares.now ≡ shape.k * share_len_of shape.k secret_len }
-    ensures ok { OnOk result ((text : List ℕ) × (opened shape secret_len points.now shares.now ≡ Ok text) × (out.new ≡ out.old ++ text)) }
+    ensures ok { OnOk result ((text : List ℕ) × (opened shape secret_len points.now shares.now ≡ Ok text)
+        × (out.new ≡ out.old ++ text)) }
     ensures err { IfErr result (λ e. e ≢ RecoverErr.NoMemory → opened shape secret_len points.now shares.now ≡ Err e) }
     ensures kept { OnErr result (out.new ≡ out.old) }
 {

@@ -69,7 +69,8 @@ pub fn disperse(shape: Shape, secret: &[u8], out: &mut Bytes) -> Result<(), NoMe
     requires some { 1 ≤ length secret.now }
     requires few { length secret.now ≤ secret_limit }
     ensures whole { OnOk result (length out.new ≡ shape.n * share_len_of shape.k (length secret.now)) }
-    ensures shares { OnOk result ((j : ℕ) → j < shape.n → row (share_len_of shape.k (length secret.now)) j out.new ≡ share shape j secret.now) }
+    ensures shares { OnOk result ((j : ℕ) → j < shape.n
+        → row (share_len_of shape.k (length secret.now)) j out.new ≡ share shape j secret.now) }
     ensures err { OnErr result (out.new ≡ out.old) }
 {
     let width = share_len(shape, secret.len() as u32) as usize;

@@ -17,7 +17,8 @@ pub struct Shape {
 impl Shape {
     /// The shape of n clouds and k needed ones. None exactly outside `2 <= k < n <= 16`.
     pub fn of(n: u8, k: u8) -> Option<Shape>
-        ensures { MatchOption result (¬ ((2 ≤ k) × (k < n) × (n ≤ 16))) (λ shape. (shape.n ≡ n) × (shape.k ≡ k) × (2 ≤ k) × (k < n) × (n ≤ 16)) }
+        ensures { MatchOption result (¬ ((2 ≤ k) × (k < n) × (n ≤ 16))) (λ shape. (shape.n ≡ n) × (shape.k ≡ k)
+            × (2 ≤ k) × (k < n) × (n ≤ 16)) }
     {
         if 2 <= k && k < n && n <= 16 {
             Some(Shape { n, k })

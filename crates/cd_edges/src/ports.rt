@@ -42,7 +42,8 @@ pub trait Ports {
     /// the stream.
     fn recv(&mut self, port: u32, out: &mut [u8]) -> Result<usize, Failed>
         ensures bound { ReadsAtMost result out.new }
-        ensures receives { IsTrue (tells self.old).told → IfOk result (λ count. Receives (tells self.old) (tells self.new) port count out.new) }
+        ensures receives { IsTrue (tells self.old).told
+            → IfOk result (λ count. Receives (tells self.old) (tells self.new) port count out.new) }
         ensures told { (tells self.new).told ≡ (tells self.old).told }
         ensures failed { OnErr result (tells self.new ≡ tells self.old) }
         ensures cause { HasCause (faults self.old) (faults self.new) result };
@@ -51,7 +52,8 @@ pub trait Ports {
     fn send(&mut self, port: u32, bytes: &[u8]) -> Result<usize, Failed>
         ensures bound { WritesAtMost result bytes.now }
         ensures progress { IfOk result (λ n. 0 < length bytes.now → 0 < n) }
-        ensures sends { IsTrue (tells self.old).told → IfOk result (λ count. Sent (tells self.old) (tells self.new) port (take count bytes.now)) }
+        ensures sends { IsTrue (tells self.old).told
+            → IfOk result (λ count. Sent (tells self.old) (tells self.new) port (take count bytes.now)) }
         ensures told { (tells self.new).told ≡ (tells self.old).told }
         ensures failed { OnErr result (tells self.new ≡ tells self.old) }
         ensures cause { HasCause (faults self.old) (faults self.new) result };

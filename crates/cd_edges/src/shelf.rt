@@ -31,45 +31,60 @@ pub trait Shelf {
 
     /// How many bytes the area has. Whatever it answers, areas, moment and arming stay.
     fn len(&mut self, cloud: CloudNo, area: Area) -> Result<u64, Failed>
-        ensures len { IsTrue (cloud_at self.old cloud.0).told → IfOk result (λ len. len ≡ length ((cloud_at self.old cloud.0).now area).read) }
+        ensures len { IsTrue (cloud_at self.old cloud.0).told
+            → IfOk result (λ len. len ≡ length ((cloud_at self.old cloud.0).now area).read) }
         ensures stays { Stays (cloud_at self.old cloud.0) (cloud_at self.new cloud.0) }
         ensures call { IsCall (cloud_at self.old) (cloud_at self.new) cloud.0 (faults self.old) (faults self.new) }
-        ensures failed { OnErr result (HasFailed (cloud_at self.old cloud.0) (cloud_at self.new cloud.0) (faults self.old) (faults self.new)) }
-        ensures uncounted { OnOk result (KeepsCounts (cloud_at self.old cloud.0) (cloud_at self.new cloud.0) (faults self.old) (faults self.new)) };
+        ensures failed { OnErr result (HasFailed (cloud_at self.old cloud.0) (cloud_at self.new cloud.0)
+            (faults self.old) (faults self.new)) }
+        ensures uncounted { OnOk result (KeepsCounts (cloud_at self.old cloud.0) (cloud_at self.new cloud.0)
+            (faults self.old) (faults self.new)) };
 
     /// Puts what the area has from place `at` in front of `out`: the lesser of `out.len()` and what there is, nothing at
     /// or past the end. Whatever it answers, areas, moment and arming stay.
     fn read(&mut self, cloud: CloudNo, area: Area, at: u64, out: &mut [u8]) -> Result<usize, Failed>
         ensures bound { IfOk result (λ count. count ≤ length out.new) }
-        ensures bytes { IsTrue (cloud_at self.old cloud.0).told → IfOk result (λ count. ReadsFrom ((cloud_at self.old cloud.0).now area).read at count out.new) }
+        ensures bytes { IsTrue (cloud_at self.old cloud.0).told
+            → IfOk result (λ count. ReadsFrom ((cloud_at self.old cloud.0).now area).read at count out.new) }
         ensures stays { Stays (cloud_at self.old cloud.0) (cloud_at self.new cloud.0) }
         ensures call { IsCall (cloud_at self.old) (cloud_at self.new) cloud.0 (faults self.old) (faults self.new) }
-        ensures failed { OnErr result (HasFailed (cloud_at self.old cloud.0) (cloud_at self.new cloud.0) (faults self.old) (faults self.new)) }
-        ensures uncounted { OnOk result (KeepsCounts (cloud_at self.old cloud.0) (cloud_at self.new cloud.0) (faults self.old) (faults self.new)) };
+        ensures failed { OnErr result (HasFailed (cloud_at self.old cloud.0) (cloud_at self.new cloud.0)
+            (faults self.old) (faults self.new)) }
+        ensures uncounted { OnOk result (KeepsCounts (cloud_at self.old cloud.0) (cloud_at self.new cloud.0)
+            (faults self.old) (faults self.new)) };
 
     /// Puts the bytes at place `at`, over what is there and past the end, with zeros in a gap before it. After `Failed`
     /// the written range and what lies past the old end may hold any bytes, and the cloud reads as one image that a
     /// crash then may leave.
     fn write(&mut self, cloud: CloudNo, area: Area, at: u64, bytes: &[u8]) -> Result<(), Failed>
-        ensures write { IsTrue (cloud_at self.old cloud.0).told → Writes (cloud_at self.old cloud.0) (cloud_at self.new cloud.0) area at bytes.now result }
+        ensures write { IsTrue (cloud_at self.old cloud.0).told
+            → Writes (cloud_at self.old cloud.0) (cloud_at self.new cloud.0) area at bytes.now result }
         ensures call { IsCall (cloud_at self.old) (cloud_at self.new) cloud.0 (faults self.old) (faults self.new) }
-        ensures failed { OnErr result (HasFailed (cloud_at self.old cloud.0) (cloud_at self.new cloud.0) (faults self.old) (faults self.new)) }
-        ensures uncounted { OnOk result (KeepsCounts (cloud_at self.old cloud.0) (cloud_at self.new cloud.0) (faults self.old) (faults self.new)) };
+        ensures failed { OnErr result (HasFailed (cloud_at self.old cloud.0) (cloud_at self.new cloud.0)
+            (faults self.old) (faults self.new)) }
+        ensures uncounted { OnOk result (KeepsCounts (cloud_at self.old cloud.0) (cloud_at self.new cloud.0)
+            (faults self.old) (faults self.new)) };
 
     /// Makes what the area reads the one image that a crash leaves of it. After `Failed` the ranges written since the
     /// last Ok sync still count as written, and the cloud reads as one image that a crash then may leave.
     fn sync(&mut self, cloud: CloudNo, area: Area) -> Result<(), Failed>
-        ensures sync { IsTrue (cloud_at self.old cloud.0).told → Syncs (cloud_at self.old cloud.0) (cloud_at self.new cloud.0) area result }
+        ensures sync { IsTrue (cloud_at self.old cloud.0).told
+            → Syncs (cloud_at self.old cloud.0) (cloud_at self.new cloud.0) area result }
         ensures call { IsCall (cloud_at self.old) (cloud_at self.new) cloud.0 (faults self.old) (faults self.new) }
-        ensures failed { OnErr result (HasFailed (cloud_at self.old cloud.0) (cloud_at self.new cloud.0) (faults self.old) (faults self.new)) }
-        ensures uncounted { OnOk result (KeepsCounts (cloud_at self.old cloud.0) (cloud_at self.new cloud.0) (faults self.old) (faults self.new)) };
+        ensures failed { OnErr result (HasFailed (cloud_at self.old cloud.0) (cloud_at self.new cloud.0)
+            (faults self.old) (faults self.new)) }
+        ensures uncounted { OnOk result (KeepsCounts (cloud_at self.old cloud.0) (cloud_at self.new cloud.0)
+            (faults self.old) (faults self.new)) };
 
     /// Makes the cloud's three areas empty, which a crash leaves so, and disarms it. After `Failed` it is as before.
     fn fresh(&mut self, cloud: CloudNo) -> Result<(), Failed>
-        ensures fresh { IsTrue (cloud_at self.old cloud.0).told → Refreshes (cloud_at self.old cloud.0) (cloud_at self.new cloud.0) result }
+        ensures fresh { IsTrue (cloud_at self.old cloud.0).told
+            → Refreshes (cloud_at self.old cloud.0) (cloud_at self.new cloud.0) result }
         ensures call { IsCall (cloud_at self.old) (cloud_at self.new) cloud.0 (faults self.old) (faults self.new) }
-        ensures failed { OnErr result (HasFailed (cloud_at self.old cloud.0) (cloud_at self.new cloud.0) (faults self.old) (faults self.new)) }
-        ensures uncounted { OnOk result (KeepsCounts (cloud_at self.old cloud.0) (cloud_at self.new cloud.0) (faults self.old) (faults self.new)) };
+        ensures failed { OnErr result (HasFailed (cloud_at self.old cloud.0) (cloud_at self.new cloud.0)
+            (faults self.old) (faults self.new)) }
+        ensures uncounted { OnOk result (KeepsCounts (cloud_at self.old cloud.0) (cloud_at self.new cloud.0)
+            (faults self.old) (faults self.new)) };
 
     /// Cuts a later write or sync of the cloud, the one of this number counted from 1: a cut write puts its first `keep`
     /// bytes, all of them where `keep` is larger, a cut sync does nothing, and either answers `Failed`. The cloud is

@@ -19,8 +19,10 @@ pub fn write_synced<S: Shelf>(
     at: u64,
     bytes: &[u8],
 ) -> Result<(), Failed>
-    ensures any_moment { IsTrue (S.cloud_at shelf.old cloud.0).told → LeavesOnly (S.cloud_at shelf.old cloud.0) (S.cloud_at shelf.new cloud.0)
-        (IsAtArea (S.cloud_at shelf.old cloud.0).now area (MayLeave (wrote ((S.cloud_at shelf.old cloud.0).now area) at bytes.now))) }
+    ensures any_moment { IsTrue (S.cloud_at shelf.old cloud.0).told
+        → LeavesOnly (S.cloud_at shelf.old cloud.0) (S.cloud_at shelf.new cloud.0)
+        (IsAtArea (S.cloud_at shelf.old cloud.0).now area
+        (MayLeave (wrote ((S.cloud_at shelf.old cloud.0).now area) at bytes.now))) }
 
     ensures written { IsTrue (S.cloud_at shelf.old cloud.0).told → OnOk result ((S.cloud_at shelf.new cloud.0).now area
         ≡ stable (overwritten ((S.cloud_at shelf.old cloud.0).now area).read at bytes.now)) }
@@ -28,11 +30,15 @@ pub fn write_synced<S: Shelf>(
     ensures others { IsTrue (S.cloud_at shelf.old cloud.0).told → OnOk result ((other : Area) → other ≢ area
         → (S.cloud_at shelf.new cloud.0).now other ≡ (S.cloud_at shelf.old cloud.0).now other) }
 
-    ensures moments { IsTrue (S.cloud_at shelf.old cloud.0).told → OnOk result (moment (S.cloud_at shelf.new cloud.0) ≡ moment (S.cloud_at shelf.old cloud.0) + 2) }
+    ensures moments { IsTrue (S.cloud_at shelf.old cloud.0).told
+        → OnOk result (moment (S.cloud_at shelf.new cloud.0) ≡ moment (S.cloud_at shelf.old cloud.0) + 2) }
 
-    ensures call { IsCall (S.cloud_at shelf.old) (S.cloud_at shelf.new) cloud.0 (S.faults shelf.old) (S.faults shelf.new) }
-    ensures failed { OnErr result (HasFailed (S.cloud_at shelf.old cloud.0) (S.cloud_at shelf.new cloud.0) (S.faults shelf.old) (S.faults shelf.new)) }
-    ensures uncounted { OnOk result (KeepsCounts (S.cloud_at shelf.old cloud.0) (S.cloud_at shelf.new cloud.0) (S.faults shelf.old) (S.faults shelf.new)) }
+    ensures call { IsCall (S.cloud_at shelf.old) (S.cloud_at shelf.new) cloud.0 (S.faults shelf.old)
+        (S.faults shelf.new) }
+    ensures failed { OnErr result (HasFailed (S.cloud_at shelf.old cloud.0) (S.cloud_at shelf.new cloud.0)
+        (S.faults shelf.old) (S.faults shelf.new)) }
+    ensures uncounted { OnOk result (KeepsCounts (S.cloud_at shelf.old cloud.0) (S.cloud_at shelf.new cloud.0)
+        (S.faults shelf.old) (S.faults shelf.new)) }
 {
     shelf.write(cloud, area, at, bytes)?;
     shelf.sync(cloud, area)?;

@@ -9,8 +9,10 @@ use crate::{Failed, Ports};
 /// Sends all the bytes on a port, in as many pieces as it takes. Where the ports fail the first bytes may have been sent, and nothing
 /// is sent after them.
 pub fn send_all<P: Ports>(ports: &mut P, port: u32, bytes: &[u8]) -> Result<(), Failed>
-    ensures all { IsTrue (P.tells ports.old).told → OnOk result (Sent (P.tells ports.old) (P.tells ports.new) port bytes.now) }
-    ensures part { IsTrue (P.tells ports.old).told → OnErr result (SentPart (P.tells ports.old) (P.tells ports.new) port bytes.now) }
+    ensures all { IsTrue (P.tells ports.old).told
+        → OnOk result (Sent (P.tells ports.old) (P.tells ports.new) port bytes.now) }
+    ensures part { IsTrue (P.tells ports.old).told
+        → OnErr result (SentPart (P.tells ports.old) (P.tells ports.new) port bytes.now) }
     ensures others { IsTrue (P.tells ports.old).told → OthersStay (P.tells ports.old) (P.tells ports.new) port }
     ensures told { (P.tells ports.new).told ≡ (P.tells ports.old).told }
     ensures cause { HasCause (P.faults ports.old) (P.faults ports.new) result }
@@ -28,8 +30,10 @@ pub fn send_all<P: Ports>(ports: &mut P, port: u32, bytes: &[u8]) -> Result<(), 
 /// Fills a buffer with the bytes that come on a port, and answers how many came: fewer than it holds only where the stream ended.
 pub fn receive<P: Ports>(ports: &mut P, port: u32, out: &mut [u8]) -> Result<usize, Failed>
     ensures bound { IfOk result (λ count. count ≤ length out.new) }
-    ensures fills { IsTrue (P.tells ports.old).told → IfOk result (λ count. Fills (P.tells ports.old) (P.tells ports.new) port count out.new) }
-    ensures some { IsTrue (P.tells ports.old).told → OnErr result (ReceivedSome (P.tells ports.old) (P.tells ports.new) port) }
+    ensures fills { IsTrue (P.tells ports.old).told
+        → IfOk result (λ count. Fills (P.tells ports.old) (P.tells ports.new) port count out.new) }
+    ensures some { IsTrue (P.tells ports.old).told
+        → OnErr result (ReceivedSome (P.tells ports.old) (P.tells ports.new) port) }
     ensures others { IsTrue (P.tells ports.old).told → OthersStay (P.tells ports.old) (P.tells ports.new) port }
     ensures told { (P.tells ports.new).told ≡ (P.tells ports.old).told }
     ensures cause { HasCause (P.faults ports.old) (P.faults ports.new) result }

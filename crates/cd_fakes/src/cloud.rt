@@ -181,7 +181,8 @@ impl MemCloud {
         bytes: &[u8],
     ) -> Result<(), Failed>
         requires { HasSpare left.old self.old }
-        ensures write { IsTrue self.old.disk.told → Writes (cloud_of self.old) (cloud_of self.new) area at bytes.now result }
+        ensures write { IsTrue self.old.disk.told
+            → Writes (cloud_of self.old) (cloud_of self.new) area at bytes.now result }
         ensures told { self.new.disk.told ≡ self.old.disk.told }
         ensures is_there { self.new.is_there ≡ self.old.is_there }
         ensures reads { self.new.reads ≡ self.old.reads }
@@ -194,7 +195,8 @@ impl MemCloud {
 
         ensures fails { IsErr result ↔ WriteFails fails.now left.old number.0 self.old area at (length bytes.now) }
         ensures ok { OnOk result (Puts self.old.disk self.new.disk area at bytes.now × (left.new + 1 ≡ left.old)) }
-        ensures err { OnErr result (KeepsPart fails.now left.old left.new number.0 self.old self.new area at bytes.now) }
+        ensures err { OnErr result
+            (KeepsPart fails.now left.old left.new number.0 self.old self.new area at bytes.now) }
     {
         let refused = self.begin(fails, number);
         if self.count_down() {
@@ -268,7 +270,8 @@ impl MemCloud {
         ensures later { left.new ≤ left.old }
 
         ensures fails { IsErr result ↔ FreshFails fails.now left.old number.0 self.old }
-        ensures room { (area : Area) → (area_of self.new.disk.areas area).room ≡ (area_of self.old.disk.areas area).room }
+        ensures room { (area : Area) → (area_of self.new.disk.areas area).room
+            ≡ (area_of self.old.disk.areas area).room }
         ensures log { (area : Area) → log_of self.new.disk.areas area ≡ log_of self.old.disk.areas area }
         ensures ok { OnOk result (((area : Area) → held_of self.new.disk.areas area ≡ []) × (left.new + 1 ≡ left.old)) }
         ensures err { OnErr result ((self.new.disk ≡ self.old.disk) × (left.new ≡ left.old)) }
@@ -288,7 +291,8 @@ impl MemCloud {
     /// Arms, or disarms for 0 calls. At the last value of the count of armings this does nothing.
     pub fn arm(&mut self, calls: u32, keep: u32)
         ensures arms { Arms (cloud_of self.old) (cloud_of self.new) calls keep }
-        ensures rest { self.new ≡ record self.old { armings = self.new.armings; cut = self.new.cut; keep = self.new.keep } }
+        ensures rest { self.new
+            ≡ record self.old { armings = self.new.armings; cut = self.new.cut; keep = self.new.keep } }
     {
         if self.armings < u64::MAX {
             self.armings += 1;
@@ -325,7 +329,8 @@ impl MemCloud {
         ensures held { held_of self.new.disk.areas area ≡ damaged (area_of self.old.disk.areas area) at byte }
         ensures log { log_of self.new.disk.areas area ≡ log_of self.old.disk.areas area }
         ensures room { (area_of self.new.disk.areas area).room ≡ (area_of self.old.disk.areas area).room }
-        ensures others { (other : Area) → other ≢ area → area_of self.new.disk.areas other ≡ area_of self.old.disk.areas other }
+        ensures others { (other : Area) → other ≢ area
+            → area_of self.new.disk.areas other ≡ area_of self.old.disk.areas other }
         ensures notes { self.new.disk.notes ≡ self.old.disk.notes }
     {
         self.disk.set_byte(area, at, byte);

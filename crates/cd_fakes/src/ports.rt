@@ -79,11 +79,13 @@ impl MemPorts {
 
     /// Adds a stream, whose bytes come on the next port that has none yet. For want of memory nothing changes.
     pub fn add_stream(&mut self, alloc: Global, bytes: &[u8]) -> Result<(), NoMemory>
-        ensures added { OnOk result ((stream : MemStream) × (self.new.streams.items ≡ self.old.streams.items ++ stream ∷ [])
+        ensures added { OnOk result ((stream : MemStream)
+            × (self.new.streams.items ≡ self.old.streams.items ++ stream ∷ [])
             × (stream.bytes.items ≡ bytes.now) × (stream.place ≡ 0) × (stream.sent.items ≡ [])
             × (stream.room ≡ self.old.room) × (stream.closed ≡ false)) }
         ensures err { OnErr result (self.new.streams.items ≡ self.old.streams.items) }
-        ensures rest { (self.new.opened ≡ self.old.opened) × (self.new.count ≡ self.old.count) × KeepsSizes self.old self.new }
+        ensures rest { (self.new.opened ≡ self.old.opened) × (self.new.count ≡ self.old.count)
+            × KeepsSizes self.old self.new }
     {
         if self.streams.len() >= u32::MAX as usize {
             return Err(NoMemory);
@@ -174,7 +176,8 @@ impl Ports for MemPorts {
         // It fails exactly by its number or where the port isn't open, and gives as much as it may.
         ensures fails { IsErr result ↔ (IsNamed self.old ⊎ (¬ HasOpen self.old port)) }
         ensures much { IfOk result
-            (λ count. count ≡ min (min (length out.old) self.old.most) (length ((telling self.old).port port).to_come)) }
+            (λ count. count ≡ min (min (length out.old) self.old.most)
+            (length ((telling self.old).port port).to_come)) }
         ensures counts { Counts self.old.count self.new.count (is_ok result) }
         ensures open { KeepOpen self.old.streams.items self.new.streams.items }
         ensures rooms { KeepRooms self.old.streams.items self.new.streams.items }
@@ -224,7 +227,8 @@ impl Ports for MemPorts {
         ensures closed { ¬ HasOpen self.new port }
         ensures others { KeepOpenBut self.old.streams.items self.new.streams.items port }
         ensures rooms { KeepRooms self.old.streams.items self.new.streams.items }
-        ensures rest { (self.new.count ≡ self.old.count) × (self.new.opened ≡ self.old.opened) × KeepsSizes self.old self.new }
+        ensures rest { (self.new.count ≡ self.old.count) × (self.new.opened ≡ self.old.opened)
+            × KeepsSizes self.old self.new }
     {
         if let Some(stream) = self.streams.get_mut(port as usize) {
             stream.closed = true;

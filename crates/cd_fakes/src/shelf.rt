@@ -97,8 +97,10 @@ impl MemShelf {
             Crashes (clouds_of self.old.clouds.items cloud.0) (clouds_of self.new.clouds.items cloud.0) fill whole }
         ensures did { At self.old.clouds.items cloud.0 (λ m. IsTrue result ↔ CanCrash self.old.left m) }
         ensures stays { result ≡ false → AtBoth self.old.clouds.items self.new.clouds.items cloud.0 (λ m m'. m' ≡ m) }
-        ensures counts { AtBoth self.old.clouds.items self.new.clouds.items cloud.0 (λ m m'. m' ≡ record m { disk = m'.disk }) }
-        ensures others_stay { (other : ℕ) → other ≢ cloud.0 → slice_get self.new.clouds.items other ≡ slice_get self.old.clouds.items other }
+        ensures counts { AtBoth self.old.clouds.items self.new.clouds.items cloud.0 (λ m m'. m'
+            ≡ record m { disk = m'.disk }) }
+        ensures others_stay { (other : ℕ) → other ≢ cloud.0
+            → slice_get self.new.clouds.items other ≡ slice_get self.old.clouds.items other }
         ensures left { self.new.left + (if result then 1 else 0) ≡ self.old.left }
         ensures rest { (self.new.fails ≡ self.old.fails) × (self.new.total ≡ self.old.total) }
     {
@@ -111,10 +113,14 @@ impl MemShelf {
         ensures told { AtBoth self.old.clouds.items self.new.clouds.items cloud.0 (λ m m'. m'.disk.told ≡ false) }
         ensures held { AtBoth self.old.clouds.items self.new.clouds.items cloud.0 (λ m m'.
             held_of m'.disk.areas area ≡ damaged (area_of m.disk.areas area) at byte) }
-        ensures others { AtBoth self.old.clouds.items self.new.clouds.items cloud.0 (λ m m'. (other : Area) → other ≢ area → area_of m'.disk.areas other ≡ area_of m.disk.areas other) }
-        ensures counts { AtBoth self.old.clouds.items self.new.clouds.items cloud.0 (λ m m'. m' ≡ record m { disk = m'.disk }) }
-        ensures others_stay { (other : ℕ) → other ≢ cloud.0 → slice_get self.new.clouds.items other ≡ slice_get self.old.clouds.items other }
-        ensures rest { (self.new.fails ≡ self.old.fails) × (self.new.left ≡ self.old.left) × (self.new.total ≡ self.old.total) }
+        ensures others { AtBoth self.old.clouds.items self.new.clouds.items cloud.0 (λ m m'. (other : Area)
+            → other ≢ area → area_of m'.disk.areas other ≡ area_of m.disk.areas other) }
+        ensures counts { AtBoth self.old.clouds.items self.new.clouds.items cloud.0 (λ m m'. m'
+            ≡ record m { disk = m'.disk }) }
+        ensures others_stay { (other : ℕ) → other ≢ cloud.0
+            → slice_get self.new.clouds.items other ≡ slice_get self.old.clouds.items other }
+        ensures rest { (self.new.fails ≡ self.old.fails) × (self.new.left ≡ self.old.left)
+            × (self.new.total ≡ self.old.total) }
     {
         self.clouds[cloud.0 as usize].set_byte(area, at, byte);
     }
@@ -152,19 +158,27 @@ impl Shelf for MemShelf {
     }
 
     fn len(&mut self, cloud: CloudNo, area: Area) -> Result<u64, Failed>
-        ensures len { IsTrue (clouds_of self.old.clouds.items cloud.0).told → IfOk result (λ len. len ≡ length ((clouds_of self.old.clouds.items cloud.0).now area).read) }
+        ensures len { IsTrue (clouds_of self.old.clouds.items cloud.0).told
+            → IfOk result (λ len. len ≡ length ((clouds_of self.old.clouds.items cloud.0).now area).read) }
         ensures stays { Stays (clouds_of self.old.clouds.items cloud.0) (clouds_of self.new.clouds.items cloud.0) }
-        ensures call { IsCall (clouds_of self.old.clouds.items) (clouds_of self.new.clouds.items) cloud.0 self.old.total self.new.total }
-        ensures failed { OnErr result (HasFailed (clouds_of self.old.clouds.items cloud.0) (clouds_of self.new.clouds.items cloud.0) self.old.total self.new.total) }
-        ensures uncounted { OnOk result (KeepsCounts (clouds_of self.old.clouds.items cloud.0) (clouds_of self.new.clouds.items cloud.0) self.old.total self.new.total) }
+        ensures call { IsCall (clouds_of self.old.clouds.items)
+            (clouds_of self.new.clouds.items) cloud.0 self.old.total self.new.total }
+        ensures failed { OnErr result (HasFailed (clouds_of self.old.clouds.items cloud.0)
+            (clouds_of self.new.clouds.items cloud.0) self.old.total self.new.total) }
+        ensures uncounted { OnOk result (KeepsCounts (clouds_of self.old.clouds.items cloud.0)
+            (clouds_of self.new.clouds.items cloud.0) self.old.total self.new.total) }
 
-        ensures fails { At self.old.clouds.items cloud.0 (λ m. IsErr result ↔ IsRefused self.old.fails.items cloud.0 m) }
-        ensures counts { AtBoth self.old.clouds.items self.new.clouds.items cloud.0 (λ m m'. (m'.calls ≡ counted_up m.calls) × (m'.faults ≡ (if is_ok result then m.faults else counted_up m.faults))) }
+        ensures fails { At self.old.clouds.items cloud.0
+            (λ m. IsErr result ↔ IsRefused self.old.fails.items cloud.0 m) }
+        ensures counts { AtBoth self.old.clouds.items self.new.clouds.items cloud.0 (λ m m'. (m'.calls
+            ≡ counted_up m.calls) × (m'.faults ≡ (if is_ok result then m.faults else counted_up m.faults))) }
         ensures reads { AtBoth self.old.clouds.items self.new.clouds.items cloud.0 (λ m m'. m'.reads ≡ m.reads) }
         ensures total { self.new.total ≡ (if is_ok result then self.old.total else counted_up self.old.total) }
         ensures fails_stay { self.new.fails ≡ self.old.fails }
-        ensures others_stay { (other : ℕ) → other ≢ cloud.0 → slice_get self.new.clouds.items other ≡ slice_get self.old.clouds.items other }
-        ensures held { At self.old.clouds.items cloud.0 (λ m. IfOk result (λ len. len ≡ length (held_of m.disk.areas area))) }
+        ensures others_stay { (other : ℕ) → other ≢ cloud.0
+            → slice_get self.new.clouds.items other ≡ slice_get self.old.clouds.items other }
+        ensures held { At self.old.clouds.items cloud.0 (λ m. IfOk result (λ len. len
+            ≡ length (held_of m.disk.areas area))) }
     {
         let outcome = self.clouds[cloud.0 as usize].len(&self.fails, cloud, area);
         self.count(outcome)
@@ -172,41 +186,60 @@ impl Shelf for MemShelf {
 
     fn read(&mut self, cloud: CloudNo, area: Area, at: u64, out: &mut [u8]) -> Result<usize, Failed>
         ensures bound { IfOk result (λ count. count ≤ length out.new) }
-        ensures bytes { IsTrue (clouds_of self.old.clouds.items cloud.0).told → IfOk result (λ count. ReadsFrom ((clouds_of self.old.clouds.items cloud.0).now area).read at count out.new) }
+        ensures bytes { IsTrue (clouds_of self.old.clouds.items cloud.0).told
+            → IfOk result
+            (λ count. ReadsFrom ((clouds_of self.old.clouds.items cloud.0).now area).read at count out.new) }
         ensures stays { Stays (clouds_of self.old.clouds.items cloud.0) (clouds_of self.new.clouds.items cloud.0) }
-        ensures call { IsCall (clouds_of self.old.clouds.items) (clouds_of self.new.clouds.items) cloud.0 self.old.total self.new.total }
-        ensures failed { OnErr result (HasFailed (clouds_of self.old.clouds.items cloud.0) (clouds_of self.new.clouds.items cloud.0) self.old.total self.new.total) }
-        ensures uncounted { OnOk result (KeepsCounts (clouds_of self.old.clouds.items cloud.0) (clouds_of self.new.clouds.items cloud.0) self.old.total self.new.total) }
+        ensures call { IsCall (clouds_of self.old.clouds.items)
+            (clouds_of self.new.clouds.items) cloud.0 self.old.total self.new.total }
+        ensures failed { OnErr result (HasFailed (clouds_of self.old.clouds.items cloud.0)
+            (clouds_of self.new.clouds.items cloud.0) self.old.total self.new.total) }
+        ensures uncounted { OnOk result (KeepsCounts (clouds_of self.old.clouds.items cloud.0)
+            (clouds_of self.new.clouds.items cloud.0) self.old.total self.new.total) }
 
-        ensures fails { At self.old.clouds.items cloud.0 (λ m. IsErr result ↔ IsRefused self.old.fails.items cloud.0 m) }
-        ensures counts { AtBoth self.old.clouds.items self.new.clouds.items cloud.0 (λ m m'. (m'.calls ≡ counted_up m.calls) × (m'.faults ≡ (if is_ok result then m.faults else counted_up m.faults))) }
+        ensures fails { At self.old.clouds.items cloud.0
+            (λ m. IsErr result ↔ IsRefused self.old.fails.items cloud.0 m) }
+        ensures counts { AtBoth self.old.clouds.items self.new.clouds.items cloud.0 (λ m m'. (m'.calls
+            ≡ counted_up m.calls) × (m'.faults ≡ (if is_ok result then m.faults else counted_up m.faults))) }
         ensures reads { AtBoth self.old.clouds.items self.new.clouds.items cloud.0 (λ m m'.
             number_of m'.reads area ≡ counted_up (number_of m.reads area)) }
         ensures other_reads { AtBoth self.old.clouds.items self.new.clouds.items cloud.0 (λ m m'.
             (other : Area) → other ≢ area → number_of m'.reads other ≡ number_of m.reads other) }
         ensures total { self.new.total ≡ (if is_ok result then self.old.total else counted_up self.old.total) }
         ensures fails_stay { self.new.fails ≡ self.old.fails }
-        ensures others_stay { (other : ℕ) → other ≢ cloud.0 → slice_get self.new.clouds.items other ≡ slice_get self.old.clouds.items other }
-        ensures held { At self.old.clouds.items cloud.0 (λ m. IfOk result (λ count. ReadsFrom (held_of m.disk.areas area) at count out.new)) }
+        ensures others_stay { (other : ℕ) → other ≢ cloud.0
+            → slice_get self.new.clouds.items other ≡ slice_get self.old.clouds.items other }
+        ensures held { At self.old.clouds.items cloud.0
+            (λ m. IfOk result (λ count. ReadsFrom (held_of m.disk.areas area) at count out.new)) }
     {
         let outcome = self.clouds[cloud.0 as usize].read(&self.fails, cloud, area, at, out);
         self.count(outcome)
     }
 
     fn write(&mut self, cloud: CloudNo, area: Area, at: u64, bytes: &[u8]) -> Result<(), Failed>
-        ensures write { IsTrue (clouds_of self.old.clouds.items cloud.0).told → Writes (clouds_of self.old.clouds.items cloud.0) (clouds_of self.new.clouds.items cloud.0) area at bytes.now result }
-        ensures call { IsCall (clouds_of self.old.clouds.items) (clouds_of self.new.clouds.items) cloud.0 self.old.total self.new.total }
-        ensures failed { OnErr result (HasFailed (clouds_of self.old.clouds.items cloud.0) (clouds_of self.new.clouds.items cloud.0) self.old.total self.new.total) }
-        ensures uncounted { OnOk result (KeepsCounts (clouds_of self.old.clouds.items cloud.0) (clouds_of self.new.clouds.items cloud.0) self.old.total self.new.total) }
+        ensures write { IsTrue (clouds_of self.old.clouds.items cloud.0).told
+            → Writes (clouds_of self.old.clouds.items cloud.0)
+            (clouds_of self.new.clouds.items cloud.0) area at bytes.now result }
+        ensures call { IsCall (clouds_of self.old.clouds.items)
+            (clouds_of self.new.clouds.items) cloud.0 self.old.total self.new.total }
+        ensures failed { OnErr result (HasFailed (clouds_of self.old.clouds.items cloud.0)
+            (clouds_of self.new.clouds.items cloud.0) self.old.total self.new.total) }
+        ensures uncounted { OnOk result (KeepsCounts (clouds_of self.old.clouds.items cloud.0)
+            (clouds_of self.new.clouds.items cloud.0) self.old.total self.new.total) }
 
-        ensures fails { At self.old.clouds.items cloud.0 (λ m. IsErr result ↔ WriteFails self.old.fails.items self.old.left cloud.0 m area at (length bytes.now)) }
-        ensures counts { AtBoth self.old.clouds.items self.new.clouds.items cloud.0 (λ m m'. (m'.calls ≡ counted_up m.calls) × (m'.faults ≡ (if is_ok result then m.faults else counted_up m.faults))) }
+        ensures fails { At self.old.clouds.items cloud.0
+            (λ m. IsErr result ↔ WriteFails self.old.fails.items self.old.left cloud.0 m area at (length bytes.now)) }
+        ensures counts { AtBoth self.old.clouds.items self.new.clouds.items cloud.0 (λ m m'. (m'.calls
+            ≡ counted_up m.calls) × (m'.faults ≡ (if is_ok result then m.faults else counted_up m.faults))) }
         ensures reads { AtBoth self.old.clouds.items self.new.clouds.items cloud.0 (λ m m'. m'.reads ≡ m.reads) }
         ensures total { self.new.total ≡ (if is_ok result then self.old.total else counted_up self.old.total) }
         ensures fails_stay { self.new.fails ≡ self.old.fails }
-        ensures others_stay { (other : ℕ) → other ≢ cloud.0 → slice_get self.new.clouds.items other ≡ slice_get self.old.clouds.items other }
-        ensures ok { OnOk result (AtBoth self.old.clouds.items self.new.clouds.items cloud.0 (λ m m'. Puts m.disk m'.disk area at bytes.now × (self.new.left + 1 ≡ self.old.left))) }
-        ensures err { OnErr result (AtBoth self.old.clouds.items self.new.clouds.items cloud.0 (λ m m'. KeepsPart self.old.fails.items self.old.left self.new.left cloud.0 m m' area at bytes.now)) }
+        ensures others_stay { (other : ℕ) → other ≢ cloud.0
+            → slice_get self.new.clouds.items other ≡ slice_get self.old.clouds.items other }
+        ensures ok { OnOk result (AtBoth self.old.clouds.items self.new.clouds.items cloud.0
+            (λ m m'. Puts m.disk m'.disk area at bytes.now × (self.new.left + 1 ≡ self.old.left))) }
+        ensures err { OnErr result (AtBoth self.old.clouds.items self.new.clouds.items cloud.0
+            (λ m m'. KeepsPart self.old.fails.items self.old.left self.new.left cloud.0 m m' area at bytes.now)) }
     {
         let outcome = self.clouds[cloud.0 as usize].write(
             &self.fails,
@@ -220,18 +253,26 @@ impl Shelf for MemShelf {
     }
 
     fn sync(&mut self, cloud: CloudNo, area: Area) -> Result<(), Failed>
-        ensures sync { IsTrue (clouds_of self.old.clouds.items cloud.0).told → Syncs (clouds_of self.old.clouds.items cloud.0) (clouds_of self.new.clouds.items cloud.0) area result }
-        ensures call { IsCall (clouds_of self.old.clouds.items) (clouds_of self.new.clouds.items) cloud.0 self.old.total self.new.total }
-        ensures failed { OnErr result (HasFailed (clouds_of self.old.clouds.items cloud.0) (clouds_of self.new.clouds.items cloud.0) self.old.total self.new.total) }
-        ensures uncounted { OnOk result (KeepsCounts (clouds_of self.old.clouds.items cloud.0) (clouds_of self.new.clouds.items cloud.0) self.old.total self.new.total) }
+        ensures sync { IsTrue (clouds_of self.old.clouds.items cloud.0).told
+            → Syncs (clouds_of self.old.clouds.items cloud.0) (clouds_of self.new.clouds.items cloud.0) area result }
+        ensures call { IsCall (clouds_of self.old.clouds.items)
+            (clouds_of self.new.clouds.items) cloud.0 self.old.total self.new.total }
+        ensures failed { OnErr result (HasFailed (clouds_of self.old.clouds.items cloud.0)
+            (clouds_of self.new.clouds.items cloud.0) self.old.total self.new.total) }
+        ensures uncounted { OnOk result (KeepsCounts (clouds_of self.old.clouds.items cloud.0)
+            (clouds_of self.new.clouds.items cloud.0) self.old.total self.new.total) }
 
-        ensures fails { At self.old.clouds.items cloud.0 (λ m. IsErr result ↔ SyncFails self.old.fails.items self.old.left cloud.0 m) }
-        ensures counts { AtBoth self.old.clouds.items self.new.clouds.items cloud.0 (λ m m'. (m'.calls ≡ counted_up m.calls) × (m'.faults ≡ (if is_ok result then m.faults else counted_up m.faults))) }
+        ensures fails { At self.old.clouds.items cloud.0
+            (λ m. IsErr result ↔ SyncFails self.old.fails.items self.old.left cloud.0 m) }
+        ensures counts { AtBoth self.old.clouds.items self.new.clouds.items cloud.0 (λ m m'. (m'.calls
+            ≡ counted_up m.calls) × (m'.faults ≡ (if is_ok result then m.faults else counted_up m.faults))) }
         ensures reads { AtBoth self.old.clouds.items self.new.clouds.items cloud.0 (λ m m'. m'.reads ≡ m.reads) }
         ensures total { self.new.total ≡ (if is_ok result then self.old.total else counted_up self.old.total) }
         ensures fails_stay { self.new.fails ≡ self.old.fails }
-        ensures others_stay { (other : ℕ) → other ≢ cloud.0 → slice_get self.new.clouds.items other ≡ slice_get self.old.clouds.items other }
-        ensures areas { AtBoth self.old.clouds.items self.new.clouds.items cloud.0 (λ m m'. m'.disk.areas ≡ m.disk.areas) }
+        ensures others_stay { (other : ℕ) → other ≢ cloud.0
+            → slice_get self.new.clouds.items other ≡ slice_get self.old.clouds.items other }
+        ensures areas { AtBoth self.old.clouds.items self.new.clouds.items cloud.0 (λ m m'. m'.disk.areas
+            ≡ m.disk.areas) }
         ensures left { (if is_ok result then self.new.left + 1 else self.new.left) ≡ self.old.left }
     {
         let outcome = self.clouds[cloud.0 as usize].sync(&self.fails, cloud, &mut self.left, area);
@@ -239,18 +280,26 @@ impl Shelf for MemShelf {
     }
 
     fn fresh(&mut self, cloud: CloudNo) -> Result<(), Failed>
-        ensures fresh { IsTrue (clouds_of self.old.clouds.items cloud.0).told → Refreshes (clouds_of self.old.clouds.items cloud.0) (clouds_of self.new.clouds.items cloud.0) result }
-        ensures call { IsCall (clouds_of self.old.clouds.items) (clouds_of self.new.clouds.items) cloud.0 self.old.total self.new.total }
-        ensures failed { OnErr result (HasFailed (clouds_of self.old.clouds.items cloud.0) (clouds_of self.new.clouds.items cloud.0) self.old.total self.new.total) }
-        ensures uncounted { OnOk result (KeepsCounts (clouds_of self.old.clouds.items cloud.0) (clouds_of self.new.clouds.items cloud.0) self.old.total self.new.total) }
+        ensures fresh { IsTrue (clouds_of self.old.clouds.items cloud.0).told
+            → Refreshes (clouds_of self.old.clouds.items cloud.0) (clouds_of self.new.clouds.items cloud.0) result }
+        ensures call { IsCall (clouds_of self.old.clouds.items)
+            (clouds_of self.new.clouds.items) cloud.0 self.old.total self.new.total }
+        ensures failed { OnErr result (HasFailed (clouds_of self.old.clouds.items cloud.0)
+            (clouds_of self.new.clouds.items cloud.0) self.old.total self.new.total) }
+        ensures uncounted { OnOk result (KeepsCounts (clouds_of self.old.clouds.items cloud.0)
+            (clouds_of self.new.clouds.items cloud.0) self.old.total self.new.total) }
 
-        ensures fails { At self.old.clouds.items cloud.0 (λ m. IsErr result ↔ FreshFails self.old.fails.items self.old.left cloud.0 m) }
-        ensures counts { AtBoth self.old.clouds.items self.new.clouds.items cloud.0 (λ m m'. (m'.calls ≡ counted_up m.calls) × (m'.faults ≡ (if is_ok result then m.faults else counted_up m.faults))) }
+        ensures fails { At self.old.clouds.items cloud.0
+            (λ m. IsErr result ↔ FreshFails self.old.fails.items self.old.left cloud.0 m) }
+        ensures counts { AtBoth self.old.clouds.items self.new.clouds.items cloud.0 (λ m m'. (m'.calls
+            ≡ counted_up m.calls) × (m'.faults ≡ (if is_ok result then m.faults else counted_up m.faults))) }
         ensures reads { AtBoth self.old.clouds.items self.new.clouds.items cloud.0 (λ m m'. m'.reads ≡ m.reads) }
         ensures total { self.new.total ≡ (if is_ok result then self.old.total else counted_up self.old.total) }
         ensures fails_stay { self.new.fails ≡ self.old.fails }
-        ensures others_stay { (other : ℕ) → other ≢ cloud.0 → slice_get self.new.clouds.items other ≡ slice_get self.old.clouds.items other }
-        ensures held { OnOk result (AtBoth self.old.clouds.items self.new.clouds.items cloud.0 (λ m m'. (area : Area) → held_of m'.disk.areas area ≡ [])) }
+        ensures others_stay { (other : ℕ) → other ≢ cloud.0
+            → slice_get self.new.clouds.items other ≡ slice_get self.old.clouds.items other }
+        ensures held { OnOk result (AtBoth self.old.clouds.items self.new.clouds.items cloud.0 (λ m m'. (area : Area)
+            → held_of m'.disk.areas area ≡ [])) }
         ensures left { (if is_ok result then self.new.left + 1 else self.new.left) ≡ self.old.left }
     {
         let outcome = self.clouds[cloud.0 as usize].fresh(&self.fails, cloud, &mut self.left);
@@ -265,7 +314,8 @@ impl Shelf for MemShelf {
         ensures total { self.new.total ≡ self.old.total }
 
         ensures reads { AtBoth self.old.clouds.items self.new.clouds.items cloud.0 (λ m m'. m'.reads ≡ m.reads) }
-        ensures others_stay { (other : ℕ) → other ≢ cloud.0 → slice_get self.new.clouds.items other ≡ slice_get self.old.clouds.items other }
+        ensures others_stay { (other : ℕ) → other ≢ cloud.0
+            → slice_get self.new.clouds.items other ≡ slice_get self.old.clouds.items other }
     {
         self.clouds[cloud.0 as usize].arm(calls, keep);
     }

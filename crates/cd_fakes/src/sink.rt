@@ -67,12 +67,15 @@ impl Sink for MemSink {
         ensures cause { HasCause self.old.count.faults self.new.count.faults result }
 
         // It fails exactly by its number or where no room is left, and takes as much as it may.
-        ensures fails { IsErr result ↔ (Contains self.old.count.fails.items (counted_up self.old.count.calls) ⊎ (vec_len self.old.bytes ≡ self.old.room)) }
-        ensures much { IfOk result (λ count. count ≡ min (min (length bytes.now) self.old.most) (self.old.room - vec_len self.old.bytes)) }
+        ensures fails { IsErr result ↔ (Contains self.old.count.fails.items (counted_up self.old.count.calls) ⊎
+            (vec_len self.old.bytes ≡ self.old.room)) }
+        ensures much { IfOk result (λ count. count
+            ≡ min (min (length bytes.now) self.old.most) (self.old.room - vec_len self.old.bytes)) }
 
         // The calls and the failures are counted, and the rest stays.
         ensures calls { self.new.count.calls ≡ counted_up self.old.count.calls }
-        ensures faults { self.new.count.faults ≡ (if is_ok result then self.old.count.faults else counted_up self.old.count.faults) }
+        ensures faults { self.new.count.faults
+            ≡ (if is_ok result then self.old.count.faults else counted_up self.old.count.faults) }
         ensures fails_stay { self.new.count.fails ≡ self.old.count.fails }
         ensures room_stays { self.new.room ≡ self.old.room }
         ensures most_stays { self.new.most ≡ self.old.most }

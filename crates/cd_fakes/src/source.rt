@@ -59,16 +59,19 @@ impl Source for MemSource {
 
     fn read(&mut self, out: &mut [u8]) -> Result<usize, Failed>
         ensures bound { ReadsAtMost result out.new }
-        ensures bytes { ReadConsumes (Some (drop self.old.place self.old.bytes.items)) (Some (drop self.new.place self.new.bytes.items)) result out.new }
+        ensures bytes { ReadConsumes (Some (drop self.old.place self.old.bytes.items))
+            (Some (drop self.new.place self.new.bytes.items)) result out.new }
         ensures cause { HasCause self.old.count.faults self.new.count.faults result }
 
         // It fails exactly by its number, and gives as much as it may.
         ensures fails { IsErr result ↔ Contains self.old.count.fails.items (counted_up self.old.count.calls) }
-        ensures much { IfOk result (λ count. count ≡ min (min (length out.old) self.old.most) (vec_len self.old.bytes - self.old.place)) }
+        ensures much { IfOk result (λ count. count
+            ≡ min (min (length out.old) self.old.most) (vec_len self.old.bytes - self.old.place)) }
 
         // The calls and the failures are counted, and the rest stays.
         ensures calls { self.new.count.calls ≡ counted_up self.old.count.calls }
-        ensures faults { self.new.count.faults ≡ (if is_ok result then self.old.count.faults else counted_up self.old.count.faults) }
+        ensures faults { self.new.count.faults
+            ≡ (if is_ok result then self.old.count.faults else counted_up self.old.count.faults) }
         ensures fails_stay { self.new.count.fails ≡ self.old.count.fails }
         ensures most_stays { self.new.most ≡ self.old.most }
         ensures bytes_stay { self.new.bytes ≡ self.old.bytes }

@@ -27,8 +27,10 @@ impl UntoldShelf {
 
     // Counts a fault of the cloud.
     fn refuse(&mut self, cloud: CloudNo) -> Result<(), Failed>
-        ensures call { IsCall (untold self.old.faults self.old.armings) (untold self.new.faults self.new.armings) cloud.0 self.old.total self.new.total }
-        ensures failed { HasFailed (untold self.old.faults self.old.armings cloud.0) (untold self.new.faults self.new.armings cloud.0) self.old.total self.new.total }
+        ensures call { IsCall (untold self.old.faults self.old.armings)
+            (untold self.new.faults self.new.armings) cloud.0 self.old.total self.new.total }
+        ensures failed { HasFailed (untold self.old.faults self.old.armings cloud.0)
+            (untold self.new.faults self.new.armings cloud.0) self.old.total self.new.total }
         ensures refused { IsErr result }
     {
         let place = cloud.0 as usize;

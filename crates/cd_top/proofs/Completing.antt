@@ -1,7 +1,7 @@
 -- Where nothing fails, a replay answers 0 or runs out of memory: each other status has a cause that isn't there.
 use Rattle.std.proofs.Common.{◌≡◌, ◌<◌, ◌≤◌, ◌-◌, ◌^◌, ℕ, zero, suc, ◌+◌, true, false, List, [], ◌∷◌, length, Option, Some, None, Result, Ok, Err, inl, inr, refl, sym, ap, ◌∙◌, subst, arith}
 use Rattle.std.specs.Prelude.{◌≢◌, ◌⊎◌, IfSome, MatchOption, IsTrue}
-use Rattle.cd_base.specs.declared.rooms.Rooms.{Rooms}
+use Rattle.journal_start.specs.declared.rooms.Rooms.{Rooms}
 use Rattle.cd_base.specs.declared.shape.Shape.{Shape}
 use Rattle.cd_edges.specs.declared.area.Area.{Area}
 use Rattle.cd_edges.specs.Causes.{Rose}

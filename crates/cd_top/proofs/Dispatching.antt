@@ -1,6 +1,6 @@
 -- From what one command promises to what the words promise.
 use Rattle.std.proofs.Common.{◌≡◌, ℕ, List, sym, subst}
-use Rattle.command_words.specs.Asked.{AskedRead, AskedServe, AskedFile, AskedSession, Asked, ForReplay, ForRead, ForServe, ForBackup, ForRestore, ForGenerate}
+use Rattle.command_words.specs.Asked.{AskedRead, AskedServe, AskedFile, AskedSession, Asked, ForReplay, ForRead, ForServe, ForBackup, ForRestore, ForDelete, ForGenerate}
 use Rattle.command_words.specs.Commands.{IsCommand}
 use Rattle.cd_top.specs.Dispatch.{Each, Promises}
 use Rattle.cd_top.specs.Replay.{IsReplay}
@@ -27,6 +27,9 @@ module _ (one : Law) (words : List (List ℕ)) (asked : Asked) (is : IsCommand w
 
   pub is_restored : (f : AskedFile) → IsCommand words (ForRestore f) → each.restored f
   is_restored f other = promised (ForRestore f) other
+
+  pub is_deleted : (f : AskedFile) → IsCommand words (ForDelete f) → each.deleted f
+  is_deleted f other = promised (ForDelete f) other
 
   pub is_generated : (g : AskedSession) → IsCommand words (ForGenerate g) → each.generated g
   is_generated g other = promised (ForGenerate g) other

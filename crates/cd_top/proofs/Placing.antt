@@ -10,7 +10,10 @@ use Rattle.serve_command.specs.Served.{IsServed, Output}
 use Rattle.restore_command.specs.Calls.{OnlyDialled}
 use Rattle.restore_command.specs.Ends.{IsFetched}
 use Rattle.cd_top.specs.Serve.{HasServed, Serves, NoPlace, InPlace, serving}
-use Rattle.cd_top.specs.Clients.{Lines, Restores}
+use Rattle.delete_command.specs.Deleted.{IsDeleted}
+use Rattle.delete_command.specs.Writing as deletions
+use Rattle.ports_link.specs.Dialled.{OnlyDialled as OnlyThose}
+use Rattle.cd_top.specs.Clients.{Lines, Deletes, Restores}
 
 -- the place couldn't be made or found
 pub unplaced : (s : AskedServe) (out : Output) (old new : ℕ → Cloud) (total total_after : ℕ) (tells : Telling) (ports : ℕ)
@@ -66,6 +69,34 @@ restored_by status f l many before after faults now same fetched others told = r
     faults_before = l.faults_before;
     faults_after = l.faults_after;
   }) before after faults now) same fetched;
+  others = others;
+  told = told;
+}
+
+pub deleted_by : (status : ℕ) (f : AskedFile) (l : Lines) (many : ℕ) (out : deletions.Output) → many ≡ length f.addresses
+    → IsDeleted status (record {
+      user = f.user;
+      path = f.path;
+      version = f.version;
+      addresses = many;
+      before = l.before;
+      after = l.after;
+      faults_before = l.faults_before;
+      faults_after = l.faults_after;
+    }) out
+    → (IsTrue l.before.told → OnlyThose l.before l.after) → l.after.told ≡ l.before.told
+    → Deletes status f l out
+deleted_by status f l many out same deleted others told = record {
+  deleted = subst (λ (n : ℕ). IsDeleted status (record {
+    user = f.user;
+    path = f.path;
+    version = f.version;
+    addresses = n;
+    before = l.before;
+    after = l.after;
+    faults_before = l.faults_before;
+    faults_after = l.faults_after;
+  }) out) same deleted;
   others = others;
   told = told;
 }

@@ -2,14 +2,14 @@
 use Rattle.std.proofs.Common.{◌≡◌, ℕ, true, false, List, [], ◌∷◌, ◌++◌, Option, Some, None, Result, Ok, Err, inl, inr, refl, sym, ap, ◌∙◌, subst, subst₂, append-nil, arith}
 use Rattle.std.specs.Prelude.{IfSome}
 use Rattle.std.specs.Io.KnownBytes.{Appends}
-use Rattle.cd_base.specs.Limits.{greatest_rooms}
-use Rattle.cd_base.specs.declared.rooms.Rooms.{Rooms}
+use Rattle.journal_start.specs.Ranges.{usual_rooms}
+use Rattle.journal_start.specs.declared.rooms.Rooms.{Rooms}
 use Rattle.cd_base.specs.declared.shape.Shape.{Shape}
 use Rattle.cd_edges.specs.Causes.{Rose}
 use Rattle.cd_edges.specs.Disk.{Cloud, Image, IsImage}
 use Rattle.cd_edges.proofs.Moments.{left_alone, each_since}
-use Rattle.cloud_store.specs.Standing.{StandsForSome}
-use Rattle.share_server.proofs.NoCommands.{empty_stands}
+use Rattle.cloud_areas.specs.Peers.{StandsForSome}
+use Rattle.cloud_server.proofs.NoCommands.{empty_stands}
 use Rattle.local_link.specs.Calls.{header_of}
 use Rattle.session.specs.Fault.{Fault}
 use Rattle.session.specs.Lines.{next_line}
@@ -29,15 +29,15 @@ some_shape = record { n = 4; k = 3; several = omega arith; spare = omega arith; 
 
 abbrev said : Result (Shape × Rooms) Fault → Shape × Rooms
 said (Ok header) = header
-said (Err fault) = (some_shape, greatest_rooms)
+said (Err fault) = (some_shape, usual_rooms)
 
 abbrev said_by : Result (Option (List ℕ)) Fault → Shape × Rooms
 said_by (Ok (Some line)) = said (header_at line)
-said_by (Ok None) = (some_shape, greatest_rooms)
-said_by (Err fault) = (some_shape, greatest_rooms)
+said_by (Ok None) = (some_shape, usual_rooms)
+said_by (Err fault) = (some_shape, usual_rooms)
 
 abbrev head_of : Option (List ℕ) → Shape × Rooms
-head_of None = (some_shape, greatest_rooms)
+head_of None = (some_shape, usual_rooms)
 head_of (Some script) = said_by (next_line 0 script)
 
 head_is : (script : List ℕ) (shape : Shape) (rooms : Rooms) (place : Place) → Begins script shape rooms place → head_of (Some script) ≡ (shape, rooms)
@@ -75,11 +75,11 @@ module _ (call : Call) (same : (cloud : ℕ) → call.new cloud ≡ call.old clo
 
   disks : BeginsEmpty call.old → DisksStand run call.old call.new
   disks empty cloud lt told =
-      let here : (image : Image) → IsImage (call.old cloud).now image → StandsForSome (header_of run.setting.shape cloud) (λ list. list ≡ []) image =
-      λ image now. ([], refl, empty_stands image (header_of run.setting.shape cloud) (λ area. empty cloud image area told now)) in record {
-        now = λ image now. ([], inl refl, empty_stands image (header_of run.setting.shape cloud) (λ area. empty cloud image area told (subst (λ (c : Cloud). IsImage c.now image) (same cloud) now)));
+      let here : (image : Image) → IsImage (call.old cloud).now image → StandsForSome (header_of run.setting.shape run.setting.rooms cloud) (λ list. list ≡ []) image =
+      λ image now. ([], refl, empty_stands image (header_of run.setting.shape run.setting.rooms cloud) (λ area. empty cloud image area told now)) in record {
+        now = λ image now. ([], inl refl, empty_stands image (header_of run.setting.shape run.setting.rooms cloud) (λ area. empty cloud image area told (subst (λ (c : Cloud). IsImage c.now image) (same cloud) now)));
         each = λ image since.
-            let some = each_since (call.old cloud) (call.new cloud) (StandsForSome (header_of run.setting.shape cloud) (λ list. list ≡ []))
+            let some = each_since (call.old cloud) (call.new cloud) (StandsForSome (header_of run.setting.shape run.setting.rooms cloud) (λ list. list ≡ []))
             (left_alone (call.old cloud) (call.new cloud) _ (same cloud) here) image since in
             (some.0, inl (inl some.1), some.2);
       }

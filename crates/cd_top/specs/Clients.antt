@@ -1,4 +1,4 @@
--- What the words of a client promise: `backup USER PATH VERSION ADDR..` and `restore USER PATH VERSION ADDR..`.
+-- What the words of a client promise: `backup`, `restore` and `delete`, each with USER PATH VERSION ADDR..
 use Rattle.std.specs.Prelude.{◌≡◌, ℕ, IsTrue, Option, List, length}
 use Rattle.cd_edges.specs.Ports.{Telling}
 use Rattle.command_words.specs.Asked.{AskedFile}
@@ -6,6 +6,10 @@ use Rattle.backup_command.specs.BackedUp as backing
 use Rattle.backup_command.specs.BackedUp.{IsBackedUp}
 use Rattle.backup_command.specs.Reading.{Input}
 use Rattle.backup_command.specs.Writing.{Output}
+use Rattle.delete_command.specs.Deleted as deleting
+use Rattle.delete_command.specs.Deleted.{IsDeleted}
+use Rattle.delete_command.specs.Writing as deletions
+use Rattle.ports_link.specs.Dialled.{OnlyDialled}
 use Rattle.restore_command.specs.Calls as restoring
 use Rattle.restore_command.specs.Ends.{IsFetched}
 
@@ -59,4 +63,24 @@ pub record Restores (status : ℕ) (f : AskedFile) (l : Lines) (before after : O
     : Type 0 where
   pub fetched : IsFetched status (restore_of f l) before after faults now
   pub others : IsTrue l.before.told → restoring.OnlyDialled l.before l.after
+  pub told : l.after.told ≡ l.before.told
+
+-- what is asked to be deleted, over these ports
+abbrev pub delete_of : AskedFile → Lines → deleting.Call
+delete_of f l = record {
+  user = f.user;
+  path = f.path;
+  version = f.version;
+  addresses = length f.addresses;
+  before = l.before;
+  after = l.after;
+  faults_before = l.faults_before;
+  faults_after = l.faults_after;
+}
+
+-- A version was deleted at each cloud: what was sent, received and written, by the way it ended. Ports that were open
+-- before are as they were.
+pub record Deletes (status : ℕ) (f : AskedFile) (l : Lines) (out : deletions.Output) : Type 0 where
+  pub deleted : IsDeleted status (delete_of f l) out
+  pub others : IsTrue l.before.told → OnlyDialled l.before l.after
   pub told : l.after.told ≡ l.before.told

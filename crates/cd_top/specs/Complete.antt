@@ -2,7 +2,7 @@
 -- nothing that fails.
 use Rattle.std.specs.Prelude.{◌≡◌, ℕ, ◌-◌, ◌^◌, ◌<◌, List, Some, IsTrue}
 use Rattle.cd_base.specs.declared.shape.Shape.{Shape}
-use Rattle.cd_base.specs.declared.rooms.Rooms.{Rooms}
+use Rattle.journal_start.specs.declared.rooms.Rooms.{Rooms}
 use Rattle.cd_edges.specs.declared.area.Area.{Area}
 use Rattle.cd_edges.specs.Disk.{Cloud}
 use Rattle.session.specs.declared.event.Event.{Event}

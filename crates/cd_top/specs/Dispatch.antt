@@ -1,6 +1,6 @@
 -- What is promised of the words that are carried out.
 use Rattle.command_words.specs.Asked.{AskedRead, AskedServe, AskedFile, AskedSession, Asked}
-use Rattle.command_words.specs.Asked.{ForReplay, ForRead, ForServe, ForBackup, ForRestore, ForGenerate}
+use Rattle.command_words.specs.Asked.{ForReplay, ForRead, ForServe, ForBackup, ForRestore, ForDelete, ForGenerate}
 use Rattle.command_words.specs.Commands.{FitsRead, FitsServe, FitsFile, FitsSession}
 
 -- what is asked for is within its ranges
@@ -10,6 +10,7 @@ IsFit (ForRead r) = FitsRead r
 IsFit (ForServe s) = FitsServe s
 IsFit (ForBackup f) = FitsFile 3 f
 IsFit (ForRestore f) = FitsFile 2 f
+IsFit (ForDelete f) = FitsFile 3 f
 IsFit (ForGenerate g) = FitsSession g
 
 -- what each command promises
@@ -19,6 +20,7 @@ pub record Each : Type 1 where
   pub served : AskedServe → Type 0
   pub backed_up : AskedFile → Type 0
   pub restored : AskedFile → Type 0
+  pub deleted : AskedFile → Type 0
   pub generated : AskedSession → Type 0
 
 -- what a call promises of what is asked for
@@ -28,4 +30,5 @@ Promises (ForRead r) each = each.read r
 Promises (ForServe s) each = each.served s
 Promises (ForBackup f) each = each.backed_up f
 Promises (ForRestore f) each = each.restored f
+Promises (ForDelete f) each = each.deleted f
 Promises (ForGenerate g) each = each.generated g

@@ -1,7 +1,7 @@
 -- What the words `gen SEED FILES PIECES DIR` promise.
 use Rattle.std.specs.Prelude.{◌≡◌, ◌⊎◌, ℕ, ◌<◌, false, List, ◌++◌, length, Option}
 use Rattle.std.specs.Io.KnownBytes.{Appends}
-use Rattle.cd_base.specs.Limits.{greatest_rooms}
+use Rattle.journal_start.specs.Ranges.{usual_rooms}
 use Rattle.cd_edges.specs.Causes.{Rose}
 use Rattle.session.specs.declared.event.Event.{Event}
 use Rattle.session_model.specs.Kept.{uploads}
@@ -24,11 +24,11 @@ use Rattle.cd_top.specs.Replay.{ending_text, WritesFront}
 abbrev pub order_of : AskedSession → Order
 order_of g = record { seed = g.seed; files = g.files; pieces = g.pieces }
 
--- It is the generated session: over four clouds of which three give a file back, in the greatest rooms, and its lines
+-- It is the generated session: over four clouds of which three give a file back, in the usual rooms, and its lines
 -- are those that the generated lines begin with, one that was begun and not answered among them.
 pub record IsOrdered (order : Order) (run : Session) : Type 0 where
   pub shape : (run.setting.shape.n ≡ 4) × (run.setting.shape.k ≡ 3)
-  pub rooms : run.setting.rooms ≡ greatest_rooms
+  pub rooms : run.setting.rooms ≡ usual_rooms
   pub lines : (rest : List Event) × (script_in run ++ rest ≡ generated_lines order.seed order.files order.pieces)
 
 -- Why the session came to this end: all its lines were answered; or no cloud was opened, since the one that is named

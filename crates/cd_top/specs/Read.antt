@@ -42,7 +42,6 @@ status_of ends.NoMemory = 6
 status_of (ends.NotBegun cloud len) = 7
 status_of (ends.Damaged cloud at byte) = 7
 status_of (ends.Other cloud found) = 7
-status_of (ends.Rooms cloud room limit) = 7
 status_of ends.Refused = 8
 
 -- the bytes of its last line, which isn't written yet
@@ -52,7 +51,6 @@ last_line (ends.NotBegun cloud len) = ending_text (endings.NotBegun cloud len)
 last_line (ends.Damaged cloud at byte) = ending_text (endings.Damaged cloud at byte)
 last_line (ends.Other cloud found) =
     ending_text (endings.Other cloud found.format found.shape.n found.shape.k found.cloud)
-last_line (ends.Rooms cloud room limit) = ending_text (endings.Rooms cloud room limit)
 last_line end = []
 
 -- what lists give of the version that is asked for: any K of the clouds, and each choice of K of them

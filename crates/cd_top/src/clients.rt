@@ -1,15 +1,17 @@
-//! Backing up to clouds behind addresses, and restoring from them.
+//! Backing up to clouds behind addresses, restoring from them, and deleting there.
 
 ghost use Rattle.std.specs.Prelude.{◌≡◌};
 ghost use Rattle.command_words.specs.Commands.{FitsFile};
-ghost use Rattle.command_words.specs.Views.{asked_backup, asked_restore};
+ghost use Rattle.command_words.specs.Views.{asked_backup, asked_delete, asked_restore};
 ghost use Rattle.backup_command.specs.Reading.{input_of};
 ghost use Rattle.backup_command.specs.Writing.{output_of};
-ghost use Rattle.cd_top.specs.Clients.{BacksUp, Restores, lines_of};
+ghost use Rattle.delete_command.specs.Writing.{output_of as deletion_of};
+ghost use Rattle.cd_top.specs.Clients.{BacksUp, Deletes, Restores, lines_of};
 
 use backup_command::backup;
 use cd_edges::{Ports, Sink, Source};
-use command_words::{BackupWords, RestoreWords};
+use command_words::{BackupWords, DeleteWords, RestoreWords};
+use delete_command::delete;
 use restore_command::restore;
 use std::alloc::Global;
 
@@ -54,6 +56,30 @@ pub fn restore_from<K: Sink, P: Ports>(
         (K.written sink.old) (K.written sink.new) (K.faults sink.old) (K.faults sink.new) }
 {
     restore(
+        alloc,
+        asked.user,
+        asked.path,
+        asked.version,
+        asked.addresses,
+        sink,
+        ports,
+    )
+}
+
+/// Deletes the version that is asked for at the clouds behind the addresses, writes what each replied, and answers the
+/// status.
+pub fn delete_at<K: Sink, P: Ports>(
+    alloc: Global,
+    asked: &DeleteWords<'_>,
+    sink: &mut K,
+    ports: &mut P,
+) -> u8
+    requires { FitsFile 3 (asked_delete asked.now) }
+    ensures { Deletes result (asked_delete asked.now)
+        (lines_of (P.tells ports.old) (P.tells ports.new) (P.faults ports.old) (P.faults ports.new))
+        (deletion_of (K.written sink.old) (K.written sink.new) (K.faults sink.old) (K.faults sink.new)) }
+{
+    delete(
         alloc,
         asked.user,
         asked.path,

@@ -27,7 +27,6 @@ fn status_of(end: &ReadEnd) -> u8
         ReadEnd::NotBegun { .. } => 7,
         ReadEnd::Damaged { .. } => 7,
         ReadEnd::Other { .. } => 7,
-        ReadEnd::Rooms { .. } => 7,
         ReadEnd::Refused => 8,
     }
 }
@@ -54,11 +53,6 @@ fn last_line(end: &ReadEnd) -> Option<Ending>
             n: found.shape.n,
             k: found.shape.k,
             own: found.cloud,
-        }),
-        ReadEnd::Rooms { cloud, room, limit } => Some(Ending::Rooms {
-            cloud: *cloud,
-            room: *room,
-            limit: *limit,
         }),
         ReadEnd::ShelfFault { cloud } => Some(Ending::Shelf { cloud: *cloud }),
         ReadEnd::Done => None,

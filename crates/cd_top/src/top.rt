@@ -2,7 +2,7 @@
 
 ghost use Rattle.std.specs.Prelude.{◌≡◌, ◌≢◌, ◌≤◌, ◌⊎◌, ℕ, List, map, string_bytes};
 ghost use Rattle.command_words.specs.Asked.{AskedFile, AskedRead, AskedServe, AskedSession};
-ghost use Rattle.command_words.specs.Asked.{ForBackup, ForGenerate, ForRead, ForRestore, ForServe};
+ghost use Rattle.command_words.specs.Asked.{ForBackup, ForDelete, ForGenerate, ForRead, ForRestore, ForServe};
 ghost use Rattle.command_words.specs.Commands.{IsAnyCommand, IsCommand};
 ghost use Rattle.command_words.specs.Views.{asked_of};
 ghost use Rattle.replay_core.specs.Endings.{Call};
@@ -10,14 +10,15 @@ ghost use Rattle.cd_top.specs.Complete.{GoesWell};
 ghost use Rattle.backup_command.specs.Reading.{input_of};
 ghost use Rattle.backup_command.specs.Writing.{output_of as output_by};
 ghost use Rattle.serve_command.specs.Served.{output_of};
-ghost use Rattle.cd_top.specs.Clients.{BacksUp, Restores, lines_of};
+ghost use Rattle.delete_command.specs.Writing.{output_of as deletion_of};
+ghost use Rattle.cd_top.specs.Clients.{BacksUp, Deletes, Restores, lines_of};
 ghost use Rattle.cd_top.specs.Dispatch.{IsFit, Promises};
 ghost use Rattle.cd_top.specs.Generate.{IsGenerated};
 ghost use Rattle.cd_top.specs.Serve.{Serves, serving};
 ghost use Rattle.cd_top.specs.Read.{Around, IsRead};
 ghost use Rattle.cd_top.specs.Replay.{IsReplay, IsReplayed};
 
-use crate::clients::{backup_to, restore_from};
+use crate::clients::{backup_to, delete_at, restore_from};
 use crate::ending::finish;
 use crate::generate::generate_in;
 use crate::read::read_in;
@@ -99,6 +100,9 @@ fn carry_out<S: Source, K: Sink, V: Shelf, P: Ports>(
       restored = λ asked. (source.new ≡ source.old) × (shelf.new ≡ shelf.old) × Restores result asked
           (lines_of (P.tells ports.old) (P.tells ports.new) (P.faults ports.old) (P.faults ports.new))
           (K.written sink.old) (K.written sink.new) (K.faults sink.old) (K.faults sink.new);
+      deleted = λ asked. (source.new ≡ source.old) × (shelf.new ≡ shelf.old) × Deletes result asked
+          (lines_of (P.tells ports.old) (P.tells ports.new) (P.faults ports.old) (P.faults ports.new))
+          (deletion_of (K.written sink.old) (K.written sink.new) (K.faults sink.old) (K.faults sink.new));
       generated = λ asked. (source.new ≡ source.old) × (ports.new ≡ ports.old) × IsGenerated result (record {
         sink_before = K.faults sink.old;
         sink_after = K.faults sink.new;
@@ -115,6 +119,7 @@ fn carry_out<S: Source, K: Sink, V: Shelf, P: Ports>(
         Command::Serve(asked) => serve_in(alloc, asked, sink, shelf, ports),
         Command::Backup(asked) => backup_to(alloc, asked, source, sink, ports),
         Command::Restore(asked) => restore_from(alloc, asked, sink, ports),
+        Command::Delete(asked) => delete_at(alloc, asked, sink, ports),
         Command::Generate(asked) => generate_in(alloc, asked, sink, shelf),
     }
 }
@@ -129,12 +134,14 @@ fn carry_out<S: Source, K: Sink, V: Shelf, P: Ports>(
 /// | `serve DIR CLOUD N K ADDR COUNT` | serves COUNT connections to a cloud in DIR, which is begun if it is new |
 /// | `backup USER PATH VERSION ADDR..` | stores the source's bytes on the n clouds behind the addresses |
 /// | `restore USER PATH VERSION ADDR..` | writes a version of a file, from any k of the clouds behind the addresses |
+/// | `delete USER PATH VERSION ADDR..` | deletes a version of a file at the n clouds behind the addresses |
 /// | `gen SEED FILES PIECES DIR` | makes a session of FILES backups over four empty clouds in DIR, and writes its summary |
 ///
 /// | Status | Comes | Last line |
 /// |---|---|---|
 /// | 0 | the script was read to its end and each line answered | `done E` |
 /// | 0 | the file was written, or is stored on all clouds; COUNT connections were served | none, `end 1 stored`, `connection COUNT WORD` |
+/// | 0 | delete: each cloud replied that the version is deleted or missing | `deleted C`, `missing C` |
 /// | 0 | the generated session was made to its end | `equal X`, the last of six lines |
 /// | 1 | exactly where the words are none of the above; nothing is done then | none |
 /// | 2 | a line that was reached is wrong, or a limit is passed; all before it are answered | `script LINE PLACE BYTE` |
@@ -147,9 +154,9 @@ fn carry_out<S: Source, K: Sink, V: Shelf, P: Ports>(
 /// | 7 | read: a cloud has no store | `notbegun CLOUD LEN` |
 /// | 7 | read: a cloud's journal is damaged | `damaged CLOUD AT BYTE` |
 /// | 7 | read: a cloud is of another store, or another cloud of it | `other CLOUD FORMAT N K OWN`, as found |
-/// | 7 | read: a cloud has more than the greatest rooms | `rooms CLOUD ROOM LIMIT` |
 /// | 7 | serve: as for a read, but that a store that isn't there is begun | likewise |
 /// | 8 | read, restore: the clouds gave no file; backup, restore: a cloud isn't as asked | `refused ..` |
+/// | 8 | delete: a cloud isn't as asked; or one replied something else | `refused ..`; the last cloud's line |
 /// | 8 | backup: not every cloud has entered the version | `end 1 open` |
 /// | 9 | only where the ports' count of faults rose | none |
 ///
@@ -230,6 +237,12 @@ pub fn run<S: Source, K: Sink, V: Shelf, P: Ports>(
         → (source.new ≡ source.old) × (shelf.new ≡ shelf.old) × Restores result asked
         (lines_of (P.tells ports.old) (P.tells ports.new) (P.faults ports.old) (P.faults ports.new))
         (K.written sink.old) (K.written sink.new) (K.faults sink.old) (K.faults sink.new) }
+    // Each cloud is asked for the deletion once, and what is written follows from what came on the ports: 0 comes exactly
+    // where the version is deleted or missing at each. Source and shelf aren't touched.
+    ensures delete { (asked : AskedFile) → IsCommand (map string_bytes words.now) (ForDelete asked)
+        → (source.new ≡ source.old) × (shelf.new ≡ shelf.old) × Deletes result asked
+        (lines_of (P.tells ports.old) (P.tells ports.new) (P.faults ports.old) (P.faults ports.new))
+        (deletion_of (K.written sink.old) (K.written sink.new) (K.faults sink.old) (K.faults sink.new)) }
     // The session that is made is the generated one; the summary has its numbers, or what is written says why there is
     // none, and the status has its cause. Where nothing fails, it is made to its end or memory ran out. Source and ports
     // aren't touched.

@@ -16,13 +16,14 @@ const HELP: &str = "\
 usage: cdstore serve DIR CLOUD N K ADDR COUNT           serve a cloud in DIR, begun if new, for COUNT connections
        cdstore backup USER PATH VERSION ADDR..          store standard input on the n clouds at these addresses
        cdstore restore USER PATH VERSION ADDR..         write the version from any k of the clouds at these addresses
+       cdstore delete USER PATH VERSION ADDR..          delete the version at the n clouds at these addresses
        cdstore read DIR N K USER PATH VERSION CLOUDS    write the version from any k of these clouds' folders, such as 0,2,3
        cdstore replay DIR                               run the script on standard input over empty clouds in DIR
        cdstore gen SEED FILES PIECES DIR                run a generated session over four empty clouds in DIR, and sum it up
 
 N clouds, of which any K give a file back; addresses in the order of the clouds. A script's first line is
-`cdstore 1 N K`, or, with the most that each cloud may hold,
-`cdstore 1 N K SHARES RECIPES JOURNAL FPS OWNERS FILES`. The others are
+`cdstore 1 N K`, or, with how many users there are and the most that each may hold,
+`cdstore 1 N K USERS SHARES RECIPES OWNERS FILES`. The others are
   upload USER PATH VERSION BYTES   begin a job, numbered from 1; PATH and BYTES in hexadecimal, - for no bytes
   step JOB CLOUD                   make one request of the job to the cloud
   lose JOB CLOUD                   the same, but the request is lost

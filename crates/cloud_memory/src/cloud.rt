@@ -384,7 +384,14 @@ impl CloudMemory {
         ensures full { MatchResult result (λ _. full_commit rooms.now user (memory_of self.old) len ≡ None)
             (λ full. full_commit rooms.now user (memory_of self.old) len ≡ Some (seen full)) }
         ensures body { IfOk result (λ body. body
-            ≡ record { user = user; tag = tag; version = version; at = place_of self.old.recipes_end len; len = len; fp = fp }) }
+            ≡ record {
+              user = user;
+              tag = tag;
+              version = version;
+              at = place_of self.old.recipes_end len;
+              len = len;
+              fp = fp;
+            }) }
         ensures taken { IfOk result (λ body. memory_of self.new ≡ with_commit (fps_in recipe.now.items) body
             (memory_of self.old)) }
         ensures rooms { HasRooms rooms.now self.new }

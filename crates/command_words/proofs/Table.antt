@@ -21,7 +21,7 @@ use Rattle.session.proofs.Texts.{names_file_true, names_file_from}
 use Rattle.session.proofs.Events.{u32_reads, u64_reads}
 use Rattle.session.proofs.CloudTexts.{sources_reads}
 use Rattle.command_words.specs.Asked.{AskedRead, AskedServe, AskedFile, AskedSession, Asked, ForReplay, ForRead}
-use Rattle.command_words.specs.Asked.{ForServe, ForBackup, ForRestore, ForGenerate}
+use Rattle.command_words.specs.Asked.{ForServe, ForBackup, ForRestore, ForDelete, ForGenerate}
 use Rattle.command_words.specs.Commands.{read_words, serve_words, file_words, session_words, FitsRead, FitsServe}
 use Rattle.command_words.specs.Commands.{FitsFile, FitsSession, IsCommand}
 use Rattle.command_words.specs.Reading.{◌>>=◌, ◌▷◌, ◌▷▷◌, Gives, word_at, any, user, version, path, shape_at}
@@ -267,6 +267,7 @@ named_again rows.Read = refl
 named_again rows.Serve = refl
 named_again rows.Backup = refl
 named_again rows.Restore = refl
+named_again rows.Delete = refl
 named_again rows.Generate = refl
 
 row_spells : Spells named name (λ _. Unit {0})
@@ -308,6 +309,10 @@ row_takes rows.Restore words asked e =
     let a = as_some ForRestore (file_at 2 words) asked e in
     let t = file_takes 2 words a.0 a.1 in
     subst (IsCommand (name rows.Restore ∷ words)) a.2 (ap (λ (ws : List (List ℕ)). codes "restore" ∷ ws) t.0, t.1)
+row_takes rows.Delete words asked e =
+    let a = as_some ForDelete (file_at 3 words) asked e in
+    let t = file_takes 3 words a.0 a.1 in
+    subst (IsCommand (name rows.Delete ∷ words)) a.2 (ap (λ (ws : List (List ℕ)). codes "delete" ∷ ws) t.0, t.1)
 row_takes rows.Generate words asked e =
     let a = as_some ForGenerate (session_at words) asked e in
     let t = session_takes words a.0 a.1 in
@@ -338,6 +343,8 @@ command_again words (ForBackup f) h = ap command_at h.0
     ∙ by_row rows.Backup (file_words f) (ForBackup f) (ap (read_as ForBackup) (file_again 3 f h.1))
 command_again words (ForRestore f) h = ap command_at h.0
     ∙ by_row rows.Restore (file_words f) (ForRestore f) (ap (read_as ForRestore) (file_again 2 f h.1))
+command_again words (ForDelete f) h = ap command_at h.0
+    ∙ by_row rows.Delete (file_words f) (ForDelete f) (ap (read_as ForDelete) (file_again 3 f h.1))
 command_again words (ForGenerate g) h = ap command_at h.0
     ∙ by_row rows.Generate (session_words g) (ForGenerate g) (ap (read_as ForGenerate) (session_again g h.1))
 

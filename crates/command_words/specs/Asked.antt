@@ -43,4 +43,5 @@ pub data Asked : Type 0 where
   ForServe : (words : AskedServe) → Asked
   ForBackup : (words : AskedFile) → Asked
   ForRestore : (words : AskedFile) → Asked
+  ForDelete : (words : AskedFile) → Asked
   ForGenerate : (words : AskedSession) → Asked

@@ -5,7 +5,7 @@ use Rattle.cd_base.specs.declared.ids.UserId.{UserId}
 use Rattle.cd_base.specs.declared.ids.Version.{Version}
 use Rattle.session.specs.Spelling.{cloud_list, AreSources}
 use Rattle.command_words.specs.Asked.{AskedRead, AskedServe, AskedFile, AskedSession, Asked, ForReplay, ForRead}
-use Rattle.command_words.specs.Asked.{ForServe, ForBackup, ForRestore, ForGenerate}
+use Rattle.command_words.specs.Asked.{ForServe, ForBackup, ForRestore, ForDelete, ForGenerate}
 
 -- ---- the words behind the command's name
 
@@ -69,6 +69,7 @@ IsCommand words (ForRead r) = (words ≡ codes "read" ∷ read_words r) × FitsR
 IsCommand words (ForServe s) = (words ≡ codes "serve" ∷ serve_words s) × FitsServe s
 IsCommand words (ForBackup f) = (words ≡ codes "backup" ∷ file_words f) × FitsFile 3 f
 IsCommand words (ForRestore f) = (words ≡ codes "restore" ∷ file_words f) × FitsFile 2 f
+IsCommand words (ForDelete f) = (words ≡ codes "delete" ∷ file_words f) × FitsFile 3 f
 IsCommand words (ForGenerate g) = (words ≡ codes "gen" ∷ session_words g) × FitsSession g
 
 -- the words are one of the table

@@ -7,7 +7,7 @@ use Rattle.grammar.specs.Words.{keep}
 use Rattle.grammar.specs.Numerals.{number}
 use Rattle.session.specs.Reading.{names_file, needed, sources}
 use Rattle.command_words.specs.Asked.{AskedRead, AskedServe, AskedFile, AskedSession, Asked, ForReplay, ForRead}
-use Rattle.command_words.specs.Asked.{ForServe, ForBackup, ForRestore, ForGenerate}
+use Rattle.command_words.specs.Asked.{ForServe, ForBackup, ForRestore, ForDelete, ForGenerate}
 use Rattle.command_words.specs.declared.rows.Row.{Row}
 use Rattle.command_words.specs.declared.rows.Row.TheVariants as rows
 
@@ -144,10 +144,11 @@ name rows.Read = codes "read"
 name rows.Serve = codes "serve"
 name rows.Backup = codes "backup"
 name rows.Restore = codes "restore"
+name rows.Delete = codes "delete"
 name rows.Generate = codes "gen"
 
 abbrev pub all_rows : List Row
-all_rows = rows.Replay ∷ rows.Read ∷ rows.Serve ∷ rows.Backup ∷ rows.Restore ∷ rows.Generate ∷ []
+all_rows = rows.Replay ∷ rows.Read ∷ rows.Serve ∷ rows.Backup ∷ rows.Restore ∷ rows.Delete ∷ rows.Generate ∷ []
 
 abbrev pub named : List ℕ → Option Row
 named word = find (λ row. bytes_eq word (name row)) all_rows
@@ -162,6 +163,7 @@ row_at rows.Read words = read_as ForRead (read_at words)
 row_at rows.Serve words = read_as ForServe (serve_at words)
 row_at rows.Backup words = read_as ForBackup (file_at 3 words)
 row_at rows.Restore words = read_as ForRestore (file_at 2 words)
+row_at rows.Delete words = read_as ForDelete (file_at 3 words)
 row_at rows.Generate words = read_as ForGenerate (session_at words)
 
 -- what all the words ask for

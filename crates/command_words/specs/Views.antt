@@ -6,9 +6,10 @@ use Rattle.command_words.specs.declared.command.ReadWords.{ReadWords}
 use Rattle.command_words.specs.declared.command.ServeWords.{ServeWords}
 use Rattle.command_words.specs.declared.command.BackupWords.{BackupWords}
 use Rattle.command_words.specs.declared.command.RestoreWords.{RestoreWords}
+use Rattle.command_words.specs.declared.command.DeleteWords.{DeleteWords}
 use Rattle.command_words.specs.declared.command.GenerateWords.{GenerateWords}
 use Rattle.command_words.specs.Asked.{AskedRead, AskedServe, AskedFile, AskedSession, Asked, ForReplay, ForRead}
-use Rattle.command_words.specs.Asked.{ForServe, ForBackup, ForRestore, ForGenerate}
+use Rattle.command_words.specs.Asked.{ForServe, ForBackup, ForRestore, ForDelete, ForGenerate}
 
 abbrev pub asked_read : ReadWords → AskedRead
 asked_read r = record {
@@ -45,6 +46,14 @@ asked_restore f = record {
   addresses = map string_bytes f.addresses.now;
 }
 
+abbrev pub asked_delete : DeleteWords → AskedFile
+asked_delete f = record {
+  user = f.user;
+  path = f.path.now;
+  version = f.version;
+  addresses = map string_bytes f.addresses.now;
+}
+
 abbrev pub asked_session : GenerateWords → AskedSession
 asked_session g = record { seed = g.seed; files = g.files; pieces = g.pieces; directory = g.directory.now }
 
@@ -54,4 +63,5 @@ asked_of (commands.Read words) = ForRead (asked_read words)
 asked_of (commands.Serve words) = ForServe (asked_serve words)
 asked_of (commands.Backup words) = ForBackup (asked_backup words)
 asked_of (commands.Restore words) = ForRestore (asked_restore words)
+asked_of (commands.Delete words) = ForDelete (asked_delete words)
 asked_of (commands.Generate words) = ForGenerate (asked_session words)

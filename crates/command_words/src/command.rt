@@ -15,6 +15,8 @@ pub enum Command<'a> {
     Backup(BackupWords<'a>),
     /// A version of a file from k clouds or more behind addresses.
     Restore(RestoreWords<'a>),
+    /// A version of a file out of n clouds behind addresses.
+    Delete(DeleteWords<'a>),
     /// A session that a number gives.
     Generate(GenerateWords<'a>),
 }
@@ -74,6 +76,19 @@ pub struct RestoreWords<'a> {
     /// The version.
     pub version: Version,
     /// Where k clouds or more listen, in the order of the clouds: 2 to 16 words.
+    pub addresses: &'a [String],
+}
+
+/// `delete USER PATH VERSION ADDR..`.
+#[derive(Clone, Copy, Debug)]
+pub struct DeleteWords<'a> {
+    /// Whose file it is.
+    pub user: UserId,
+    /// The file's path: the word's own bytes, 1 to 1,024 of them, none zero.
+    pub path: &'a [u8],
+    /// The version.
+    pub version: Version,
+    /// Where the n clouds listen, in their order: 3 to 16 words.
     pub addresses: &'a [String],
 }
 

@@ -6,6 +6,8 @@ mod fields;
 mod laws;
 mod rows;
 
-pub use command::{BackupWords, Command, GenerateWords, ReadWords, RestoreWords, ServeWords};
+pub use command::{
+    BackupWords, Command, DeleteWords, GenerateWords, ReadWords, RestoreWords, ServeWords,
+};
 pub use laws::law_of_words;
 pub use rows::read_words;

@@ -7,10 +7,12 @@ ghost use Rattle.command_words.specs.Asked.{Asked, AskedRead, ForReplay, ForRead
 ghost use Rattle.command_words.specs.Commands.{IsCommand};
 ghost use Rattle.command_words.specs.Reading.{Gives, named, replay_at, read_at, serve_at, file_at, session_at};
 ghost use Rattle.command_words.specs.Reading.{row_at, word_at};
-ghost use Rattle.command_words.specs.Views.{asked_read, asked_serve, asked_backup, asked_restore, asked_session};
-ghost use Rattle.command_words.specs.Views.{asked_of};
+ghost use Rattle.command_words.specs.Views.{asked_read, asked_serve, asked_backup, asked_restore, asked_delete};
+ghost use Rattle.command_words.specs.Views.{asked_session, asked_of};
 
-use crate::command::{BackupWords, Command, GenerateWords, ReadWords, RestoreWords, ServeWords};
+use crate::command::{
+    BackupWords, Command, DeleteWords, GenerateWords, ReadWords, RestoreWords, ServeWords,
+};
 use crate::fields::{
     any_word, clouds_of, clouds_word, no_word, number_word, path_word, shape_words,
 };
@@ -25,6 +27,7 @@ enum Row {
     Serve,
     Backup,
     Restore,
+    Delete,
     Generate,
 }
 
@@ -42,6 +45,8 @@ fn named_by(word: &str) -> Option<Row>
         Some(Row::Backup)
     } else if word == "restore" {
         Some(Row::Restore)
+    } else if word == "delete" {
+        Some(Row::Delete)
     } else if word == "gen" {
         Some(Row::Generate)
     } else {
@@ -182,6 +187,23 @@ fn restore_of(words: &[String]) -> Option<RestoreWords<'_>>
     })
 }
 
+fn delete_of(words: &[String]) -> Option<DeleteWords<'_>>
+    ensures { Gives asked_delete result (file_at 3 (map string_bytes words.now)) }
+{
+    let BackupWords {
+        user,
+        path,
+        version,
+        addresses,
+    } = file_of(words, 3)?;
+    Some(DeleteWords {
+        user,
+        path,
+        version,
+        addresses,
+    })
+}
+
 #[tactic(auto, unfolding(crate::specs::Reading::session_at))]
 fn session_of(words: &[String]) -> Option<GenerateWords<'_>>
     ensures { Gives asked_session result (session_at (map string_bytes words.now)) }
@@ -231,6 +253,7 @@ fn row_of(alloc: Global, row: Row, words: &[String]) -> Result<Option<Command<'_
         Row::Serve => Ok(serve_of(words).map(Command::Serve)),
         Row::Backup => Ok(file_of(words, 3).map(Command::Backup)),
         Row::Restore => Ok(restore_of(words).map(Command::Restore)),
+        Row::Delete => Ok(delete_of(words).map(Command::Delete)),
         Row::Generate => Ok(session_of(words).map(Command::Generate)),
     }
 }
@@ -244,6 +267,7 @@ fn row_of(alloc: Global, row: Row, words: &[String]) -> Result<Option<Command<'_
 /// | `serve DIR CLOUD N K ADDR COUNT` | CLOUD: below N. COUNT: 1 to 4,294,967,295 |
 /// | `backup USER PATH VERSION ADDR..` | 3 to 16 addresses |
 /// | `restore USER PATH VERSION ADDR..` | 2 to 16 addresses |
+/// | `delete USER PATH VERSION ADDR..` | 3 to 16 addresses |
 /// | `gen SEED FILES PIECES DIR` | FILES: 1 to 1,000. PIECES: 1 to 8,192. Their product: at most 131,072 |
 ///
 /// A number is decimal, without leading zeros. N and K obey `2 <= K < N <= 16`; USER is below 2^32, VERSION and SEED

@@ -67,7 +67,8 @@ impl Header {
 
     /// The header of these bytes, or the first place at which they are none.
     pub fn read(body: &[u8]) -> Result<Header, HeaderFault>
-        ensures { MatchResult result (λ header. IsWritten header × (body.now ≡ header_bytes header)) (IsFault body.now) }
+        ensures { MatchResult result (λ header. IsWritten header
+            × (body.now ≡ header_bytes header)) (IsFault body.now) }
     {
         read_front(body)?;
         if body.len() < 7 {

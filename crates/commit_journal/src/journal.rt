@@ -136,20 +136,26 @@ impl Journal {
     /// the length and its byte). Failed comes only where the cloud's count of faults rose. After an Err only `reopen` may
     /// be called.
     ///
-    /// It makes one device call at most, and none where the record was read ahead. A call reads from the record's gate on as
-    /// much as the window takes, which is 64 KiB and a record's frame.
+    /// It makes one device call at most, and none where the record was read ahead: by its body, no clause counts reads. A call
+    /// reads from the record's gate on as much as the window takes, which is 64 KiB and a record's frame.
     pub fn next<V: Shelf>(&mut self, shelf: &mut V, cloud: CloudNo) -> Result<bool, JournalErr>
         requires { (state_of self.old).stage ≢ Stage.Shut }
-        ensures reads { IsTrue (V.cloud_at shelf.old cloud.0).told → (bodies : List (List ℕ)) → IsReading (state_of self.old) ((V.cloud_at shelf.old cloud.0).now Area.Journal) bodies
-            → NextIs (state_of self.old) (state_of self.new) ((V.cloud_at shelf.new cloud.0).now Area.Journal) bodies result }
+        ensures reads { IsTrue (V.cloud_at shelf.old cloud.0).told → (bodies : List (List ℕ))
+            → IsReading (state_of self.old) ((V.cloud_at shelf.old cloud.0).now Area.Journal) bodies
+            → NextIs (state_of self.old) (state_of self.new)
+            ((V.cloud_at shelf.new cloud.0).now Area.Journal) bodies result }
         ensures step { StepIs (state_of self.old) (state_of self.new) result }
         ensures gate { OnOk result (HasGate (state_of self.new)) }
         ensures end { (state_of self.new).end ≡ (state_of self.old).end }
         ensures stage { (state_of self.new).stage ≡ stage_of result }
         ensures limit { (state_of self.new).limit ≡ (state_of self.old).limit }
         ensures stays { Stays (V.cloud_at shelf.old cloud.0) (V.cloud_at shelf.new cloud.0) }
-        ensures call { IsCall (V.cloud_at shelf.old) (V.cloud_at shelf.new) cloud.0 (V.faults shelf.old) (V.faults shelf.new) }
-        ensures counts { OnFailed result (HasFailed (V.cloud_at shelf.old cloud.0) (V.cloud_at shelf.new cloud.0) (V.faults shelf.old) (V.faults shelf.new)) (KeepsCounts (V.cloud_at shelf.old cloud.0) (V.cloud_at shelf.new cloud.0) (V.faults shelf.old) (V.faults shelf.new)) }
+        ensures call { IsCall (V.cloud_at shelf.old) (V.cloud_at shelf.new) cloud.0 (V.faults shelf.old)
+            (V.faults shelf.new) }
+        ensures counts { OnFailed result (HasFailed (V.cloud_at shelf.old cloud.0) (V.cloud_at shelf.new cloud.0)
+            (V.faults shelf.old) (V.faults shelf.new))
+            (KeepsCounts (V.cloud_at shelf.old cloud.0) (V.cloud_at shelf.new cloud.0) (V.faults shelf.old)
+            (V.faults shelf.new)) }
     {
         match self.look(shelf, cloud) {
             Ok(frame) => self.take(frame),
@@ -175,21 +181,33 @@ impl Journal {
         requires some { 1 ≤ length body.now }
         requires few { length body.now ≤ 65535 }
 
-        ensures any_moment { IsTrue (V.cloud_at shelf.old cloud.0).told → (bodies : List (List ℕ)) → IsEnded (state_of self.old) ((V.cloud_at shelf.old cloud.0).now Area.Journal) bodies
-            → LeavesOnly (V.cloud_at shelf.old cloud.0) (V.cloud_at shelf.new cloud.0) (IsAtArea (V.cloud_at shelf.old cloud.0).now Area.Journal (IsBeforeOrAfter bodies body.now)) }
-        ensures added { IsTrue (V.cloud_at shelf.old cloud.0).told → (bodies : List (List ℕ)) → IsEnded (state_of self.old) ((V.cloud_at shelf.old cloud.0).now Area.Journal) bodies
-            → OnOk result (IsEnded (state_of self.new) ((V.cloud_at shelf.new cloud.0).now Area.Journal) (bodies ++ body.now ∷ [])) }
-        ensures others { IsTrue (V.cloud_at shelf.old cloud.0).told → OnOk result ((other : Area) → other ≢ Area.Journal → (V.cloud_at shelf.new cloud.0).now other ≡ (V.cloud_at shelf.old cloud.0).now other) }
+        ensures any_moment { IsTrue (V.cloud_at shelf.old cloud.0).told → (bodies : List (List ℕ))
+            → IsEnded (state_of self.old) ((V.cloud_at shelf.old cloud.0).now Area.Journal) bodies
+            → LeavesOnly (V.cloud_at shelf.old cloud.0) (V.cloud_at shelf.new cloud.0)
+            (IsAtArea (V.cloud_at shelf.old cloud.0).now Area.Journal (IsBeforeOrAfter bodies body.now)) }
+        ensures added { IsTrue (V.cloud_at shelf.old cloud.0).told → (bodies : List (List ℕ))
+            → IsEnded (state_of self.old) ((V.cloud_at shelf.old cloud.0).now Area.Journal) bodies
+            → OnOk result (IsEnded (state_of self.new) ((V.cloud_at shelf.new cloud.0).now Area.Journal)
+            (bodies ++ body.now ∷ [])) }
+        ensures others { IsTrue (V.cloud_at shelf.old cloud.0).told
+            → OnOk result ((other : Area) → other ≢ Area.Journal
+            → (V.cloud_at shelf.new cloud.0).now other ≡ (V.cloud_at shelf.old cloud.0).now other) }
 
-        ensures moments { IsTrue (V.cloud_at shelf.old cloud.0).told → OnOk result (moment (V.cloud_at shelf.new cloud.0) ≡ moment (V.cloud_at shelf.old cloud.0) + 4) }
+        ensures moments { IsTrue (V.cloud_at shelf.old cloud.0).told
+            → OnOk result (moment (V.cloud_at shelf.new cloud.0) ≡ moment (V.cloud_at shelf.old cloud.0) + 4) }
 
         ensures full { AppendIs (state_of self.old).limit ((state_of self.old).gate + 1) (length body.now + 5) result }
-        ensures full_alone { (state_of self.old).limit < (state_of self.old).gate + 1 + (length body.now + 5) → (shelf.new ≡ shelf.old) × (self.new ≡ self.old) }
+        ensures full_alone { (state_of self.old).limit < (state_of self.old).gate + 1 + (length body.now + 5)
+            → (shelf.new ≡ shelf.old) × (self.new ≡ self.old) }
         ensures gate { OnOk result ((state_of self.new).gate ≡ (state_of self.old).gate + 5 + length body.now) }
         ensures stage { (state_of self.new).stage ≡ stage_appended result }
         ensures limit { (state_of self.new).limit ≡ (state_of self.old).limit }
-        ensures call { IsCall (V.cloud_at shelf.old) (V.cloud_at shelf.new) cloud.0 (V.faults shelf.old) (V.faults shelf.new) }
-        ensures counts { OnFailed result (HasFailed (V.cloud_at shelf.old cloud.0) (V.cloud_at shelf.new cloud.0) (V.faults shelf.old) (V.faults shelf.new)) (KeepsCounts (V.cloud_at shelf.old cloud.0) (V.cloud_at shelf.new cloud.0) (V.faults shelf.old) (V.faults shelf.new)) }
+        ensures call { IsCall (V.cloud_at shelf.old) (V.cloud_at shelf.new) cloud.0 (V.faults shelf.old)
+            (V.faults shelf.new) }
+        ensures counts { OnFailed result (HasFailed (V.cloud_at shelf.old cloud.0) (V.cloud_at shelf.new cloud.0)
+            (V.faults shelf.old) (V.faults shelf.new))
+            (KeepsCounts (V.cloud_at shelf.old cloud.0) (V.cloud_at shelf.new cloud.0) (V.faults shelf.old)
+            (V.faults shelf.new)) }
     {
         let need = body.len() as u64 + 5;
         let used = self.gate + 1;
@@ -217,18 +235,28 @@ impl Journal {
         requires few { length body.now ≤ 65535 }
         requires room { self.old.gate + length body.now + 6 < 2 ^ 64 }
 
-        ensures any_moment { IsTrue (V.cloud_at shelf.old cloud.0).told → (bodies : List (List ℕ)) → IsEnded (state_of self.old) ((V.cloud_at shelf.old cloud.0).now Area.Journal) bodies
-            → LeavesOnly (V.cloud_at shelf.old cloud.0) (V.cloud_at shelf.new cloud.0) (IsAtArea (V.cloud_at shelf.old cloud.0).now Area.Journal (IsBeforeOrAfter bodies body.now)) }
-        ensures added { IsTrue (V.cloud_at shelf.old cloud.0).told → (bodies : List (List ℕ)) → IsEnded (state_of self.old) ((V.cloud_at shelf.old cloud.0).now Area.Journal) bodies
-            → OnOk result (IsEnded (state_of self.new) ((V.cloud_at shelf.new cloud.0).now Area.Journal) (bodies ++ body.now ∷ [])) }
-        ensures others { IsTrue (V.cloud_at shelf.old cloud.0).told → OnOk result ((other : Area) → other ≢ Area.Journal → (V.cloud_at shelf.new cloud.0).now other ≡ (V.cloud_at shelf.old cloud.0).now other) }
-        ensures moments { IsTrue (V.cloud_at shelf.old cloud.0).told → OnOk result (moment (V.cloud_at shelf.new cloud.0) ≡ moment (V.cloud_at shelf.old cloud.0) + 4) }
+        ensures any_moment { IsTrue (V.cloud_at shelf.old cloud.0).told → (bodies : List (List ℕ))
+            → IsEnded (state_of self.old) ((V.cloud_at shelf.old cloud.0).now Area.Journal) bodies
+            → LeavesOnly (V.cloud_at shelf.old cloud.0) (V.cloud_at shelf.new cloud.0)
+            (IsAtArea (V.cloud_at shelf.old cloud.0).now Area.Journal (IsBeforeOrAfter bodies body.now)) }
+        ensures added { IsTrue (V.cloud_at shelf.old cloud.0).told → (bodies : List (List ℕ))
+            → IsEnded (state_of self.old) ((V.cloud_at shelf.old cloud.0).now Area.Journal) bodies
+            → OnOk result (IsEnded (state_of self.new) ((V.cloud_at shelf.new cloud.0).now Area.Journal)
+            (bodies ++ body.now ∷ [])) }
+        ensures others { IsTrue (V.cloud_at shelf.old cloud.0).told
+            → OnOk result ((other : Area) → other ≢ Area.Journal
+            → (V.cloud_at shelf.new cloud.0).now other ≡ (V.cloud_at shelf.old cloud.0).now other) }
+        ensures moments { IsTrue (V.cloud_at shelf.old cloud.0).told
+            → OnOk result (moment (V.cloud_at shelf.new cloud.0) ≡ moment (V.cloud_at shelf.old cloud.0) + 4) }
         ensures gate { OnOk result (self.new.gate ≡ self.old.gate + 5 + length body.now) }
         ensures stage { self.new.stage ≡ (if is_ok result then Stage.AtEnd else Stage.Shut) }
         ensures limit { self.new.limit ≡ self.old.limit }
-        ensures call { IsCall (V.cloud_at shelf.old) (V.cloud_at shelf.new) cloud.0 (V.faults shelf.old) (V.faults shelf.new) }
-        ensures failed { OnErr result (HasFailed (V.cloud_at shelf.old cloud.0) (V.cloud_at shelf.new cloud.0) (V.faults shelf.old) (V.faults shelf.new)) }
-        ensures uncounted { OnOk result (KeepsCounts (V.cloud_at shelf.old cloud.0) (V.cloud_at shelf.new cloud.0) (V.faults shelf.old) (V.faults shelf.new)) }
+        ensures call { IsCall (V.cloud_at shelf.old) (V.cloud_at shelf.new) cloud.0 (V.faults shelf.old)
+            (V.faults shelf.new) }
+        ensures failed { OnErr result (HasFailed (V.cloud_at shelf.old cloud.0) (V.cloud_at shelf.new cloud.0)
+            (V.faults shelf.old) (V.faults shelf.new)) }
+        ensures uncounted { OnOk result (KeepsCounts (V.cloud_at shelf.old cloud.0) (V.cloud_at shelf.new cloud.0)
+            (V.faults shelf.old) (V.faults shelf.new)) }
     {
         self.stage = Stage::Shut;
         self.fill(body);
@@ -246,7 +274,8 @@ impl Journal {
     fn fill(&mut self, body: &[u8])
         requires few { length body.now ≤ 65535 }
         ensures framed { take (length body.now + 5) self.new.buffer.items ≡ framed body.now }
-        ensures rest { (self.new.gate ≡ self.old.gate) × (self.new.end ≡ self.old.end) × (self.new.limit ≡ self.old.limit) × (self.new.stage ≡ self.old.stage) }
+        ensures rest { (self.new.gate ≡ self.old.gate) × (self.new.end ≡ self.old.end)
+            × (self.new.limit ≡ self.old.limit) × (self.new.stage ≡ self.old.stage) }
         ensures ahead { (state_of self.new).ahead ≡ [] }
     {
         self.from = 0;
@@ -265,12 +294,18 @@ impl Journal {
 
     // Reads from the gate on as much as the window takes.
     pub(crate) fn load<V: Shelf>(&mut self, shelf: &mut V, cloud: CloudNo) -> Result<(), Failed>
-        ensures ahead { IsTrue (V.cloud_at shelf.old cloud.0).told → OnOk result ((state_of self.new).ahead ≡ take 65541 (drop self.old.gate ((V.cloud_at shelf.old cloud.0).now Area.Journal).read)) }
-        ensures rest { (self.new.gate ≡ self.old.gate) × (self.new.end ≡ self.old.end) × (self.new.limit ≡ self.old.limit) × (self.new.stage ≡ self.old.stage) }
+        ensures ahead { IsTrue (V.cloud_at shelf.old cloud.0).told
+            → OnOk result ((state_of self.new).ahead
+            ≡ take 65541 (drop self.old.gate ((V.cloud_at shelf.old cloud.0).now Area.Journal).read)) }
+        ensures rest { (self.new.gate ≡ self.old.gate) × (self.new.end ≡ self.old.end)
+            × (self.new.limit ≡ self.old.limit) × (self.new.stage ≡ self.old.stage) }
         ensures stays { Stays (V.cloud_at shelf.old cloud.0) (V.cloud_at shelf.new cloud.0) }
-        ensures call { IsCall (V.cloud_at shelf.old) (V.cloud_at shelf.new) cloud.0 (V.faults shelf.old) (V.faults shelf.new) }
-        ensures failed { OnErr result (HasFailed (V.cloud_at shelf.old cloud.0) (V.cloud_at shelf.new cloud.0) (V.faults shelf.old) (V.faults shelf.new)) }
-        ensures uncounted { OnOk result (KeepsCounts (V.cloud_at shelf.old cloud.0) (V.cloud_at shelf.new cloud.0) (V.faults shelf.old) (V.faults shelf.new)) }
+        ensures call { IsCall (V.cloud_at shelf.old) (V.cloud_at shelf.new) cloud.0 (V.faults shelf.old)
+            (V.faults shelf.new) }
+        ensures failed { OnErr result (HasFailed (V.cloud_at shelf.old cloud.0) (V.cloud_at shelf.new cloud.0)
+            (V.faults shelf.old) (V.faults shelf.new)) }
+        ensures uncounted { OnOk result (KeepsCounts (V.cloud_at shelf.old cloud.0) (V.cloud_at shelf.new cloud.0)
+            (V.faults shelf.old) (V.faults shelf.new)) }
     {
         self.from = 0;
         self.filled = 0;
@@ -284,13 +319,20 @@ impl Journal {
     // Tells what stands at the gate, and reads it where too little was read ahead.
     fn look<V: Shelf>(&mut self, shelf: &mut V, cloud: CloudNo) -> Result<Frame, Failed>
         ensures frame { IfOk result (IsFrame (state_of self.new).ahead) }
-        ensures ahead { IsTrue (V.cloud_at shelf.old cloud.0).told → (rest : List ℕ) → rest ≡ drop self.old.gate ((V.cloud_at shelf.old cloud.0).now Area.Journal).read → IsWindow (state_of self.old) rest
-            → IfOk result (λ frame. IsWindow (state_of self.new) rest × (frame ≡ Frame.Short → (state_of self.new).ahead ≡ rest)) }
-        ensures rest { (self.new.gate ≡ self.old.gate) × (self.new.end ≡ self.old.end) × (self.new.limit ≡ self.old.limit) × (self.new.stage ≡ self.old.stage) }
+        ensures ahead { IsTrue (V.cloud_at shelf.old cloud.0).told → (rest : List ℕ)
+            → rest ≡ drop self.old.gate ((V.cloud_at shelf.old cloud.0).now Area.Journal).read
+            → IsWindow (state_of self.old) rest
+            → IfOk result (λ frame. IsWindow (state_of self.new) rest
+            × (frame ≡ Frame.Short → (state_of self.new).ahead ≡ rest)) }
+        ensures rest { (self.new.gate ≡ self.old.gate) × (self.new.end ≡ self.old.end)
+            × (self.new.limit ≡ self.old.limit) × (self.new.stage ≡ self.old.stage) }
         ensures stays { Stays (V.cloud_at shelf.old cloud.0) (V.cloud_at shelf.new cloud.0) }
-        ensures call { IsCall (V.cloud_at shelf.old) (V.cloud_at shelf.new) cloud.0 (V.faults shelf.old) (V.faults shelf.new) }
-        ensures failed { OnErr result (HasFailed (V.cloud_at shelf.old cloud.0) (V.cloud_at shelf.new cloud.0) (V.faults shelf.old) (V.faults shelf.new)) }
-        ensures uncounted { OnOk result (KeepsCounts (V.cloud_at shelf.old cloud.0) (V.cloud_at shelf.new cloud.0) (V.faults shelf.old) (V.faults shelf.new)) }
+        ensures call { IsCall (V.cloud_at shelf.old) (V.cloud_at shelf.new) cloud.0 (V.faults shelf.old)
+            (V.faults shelf.new) }
+        ensures failed { OnErr result (HasFailed (V.cloud_at shelf.old cloud.0) (V.cloud_at shelf.new cloud.0)
+            (V.faults shelf.old) (V.faults shelf.new)) }
+        ensures uncounted { OnOk result (KeepsCounts (V.cloud_at shelf.old cloud.0) (V.cloud_at shelf.new cloud.0)
+            (V.faults shelf.old) (V.faults shelf.new)) }
     {
         let frame = frame_of(self.ahead());
         if frame != Frame::Short {
@@ -304,7 +346,9 @@ impl Journal {
     pub(crate) fn take(&mut self, frame: Frame) -> Result<bool, JournalErr>
         requires frame { IsFrame (state_of self.old).ahead frame }
         requires within { self.old.gate < self.old.end }
-        ensures taken { (rest : List ℕ) → IsWindow (state_of self.old) rest → (frame ≡ Frame.Short → (state_of self.old).ahead ≡ rest) → self.old.gate + length rest ≡ self.old.end → 0 < length rest
+        ensures taken { (rest : List ℕ) → IsWindow (state_of self.old) rest
+            → (frame ≡ Frame.Short → (state_of self.old).ahead ≡ rest) → self.old.gate + length rest ≡ self.old.end
+            → 0 < length rest
             → TakenIs (state_of self.old) (state_of self.new) rest result }
         ensures step { StepIs (state_of self.old) (state_of self.new) result }
         ensures handled { IsHandled result }

@@ -68,20 +68,36 @@ impl Journal {
     ) -> Result<(), OpenErr>
         requires { IsWritten asked.now }
 
-        ensures any_moment { IsTrue (V.cloud_at shelf.old cloud.0).told → LeavesOnly (V.cloud_at shelf.old cloud.0) (V.cloud_at shelf.new cloud.0)
+        ensures any_moment { IsTrue (V.cloud_at shelf.old cloud.0).told
+            → LeavesOnly (V.cloud_at shelf.old cloud.0) (V.cloud_at shelf.new cloud.0)
             (MayBecome (V.cloud_at shelf.old cloud.0).now asked.now begin) }
-        ensures opens { IsTrue (V.cloud_at shelf.old cloud.0).told → OpensIs ((V.cloud_at shelf.old cloud.0).now Area.Journal).read asked.now begin result }
-        ensures opened { IsTrue (V.cloud_at shelf.old cloud.0).told → OnOk result (IsReading (state_of self.new) ((V.cloud_at shelf.new cloud.0).now Area.Journal) (header_bytes asked.now ∷ [])) }
-        ensures begun { IsTrue (V.cloud_at shelf.old cloud.0).told → OnOk result (is_begun ((V.cloud_at shelf.old cloud.0).now Area.Journal).read ≡ true → ((V.cloud_at shelf.new cloud.0).now Area.Journal).read ≡ ((V.cloud_at shelf.old cloud.0).now Area.Journal).read) }
-        ensures unbegun { IsTrue (V.cloud_at shelf.old cloud.0).told → OnOk result (is_begun ((V.cloud_at shelf.old cloud.0).now Area.Journal).read ≡ false → IsEnded (state_of self.new) ((V.cloud_at shelf.new cloud.0).now Area.Journal) (header_bytes asked.now ∷ [])) }
-        ensures others { IsTrue (V.cloud_at shelf.old cloud.0).told → OnOk result ((other : Area) → other ≢ Area.Journal → (V.cloud_at shelf.new cloud.0).now other ≡ (V.cloud_at shelf.old cloud.0).now other) }
+        ensures opens { IsTrue (V.cloud_at shelf.old cloud.0).told
+            → OpensIs ((V.cloud_at shelf.old cloud.0).now Area.Journal).read asked.now begin result }
+        ensures opened { IsTrue (V.cloud_at shelf.old cloud.0).told
+            → OnOk result (IsReading (state_of self.new) ((V.cloud_at shelf.new cloud.0).now Area.Journal)
+            (header_bytes asked.now ∷ [])) }
+        ensures begun { IsTrue (V.cloud_at shelf.old cloud.0).told
+            → OnOk result (is_begun ((V.cloud_at shelf.old cloud.0).now Area.Journal).read ≡ true
+            → ((V.cloud_at shelf.new cloud.0).now Area.Journal).read
+            ≡ ((V.cloud_at shelf.old cloud.0).now Area.Journal).read) }
+        ensures unbegun { IsTrue (V.cloud_at shelf.old cloud.0).told
+            → OnOk result (is_begun ((V.cloud_at shelf.old cloud.0).now Area.Journal).read ≡ false
+            → IsEnded (state_of self.new) ((V.cloud_at shelf.new cloud.0).now Area.Journal)
+            (header_bytes asked.now ∷ [])) }
+        ensures others { IsTrue (V.cloud_at shelf.old cloud.0).told
+            → OnOk result ((other : Area) → other ≢ Area.Journal
+            → (V.cloud_at shelf.new cloud.0).now other ≡ (V.cloud_at shelf.old cloud.0).now other) }
         ensures gate { OnOk result (IsAtFirstGate (state_of self.new)) }
         ensures begins { IsTrue begin → HasBegun result }
         ensures kind { IsOfJournal result }
         ensures stage { (state_of self.new).stage ≡ stage_opened result }
         ensures limit { (state_of self.new).limit ≡ (state_of self.old).limit }
-        ensures call { IsCall (V.cloud_at shelf.old) (V.cloud_at shelf.new) cloud.0 (V.faults shelf.old) (V.faults shelf.new) }
-        ensures counts { OnFault result (HasFailed (V.cloud_at shelf.old cloud.0) (V.cloud_at shelf.new cloud.0) (V.faults shelf.old) (V.faults shelf.new)) (KeepsCounts (V.cloud_at shelf.old cloud.0) (V.cloud_at shelf.new cloud.0) (V.faults shelf.old) (V.faults shelf.new)) }
+        ensures call { IsCall (V.cloud_at shelf.old) (V.cloud_at shelf.new) cloud.0 (V.faults shelf.old)
+            (V.faults shelf.new) }
+        ensures counts { OnFault result (HasFailed (V.cloud_at shelf.old cloud.0) (V.cloud_at shelf.new cloud.0)
+            (V.faults shelf.old) (V.faults shelf.new))
+            (KeepsCounts (V.cloud_at shelf.old cloud.0) (V.cloud_at shelf.new cloud.0) (V.faults shelf.old)
+            (V.faults shelf.new)) }
     {
         match shelf.sync(cloud, Area::Journal) {
             Ok(()) => self.open(shelf, cloud, asked, begin),
@@ -104,24 +120,38 @@ impl Journal {
     ) -> Result<(), OpenErr>
         requires { IsWritten asked.now }
 
-        ensures any_moment { IsTrue (V.cloud_at shelf.old cloud.0).told → (bytes : List ℕ) → (V.cloud_at shelf.old cloud.0).now Area.Journal ≡ stable bytes
-            → LeavesOnly (V.cloud_at shelf.old cloud.0) (V.cloud_at shelf.new cloud.0) (MayBecome (V.cloud_at shelf.old cloud.0).now asked.now begin) }
-        ensures opens { IsTrue (V.cloud_at shelf.old cloud.0).told → (bytes : List ℕ) → (V.cloud_at shelf.old cloud.0).now Area.Journal ≡ stable bytes → OpensIs bytes asked.now begin result }
-        ensures opened { IsTrue (V.cloud_at shelf.old cloud.0).told → (bytes : List ℕ) → (V.cloud_at shelf.old cloud.0).now Area.Journal ≡ stable bytes
-            → OnOk result (IsReading (state_of self.new) ((V.cloud_at shelf.new cloud.0).now Area.Journal) (header_bytes asked.now ∷ [])) }
-        ensures begun { IsTrue (V.cloud_at shelf.old cloud.0).told → (bytes : List ℕ) → (V.cloud_at shelf.old cloud.0).now Area.Journal ≡ stable bytes → is_begun bytes ≡ true
+        ensures any_moment { IsTrue (V.cloud_at shelf.old cloud.0).told → (bytes : List ℕ)
+            → (V.cloud_at shelf.old cloud.0).now Area.Journal ≡ stable bytes
+            → LeavesOnly (V.cloud_at shelf.old cloud.0) (V.cloud_at shelf.new cloud.0)
+            (MayBecome (V.cloud_at shelf.old cloud.0).now asked.now begin) }
+        ensures opens { IsTrue (V.cloud_at shelf.old cloud.0).told → (bytes : List ℕ)
+            → (V.cloud_at shelf.old cloud.0).now Area.Journal ≡ stable bytes → OpensIs bytes asked.now begin result }
+        ensures opened { IsTrue (V.cloud_at shelf.old cloud.0).told → (bytes : List ℕ)
+            → (V.cloud_at shelf.old cloud.0).now Area.Journal ≡ stable bytes
+            → OnOk result (IsReading (state_of self.new) ((V.cloud_at shelf.new cloud.0).now Area.Journal)
+            (header_bytes asked.now ∷ [])) }
+        ensures begun { IsTrue (V.cloud_at shelf.old cloud.0).told → (bytes : List ℕ)
+            → (V.cloud_at shelf.old cloud.0).now Area.Journal ≡ stable bytes → is_begun bytes ≡ true
             → Stays (V.cloud_at shelf.old cloud.0) (V.cloud_at shelf.new cloud.0) }
         ensures unasked { begin ≡ false → Stays (V.cloud_at shelf.old cloud.0) (V.cloud_at shelf.new cloud.0) }
-        ensures unbegun { IsTrue (V.cloud_at shelf.old cloud.0).told → (bytes : List ℕ) → (V.cloud_at shelf.old cloud.0).now Area.Journal ≡ stable bytes → is_begun bytes ≡ false
-            → OnOk result (IsEnded (state_of self.new) ((V.cloud_at shelf.new cloud.0).now Area.Journal) (header_bytes asked.now ∷ [])) }
-        ensures others { IsTrue (V.cloud_at shelf.old cloud.0).told → OnOk result ((other : Area) → other ≢ Area.Journal → (V.cloud_at shelf.new cloud.0).now other ≡ (V.cloud_at shelf.old cloud.0).now other) }
+        ensures unbegun { IsTrue (V.cloud_at shelf.old cloud.0).told → (bytes : List ℕ)
+            → (V.cloud_at shelf.old cloud.0).now Area.Journal ≡ stable bytes → is_begun bytes ≡ false
+            → OnOk result (IsEnded (state_of self.new) ((V.cloud_at shelf.new cloud.0).now Area.Journal)
+            (header_bytes asked.now ∷ [])) }
+        ensures others { IsTrue (V.cloud_at shelf.old cloud.0).told
+            → OnOk result ((other : Area) → other ≢ Area.Journal
+            → (V.cloud_at shelf.new cloud.0).now other ≡ (V.cloud_at shelf.old cloud.0).now other) }
         ensures gate { OnOk result (IsAtFirstGate (state_of self.new)) }
         ensures begins { IsTrue begin → HasBegun result }
         ensures kind { IsOfJournal result }
         ensures stage { (state_of self.new).stage ≡ stage_opened result }
         ensures limit { (state_of self.new).limit ≡ (state_of self.old).limit }
-        ensures call { IsCall (V.cloud_at shelf.old) (V.cloud_at shelf.new) cloud.0 (V.faults shelf.old) (V.faults shelf.new) }
-        ensures counts { OnFault result (HasFailed (V.cloud_at shelf.old cloud.0) (V.cloud_at shelf.new cloud.0) (V.faults shelf.old) (V.faults shelf.new)) (KeepsCounts (V.cloud_at shelf.old cloud.0) (V.cloud_at shelf.new cloud.0) (V.faults shelf.old) (V.faults shelf.new)) }
+        ensures call { IsCall (V.cloud_at shelf.old) (V.cloud_at shelf.new) cloud.0 (V.faults shelf.old)
+            (V.faults shelf.new) }
+        ensures counts { OnFault result (HasFailed (V.cloud_at shelf.old cloud.0) (V.cloud_at shelf.new cloud.0)
+            (V.faults shelf.old) (V.faults shelf.new))
+            (KeepsCounts (V.cloud_at shelf.old cloud.0) (V.cloud_at shelf.new cloud.0) (V.faults shelf.old)
+            (V.faults shelf.new)) }
     {
         match self.settle(shelf, cloud) {
             Err(Failed) => Err(OpenErr::Fault),
@@ -142,15 +172,21 @@ impl Journal {
 
     // Reads the area's length and its beginning.
     fn settle<V: Shelf>(&mut self, shelf: &mut V, cloud: CloudNo) -> Result<(), Failed>
-        ensures ahead { IsTrue (V.cloud_at shelf.old cloud.0).told → OnOk result ((state_of self.new).ahead ≡ take 65541 ((V.cloud_at shelf.old cloud.0).now Area.Journal).read) }
-        ensures end { IsTrue (V.cloud_at shelf.old cloud.0).told → OnOk result (self.new.end ≡ length ((V.cloud_at shelf.old cloud.0).now Area.Journal).read) }
+        ensures ahead { IsTrue (V.cloud_at shelf.old cloud.0).told
+            → OnOk result ((state_of self.new).ahead
+            ≡ take 65541 ((V.cloud_at shelf.old cloud.0).now Area.Journal).read) }
+        ensures end { IsTrue (V.cloud_at shelf.old cloud.0).told
+            → OnOk result (self.new.end ≡ length ((V.cloud_at shelf.old cloud.0).now Area.Journal).read) }
         ensures gate { self.new.gate ≡ 0 }
         ensures stage { self.new.stage ≡ Stage.Shut }
         ensures limit { self.new.limit ≡ self.old.limit }
         ensures stays { Stays (V.cloud_at shelf.old cloud.0) (V.cloud_at shelf.new cloud.0) }
-        ensures call { IsCall (V.cloud_at shelf.old) (V.cloud_at shelf.new) cloud.0 (V.faults shelf.old) (V.faults shelf.new) }
-        ensures failed { OnErr result (HasFailed (V.cloud_at shelf.old cloud.0) (V.cloud_at shelf.new cloud.0) (V.faults shelf.old) (V.faults shelf.new)) }
-        ensures uncounted { OnOk result (KeepsCounts (V.cloud_at shelf.old cloud.0) (V.cloud_at shelf.new cloud.0) (V.faults shelf.old) (V.faults shelf.new)) }
+        ensures call { IsCall (V.cloud_at shelf.old) (V.cloud_at shelf.new) cloud.0 (V.faults shelf.old)
+            (V.faults shelf.new) }
+        ensures failed { OnErr result (HasFailed (V.cloud_at shelf.old cloud.0) (V.cloud_at shelf.new cloud.0)
+            (V.faults shelf.old) (V.faults shelf.new)) }
+        ensures uncounted { OnOk result (KeepsCounts (V.cloud_at shelf.old cloud.0) (V.cloud_at shelf.new cloud.0)
+            (V.faults shelf.old) (V.faults shelf.new)) }
     {
         self.stage = Stage::Shut;
         self.gate = 0;
@@ -162,7 +198,8 @@ impl Journal {
     // Whether what was read begins a journal.
     fn is_begun(&self) -> bool
         ensures within { IsTrue result → 0 < self.now.end }
-        ensures begun { (bytes : List ℕ) → (state_of self.now).ahead ≡ take 65541 bytes → self.now.end ≡ length bytes → result ≡ is_begun bytes }
+        ensures begun { (bytes : List ℕ) → (state_of self.now).ahead ≡ take 65541 bytes → self.now.end ≡ length bytes
+            → result ≡ is_begun bytes }
     {
         if self.end == 0 {
             return false;
@@ -173,17 +210,27 @@ impl Journal {
     // Makes sure that a closed gate stands at the beginning.
     fn close_gate<V: Shelf>(&mut self, shelf: &mut V, cloud: CloudNo) -> Result<(), Failed>
         requires { self.old.gate ≡ 0 }
-        ensures any_moment { IsTrue (V.cloud_at shelf.old cloud.0).told → (bytes : List ℕ) → (V.cloud_at shelf.old cloud.0).now Area.Journal ≡ stable bytes → is_begun bytes ≡ false → self.old.end ≡ length bytes
-            → LeavesOnly (V.cloud_at shelf.old cloud.0) (V.cloud_at shelf.new cloud.0) (IsAtArea (V.cloud_at shelf.old cloud.0).now Area.Journal (λ image. is_begun image ≡ false)) }
-        ensures closed { IsTrue (V.cloud_at shelf.old cloud.0).told → (bytes : List ℕ) → (V.cloud_at shelf.old cloud.0).now Area.Journal ≡ stable bytes → is_begun bytes ≡ false → self.old.end ≡ length bytes
+        ensures any_moment { IsTrue (V.cloud_at shelf.old cloud.0).told → (bytes : List ℕ)
+            → (V.cloud_at shelf.old cloud.0).now Area.Journal ≡ stable bytes → is_begun bytes ≡ false
+            → self.old.end ≡ length bytes
+            → LeavesOnly (V.cloud_at shelf.old cloud.0) (V.cloud_at shelf.new cloud.0)
+            (IsAtArea (V.cloud_at shelf.old cloud.0).now Area.Journal (λ image. is_begun image ≡ false)) }
+        ensures closed { IsTrue (V.cloud_at shelf.old cloud.0).told → (bytes : List ℕ)
+            → (V.cloud_at shelf.old cloud.0).now Area.Journal ≡ stable bytes → is_begun bytes ≡ false
+            → self.old.end ≡ length bytes
             → OnOk result (IsEnded (state_of self.new) ((V.cloud_at shelf.new cloud.0).now Area.Journal) []) }
-        ensures others { IsTrue (V.cloud_at shelf.old cloud.0).told → OnOk result ((other : Area) → other ≢ Area.Journal → (V.cloud_at shelf.new cloud.0).now other ≡ (V.cloud_at shelf.old cloud.0).now other) }
+        ensures others { IsTrue (V.cloud_at shelf.old cloud.0).told
+            → OnOk result ((other : Area) → other ≢ Area.Journal
+            → (V.cloud_at shelf.new cloud.0).now other ≡ (V.cloud_at shelf.old cloud.0).now other) }
         ensures gate { self.new.gate ≡ 0 }
         ensures stage { self.new.stage ≡ Stage.Shut }
         ensures limit { self.new.limit ≡ self.old.limit }
-        ensures call { IsCall (V.cloud_at shelf.old) (V.cloud_at shelf.new) cloud.0 (V.faults shelf.old) (V.faults shelf.new) }
-        ensures failed { OnErr result (HasFailed (V.cloud_at shelf.old cloud.0) (V.cloud_at shelf.new cloud.0) (V.faults shelf.old) (V.faults shelf.new)) }
-        ensures uncounted { OnOk result (KeepsCounts (V.cloud_at shelf.old cloud.0) (V.cloud_at shelf.new cloud.0) (V.faults shelf.old) (V.faults shelf.new)) }
+        ensures call { IsCall (V.cloud_at shelf.old) (V.cloud_at shelf.new) cloud.0 (V.faults shelf.old)
+            (V.faults shelf.new) }
+        ensures failed { OnErr result (HasFailed (V.cloud_at shelf.old cloud.0) (V.cloud_at shelf.new cloud.0)
+            (V.faults shelf.old) (V.faults shelf.new)) }
+        ensures uncounted { OnOk result (KeepsCounts (V.cloud_at shelf.old cloud.0) (V.cloud_at shelf.new cloud.0)
+            (V.faults shelf.old) (V.faults shelf.new)) }
     {
         self.stage = Stage::Shut;
         self.from = 0;
@@ -205,17 +252,28 @@ impl Journal {
     ) -> Result<(), Failed>
         requires written { IsWritten asked.now }
         requires gate { self.old.gate ≡ 0 }
-        ensures any_moment { IsTrue (V.cloud_at shelf.old cloud.0).told → (bytes : List ℕ) → (V.cloud_at shelf.old cloud.0).now Area.Journal ≡ stable bytes → is_begun bytes ≡ false → self.old.end ≡ length bytes
-            → LeavesOnly (V.cloud_at shelf.old cloud.0) (V.cloud_at shelf.new cloud.0) (IsAtArea (V.cloud_at shelf.old cloud.0).now Area.Journal (IsNewOrUnbegun asked.now)) }
-        ensures begun { IsTrue (V.cloud_at shelf.old cloud.0).told → (bytes : List ℕ) → (V.cloud_at shelf.old cloud.0).now Area.Journal ≡ stable bytes → is_begun bytes ≡ false → self.old.end ≡ length bytes
-            → OnOk result (IsEnded (state_of self.new) ((V.cloud_at shelf.new cloud.0).now Area.Journal) (header_bytes asked.now ∷ [])) }
-        ensures others { IsTrue (V.cloud_at shelf.old cloud.0).told → OnOk result ((other : Area) → other ≢ Area.Journal → (V.cloud_at shelf.new cloud.0).now other ≡ (V.cloud_at shelf.old cloud.0).now other) }
+        ensures any_moment { IsTrue (V.cloud_at shelf.old cloud.0).told → (bytes : List ℕ)
+            → (V.cloud_at shelf.old cloud.0).now Area.Journal ≡ stable bytes → is_begun bytes ≡ false
+            → self.old.end ≡ length bytes
+            → LeavesOnly (V.cloud_at shelf.old cloud.0) (V.cloud_at shelf.new cloud.0)
+            (IsAtArea (V.cloud_at shelf.old cloud.0).now Area.Journal (IsNewOrUnbegun asked.now)) }
+        ensures begun { IsTrue (V.cloud_at shelf.old cloud.0).told → (bytes : List ℕ)
+            → (V.cloud_at shelf.old cloud.0).now Area.Journal ≡ stable bytes → is_begun bytes ≡ false
+            → self.old.end ≡ length bytes
+            → OnOk result (IsEnded (state_of self.new) ((V.cloud_at shelf.new cloud.0).now Area.Journal)
+            (header_bytes asked.now ∷ [])) }
+        ensures others { IsTrue (V.cloud_at shelf.old cloud.0).told
+            → OnOk result ((other : Area) → other ≢ Area.Journal
+            → (V.cloud_at shelf.new cloud.0).now other ≡ (V.cloud_at shelf.old cloud.0).now other) }
         ensures gate { OnOk result (IsAtFirstGate (state_of self.new)) }
         ensures stage { OnOk result (self.new.stage ≡ Stage.Reading) × OnErr result (self.new.stage ≡ Stage.Shut) }
         ensures limit { self.new.limit ≡ self.old.limit }
-        ensures call { IsCall (V.cloud_at shelf.old) (V.cloud_at shelf.new) cloud.0 (V.faults shelf.old) (V.faults shelf.new) }
-        ensures failed { OnErr result (HasFailed (V.cloud_at shelf.old cloud.0) (V.cloud_at shelf.new cloud.0) (V.faults shelf.old) (V.faults shelf.new)) }
-        ensures uncounted { OnOk result (KeepsCounts (V.cloud_at shelf.old cloud.0) (V.cloud_at shelf.new cloud.0) (V.faults shelf.old) (V.faults shelf.new)) }
+        ensures call { IsCall (V.cloud_at shelf.old) (V.cloud_at shelf.new) cloud.0 (V.faults shelf.old)
+            (V.faults shelf.new) }
+        ensures failed { OnErr result (HasFailed (V.cloud_at shelf.old cloud.0) (V.cloud_at shelf.new cloud.0)
+            (V.faults shelf.old) (V.faults shelf.new)) }
+        ensures uncounted { OnOk result (KeepsCounts (V.cloud_at shelf.old cloud.0) (V.cloud_at shelf.new cloud.0)
+            (V.faults shelf.old) (V.faults shelf.new)) }
     {
         self.close_gate(shelf, cloud)?;
         self.add(shelf, cloud, &asked.bytes())?;
@@ -228,8 +286,10 @@ impl Journal {
         requires within { 0 < self.old.end }
         requires gate { self.old.gate ≡ 0 }
         requires stage { self.old.stage ≡ Stage.Shut }
-        ensures checked { (bytes : List ℕ) → (state_of self.old).ahead ≡ take 65541 bytes → self.old.end ≡ length bytes → is_begun bytes ≡ true → CheckedIs bytes asked.now result }
-        ensures opened { (bytes : List ℕ) → (state_of self.old).ahead ≡ take 65541 bytes → self.old.end ≡ length bytes → is_begun bytes ≡ true
+        ensures checked { (bytes : List ℕ) → (state_of self.old).ahead ≡ take 65541 bytes → self.old.end ≡ length bytes
+            → is_begun bytes ≡ true → CheckedIs bytes asked.now result }
+        ensures opened { (bytes : List ℕ) → (state_of self.old).ahead ≡ take 65541 bytes → self.old.end ≡ length bytes
+            → is_begun bytes ≡ true
             → OnOk result (IsReading (state_of self.new) (stable bytes) (header_bytes asked.now ∷ [])) }
         ensures gate { OnOk result (IsAtFirstGate (state_of self.new)) }
         ensures begun { HasBegun result }

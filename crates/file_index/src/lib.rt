@@ -121,7 +121,8 @@ impl FileIndex {
         ensures slots { length self.new.slots ≡ length self.old.slots }
         ensures refuses { IsErr result ↔ used_by self.old user.0 ≡ limit_for self.old.accounts user.0 }
         ensures err { OnErr result (self.new ≡ self.old) }
-        ensures full { IfErr result (λ error. error ≡ Full (used_by self.old user.0) (limit_for self.old.accounts user.0)) }
+        ensures full { IfErr result (λ error. error
+            ≡ Full (used_by self.old user.0) (limit_for self.old.accounts user.0)) }
     {
         match self.accounts.account_of(user.0) {
             Some(account) => {

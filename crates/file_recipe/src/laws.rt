@@ -16,10 +16,12 @@ pub fn secret_laws()
     // joined they are the file
     ensures joined { (file : List ℕ) → concat (secrets file) ≡ file }
     // none is empty or longer than 16,384 bytes
-    ensures some { (file : List ℕ) (i : ℕ) → i < length (secrets file) → 1 ≤ length (slice_index_or (secrets file) i []) }
+    ensures some { (file : List ℕ) (i : ℕ) → i < length (secrets file)
+        → 1 ≤ length (slice_index_or (secrets file) i []) }
     ensures longest { (file : List ℕ) (i : ℕ) → length (slice_index_or (secrets file) i []) ≤ secret_limit }
     // and none but the last is shorter than 2,048
-    ensures shortest { (file : List ℕ) (i : ℕ) → i + 1 < length (secrets file) → 2048 ≤ length (slice_index_or (secrets file) i []) }
+    ensures shortest { (file : List ℕ) (i : ℕ) → i + 1 < length (secrets file)
+        → 2048 ≤ length (slice_index_or (secrets file) i []) }
     // so a file within the limit has at most as many secrets as a recipe may name
     ensures few { (file : List ℕ) → length file ≤ file_limit → length (secrets file) ≤ item_limit }
 {}
@@ -27,9 +29,12 @@ pub fn secret_laws()
 /// The recipe of a path and a file at a cloud.
 pub fn recipe_laws()
     // it keeps the rules
-    ensures fits { (s : Shape) (j : ℕ) (path file : List ℕ) → IsPath path → length file ≤ file_limit → Fits s (recipe_of s j path file) }
+    ensures fits { (s : Shape) (j : ℕ) (path file : List ℕ) → IsPath path → length file ≤ file_limit
+        → Fits s (recipe_of s j path file) }
     // so its bytes are read as that recipe
-    ensures reads { (s : Shape) (j : ℕ) (path file : List ℕ) → IsPath path → length file ≤ file_limit → recipe_at s (recipe_bytes s j path file) ≡ Ok (recipe_of s j path file) }
+    ensures reads { (s : Shape) (j : ℕ) (path file : List ℕ) → IsPath path → length file ≤ file_limit
+        → recipe_at s (recipe_bytes s j path file) ≡ Ok (recipe_of s j path file) }
     // the shares that it names are as long as the lengths of its items say
-    ensures shares_length { (s : Shape) (j : ℕ) (file : List ℕ) → length (shares_at s j file) ≡ sum_by (λ (secret : List ℕ). share_len_of s.k (length secret)) (secrets file) }
+    ensures shares_length { (s : Shape) (j : ℕ) (file : List ℕ)
+        → length (shares_at s j file) ≡ sum_by (λ (secret : List ℕ). share_len_of s.k (length secret)) (secrets file) }
 {}

@@ -64,7 +64,8 @@ impl Framer {
         ensures ok { IfOk result (λ count. Takes self.old piece.now count self.new) }
         ensures err { IfErr result (λ error. Refuses self.old piece.now (found_of error) self.new) }
         ensures ready { IfErr result (λ _. ¬ IsFrame self.new) }
-        ensures again { IsRefused self.old → (result ≡ Err (FrameErr.Length (length_in self.old))) × (self.new ≡ self.old) }
+        ensures again { IsRefused self.old → (result ≡ Err (FrameErr.Length (length_in self.old)))
+            × (self.new ≡ self.old) }
     {
         let head = fill(&mut self.standing, piece, 4);
         if self.standing.len() < 4 {

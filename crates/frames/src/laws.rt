@@ -24,5 +24,6 @@ pub fn law_of_runs()
 pub fn law_of_streams()
     ensures { (total : List ℕ) (shown : List (List ℕ)) (standing : List ℕ) → Run total shown standing
         → (sent : List (List ℕ)) (to_come : List ℕ) → AreContents sent → stream sent ≡ total ++ to_come
-        → (others : List (List ℕ)) × ((sent ≡ shown ++ others) × (standing ++ to_come ≡ stream others) × (¬ IsRefused standing)) }
+        → (others : List (List ℕ)) × ((sent ≡ shown ++ others) × (standing ++ to_come ≡ stream others)
+        × (¬ IsRefused standing)) }
 {}

@@ -3,9 +3,9 @@ use Rattle.std.proofs.Common.{◌≡◌, ℕ, ◌+◌, ◌*◌, ◌<◌, ◌≤�
 use Rattle.std.specs.Prelude.{Option, Some, None, IsTrue, MatchOption}
 use Rattle.std.specs.Io.KnownBytes.{Appends}
 use Rattle.std.proofs.lemmas.List.{length-map}
-use Rattle.cd_base.specs.Limits.{greatest_rooms}
+use Rattle.journal_start.specs.Ranges.{usual_rooms}
 use Rattle.cd_base.specs.declared.shape.Shape.{Shape}
-use Rattle.cd_base.specs.declared.rooms.Rooms.{Rooms}
+use Rattle.journal_start.specs.declared.rooms.Rooms.{Rooms}
 use Rattle.cd_edges.specs.declared.area.Area.{Area}
 use Rattle.cd_edges.specs.Causes.{Rose}
 use Rattle.cd_edges.specs.Disk.{Cloud, IsImage, reads}
@@ -17,6 +17,7 @@ use Rattle.session_model.specs.Vault.{Setting, Vault, opening}
 use Rattle.session_model.specs.Kept.{uploads}
 use Rattle.session_model.specs.Run.{Answered, Turns, script_of}
 use Rattle.session_model.specs.Headline.{Session, Begun, IsRun, IsPartOf, event_of}
+use Rattle.script_lines.specs.At.{header_in}
 use Rattle.replay_core.specs.declared.end.ReplayEnd.{ReplayEnd}
 use Rattle.replay_core.specs.declared.end.ReplayEnd.TheVariants as ends
 use Rattle.replay_core.specs.Endings.{IsEmptyAt}
@@ -42,10 +43,10 @@ lines_of order = generated_lines order.seed order.files order.pieces
 -- ---- before the clouds are opened
 
 abbrev pub Opens : Setting → Type 0
-Opens s = (s.shape.n ≡ 4) × (s.shape.k ≡ 3) × (s.rooms ≡ greatest_rooms)
+Opens s = (s.shape.n ≡ 4) × (s.shape.k ≡ 3) × (s.rooms ≡ usual_rooms)
 
 module _ (laws : Laws) (order : Order) (call : Passing) (s : Setting) (four : Opens s) (told : (cloud : ℕ) → s.told cloud ≡ (call.old cloud).told)
-    (prepares : PreparesAll s.shape call.old call.new) (sank : call.sink_after ≡ call.sink_before) (still : call.after ≡ call.before) where
+    (prepares : PreparesAll (header_in s) s.shape call.old call.new) (sank : call.sink_after ≡ call.sink_before) (still : call.after ≡ call.before) where
   unopened : (end : ReplayEnd) → (status_of end ≡ 0 → ⊥) → IsCaused end order call (unopened_of s call.old) → IsSummed end order call (unopened_of s call.old) → Generates end order call
   unopened end some cause summed = record {
     run = unopened_of s call.old;

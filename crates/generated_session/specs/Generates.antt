@@ -1,7 +1,7 @@
 -- What the generator promises: the session that was carried out, why it ended, and what is written of it.
 use Rattle.std.specs.Prelude.{◌≡◌, ◌⊎◌, ℕ, ◌-◌, ◌^◌, ◌<◌, false, IsTrue, List, [], ◌++◌, length, Option, None}
 use Rattle.std.specs.Io.KnownBytes.{Appends}
-use Rattle.cd_base.specs.Limits.{greatest_rooms}
+use Rattle.journal_start.specs.Ranges.{usual_rooms}
 use Rattle.cd_edges.specs.declared.area.Area.{Area}
 use Rattle.cd_edges.specs.Causes.{Rose}
 use Rattle.cd_edges.specs.Disk.{Cloud}
@@ -74,12 +74,12 @@ IsSummed ends.SinkFault order call run = (rest : List ℕ) × WritesSummary orde
 IsSummed end order call run = Appends call.before call.after []
 
 -- The whole promise: of the clouds what each session promises, over four clouds of which three give a file back, in the
--- greatest rooms. Its lines are those that the generated session begins with, the line that want of memory cut among them.
+-- usual rooms. Its lines are those that the generated session begins with, the line that want of memory cut among them.
 pub record Generates (end : ReplayEnd) (order : Order) (call : Passing) : Type 0 where
   pub run : Session
   pub replayed : Replayed (status_of end) call.old call.new run
   pub shape : (run.setting.shape.n ≡ 4) × (run.setting.shape.k ≡ 3)
-  pub rooms : run.setting.rooms ≡ greatest_rooms
+  pub rooms : run.setting.rooms ≡ usual_rooms
   pub lines : (rest : List Event) × (script_in run ++ rest ≡ generated_lines order.seed order.files order.pieces)
   pub cause : IsCaused end order call run
   pub summed : IsSummed end order call run

@@ -1,11 +1,8 @@
 //! The generated session, from the check that its clouds are empty to its summary.
 
-ghost use Rattle.std.specs.Prelude.{◌≡◌, ◌<◌, ◌≤◌, ◌*◌, ℕ, [], None, Some};
-ghost use Rattle.cd_base.specs.Limits.{greatest_rooms};
+ghost use Rattle.std.specs.Prelude.{◌≡◌, ◌<◌, ◌≤◌, ◌*◌, ℕ, None};
 ghost use Rattle.cd_edges.specs.Disk.{Cloud};
-ghost use Rattle.cloud_store.specs.Space.{IsWithin};
-ghost use Rattle.share_server.specs.declared.server.Server.{Server};
-ghost use Rattle.local_link.specs.Tells.{server_at};
+ghost use Rattle.journal_start.specs.Ranges.{usual_rooms};
 ghost use Rattle.session_model.specs.Vault.{Setting};
 ghost use Rattle.replay_core.specs.Opening.{IsEmpty, before_first};
 ghost use Rattle.replay_core.specs.Going.{IsReady};
@@ -14,8 +11,10 @@ ghost use Rattle.generated_session.specs.Progress.{start_of};
 
 use crate::carrying::{Buffers, carry_all};
 use crate::summary::{put_summary, write_summary};
-use cd_base::{Bytes, Rooms, Shape};
+use cd_base::{Bytes, Shape};
 use cd_edges::{Shelf, Sink};
+use cloud_server::laws::law_of_no_commands;
+use journal_start::Rooms;
 use local_link::{LocalLink, Servers};
 use replay_core::{ReplayEnd, empty_clouds, open_clouds};
 use session_model::{law_of_acknowledged, law_of_moments, law_of_own_replies};
@@ -34,11 +33,9 @@ fn carry_session<K: Sink, V: Shelf>(
     requires pieces { pieces ≤ 8192 }
     requires shape { (link.old.servers.shape.n ≡ 4) × (link.old.servers.shape.k ≡ 3) }
     requires empty { (cloud : ℕ) → cloud < link.old.servers.shape.n → IsEmpty (V.cloud_at link.old.shelf.now cloud) }
-    requires room { (cloud : ℕ) (server : Server) → server_at link.old.servers cloud ≡ Some server
-        → IsWithin server.state.rooms [] }
     ensures generates { (begun : ℕ → Cloud) (s : Setting)
         → IsReady V.cloud_at (start_of begun) s link.old before_first None 0 None 0
-        → s.rooms ≡ greatest_rooms
+        → s.rooms ≡ usual_rooms
         → Generates result (record { seed = seed; files = files; pieces = pieces }) (record {
           sink_before = K.faults sink.old;
           sink_after = K.faults sink.new;
@@ -52,6 +49,7 @@ fn carry_session<K: Sink, V: Shelf>(
     law_of_acknowledged();
     law_of_own_replies();
     law_of_moments();
+    law_of_no_commands();
     let mut text = Bytes::new(alloc);
     let Ok(mut buffers) = Buffers::make(alloc) else {
         return ReplayEnd::NoMemory;
@@ -103,12 +101,13 @@ fn make_session<K: Sink, V: Shelf>(
 {
     law_of_acknowledged();
     law_of_own_replies();
+    law_of_no_commands();
     let shape = four_clouds();
     match empty_clouds(shelf, shape) {
         Ok(()) => {}
         Err(end) => return end,
     }
-    let Ok(servers) = Servers::make(alloc, shape, Rooms::greatest()) else {
+    let Ok(servers) = Servers::make(alloc, shape, Rooms::usual()) else {
         return ReplayEnd::NoMemory;
     };
     let mut link = LocalLink::of(alloc, shelf, servers);
@@ -119,7 +118,7 @@ fn make_session<K: Sink, V: Shelf>(
 
 /// Makes the generated session of the seed over four clouds of the shelf, which are to be empty, and writes its summary.
 ///
-/// Each area of the four clouds is asked, in order, whether it is empty; the clouds are opened in order, in the greatest rooms;
+/// Each area of the four clouds is asked, in order, whether it is empty; the clouds are opened in order, in the usual rooms;
 /// each file is uploaded and brought to its clouds, and then each is read from three of them. The lines and their answers
 /// aren't written. With `Done` the six lines of the summary are; want of memory and a cloud that fails leave nothing, and a
 /// sink that fails a front of the summary.

@@ -31,7 +31,9 @@ fn sixteen_products(c: u8, by: u8) -> [u8; 16]
 #[inline(always)]
 fn add_products(low: u8x16, high: u8x16, source: u8x16, target: u8x16) -> u8x16
     ensures long { length result ≡ 16 }
-    ensures lanes { (i : ℕ) → i < 16 → slice_index result i ≡ bit_xor (slice_index target i) (bit_xor (slice_index low (slice_index source i % 16)) (slice_index high (slice_index source i / 16))) }
+    ensures lanes { (i : ℕ) → i < 16 → slice_index result i
+        ≡ bit_xor (slice_index target i) (bit_xor (slice_index low (slice_index source i % 16))
+        (slice_index high (slice_index source i / 16))) }
 {
     target
         ^ (low.swizzle_dyn(source & u8x16::splat(15)) ^ high.swizzle_dyn(source >> u8x16::splat(4)))
@@ -41,7 +43,9 @@ fn add_products(low: u8x16, high: u8x16, source: u8x16, target: u8x16) -> u8x16
 fn add_sixteen(low: u8x16, high: u8x16, source: &[u8], target: &mut [u8])
     requires from { length source.now ≡ 16 }
     requires into { length target.old ≡ 16 }
-    ensures { (i : ℕ) → i < 16 → slice_index target.new i ≡ bit_xor (slice_index target.old i) (bit_xor (slice_index low (slice_index source.now i % 16)) (slice_index high (slice_index source.now i / 16))) }
+    ensures { (i : ℕ) → i < 16 → slice_index target.new i
+        ≡ bit_xor (slice_index target.old i) (bit_xor (slice_index low (slice_index source.now i % 16))
+        (slice_index high (slice_index source.now i / 16))) }
 {
     add_products(
         low,
@@ -55,7 +59,8 @@ fn add_sixteen(low: u8x16, high: u8x16, source: &[u8], target: &mut [u8])
 // Adds the products of `c` and the bytes of `source` to those of `target`, one by one.
 fn add_each(c: u8, source: &[u8], target: &mut [u8])
     requires { length source.now ≡ length target.old }
-    ensures { EachIndex target.new (λ i. slice_index target.new i ≡ bit_xor (slice_index target.old i) (product c (slice_index source.now i))) }
+    ensures { EachIndex target.new (λ i. slice_index target.new i
+        ≡ bit_xor (slice_index target.old i) (product c (slice_index source.now i))) }
 {
     for i in 0..source.len() {
         target[i] ^= mul(c, source[i]);
@@ -66,7 +71,8 @@ fn add_each(c: u8, source: &[u8], target: &mut [u8])
 fn xor_sixteen(source: &[u8], target: &mut [u8])
     requires from { length source.now ≡ 16 }
     requires into { length target.old ≡ 16 }
-    ensures { (i : ℕ) → i < 16 → slice_index target.new i ≡ bit_xor (slice_index target.old i) (slice_index source.now i) }
+    ensures { (i : ℕ) → i < 16 → slice_index target.new i
+        ≡ bit_xor (slice_index target.old i) (slice_index source.now i) }
 {
     (u8x16::from_slice(target) ^ u8x16::from_slice(source)).copy_to_slice(target);
 }
@@ -74,7 +80,8 @@ fn xor_sixteen(source: &[u8], target: &mut [u8])
 // Adds the bytes of `source` to those of `target`.
 fn xor_into(source: &[u8], target: &mut [u8])
     requires { length source.now ≡ length target.old }
-    ensures { EachIndex target.new (λ i. slice_index target.new i ≡ bit_xor (slice_index target.old i) (product 1 (slice_index source.now i))) }
+    ensures { EachIndex target.new (λ i. slice_index target.new i
+        ≡ bit_xor (slice_index target.old i) (product 1 (slice_index source.now i))) }
 {
     let blocks = source.len() / 16;
     for i in 0..blocks {
@@ -89,7 +96,8 @@ fn xor_into(source: &[u8], target: &mut [u8])
 /// is looked up where `c` is 0 or 1.
 pub fn mul_into(c: u8, src: &[u8], dst: &mut [u8])
     requires { length src.now ≡ length dst.old }
-    ensures { EachIndex dst.new (λ i. slice_index dst.new i ≡ bit_xor (slice_index dst.old i) (product c (slice_index src.now i))) }
+    ensures { EachIndex dst.new (λ i. slice_index dst.new i
+        ≡ bit_xor (slice_index dst.old i) (product c (slice_index src.now i))) }
 {
     if c == 0 {
         return;

@@ -143,7 +143,7 @@ impl Journal {
     /// byte). Failed comes only where the cloud's count of faults rose. After an Err only `reopen`, `open` and `find` may be
     /// called.
     ///
-    /// It makes one device call at most, and none where the record was read ahead.
+    /// It makes one device call at most, and none where the record was read ahead: by its body, no clause counts reads.
     pub fn next<V: Shelf>(&mut self, shelf: &mut V, cloud: CloudNo) -> Result<bool, JournalErr>
         requires { (state_of self.old).stage ≡ Stage.Reading }
 
@@ -231,7 +231,8 @@ impl Journal {
 
         ensures any_moment { KeepsOrAdds (state_of self.old) body.now
             (V.cloud_at shelf.old cloud.0) (V.cloud_at shelf.new cloud.0) }
-        ensures other { KeepsOtherHalf (state_of self.old) (V.cloud_at shelf.old cloud.0) (V.cloud_at shelf.new cloud.0) }
+        ensures other { KeepsOtherHalf (state_of self.old) (V.cloud_at shelf.old cloud.0)
+            (V.cloud_at shelf.new cloud.0) }
         ensures added { HasAdded (state_of self.old) (state_of self.new) body.now
             (V.cloud_at shelf.old cloud.0) (V.cloud_at shelf.new cloud.0) result }
         ensures others { OthersStay (V.cloud_at shelf.old cloud.0) (V.cloud_at shelf.new cloud.0) result }

@@ -44,7 +44,7 @@ impl Journal {
     ghost use Rattle.half_journal.specs.Openings.{IsOpening, IsSynced, TakenIs, IsAnswered, LeavesBegun, HasNew, OnFault, HasBegun};
     ghost use Rattle.journal_halves.specs.Beginnings.{IsUnbegun};
 
-    /// Finds the current half of the journal and its start, whatever its header: as `current_half`'s `find`. The journal is
+    /// Finds the current half of the journal and its start, whatever its header: as `journal_halves`' `find`. The journal is
     /// shut then.
     pub fn find<V: Shelf>(&mut self, shelf: &mut V, cloud: CloudNo) -> Result<Found, FindErr>
         ensures found { IsTrue (V.cloud_at shelf.old cloud.0).told

@@ -13,14 +13,16 @@ pub fn law_of_chains()
 
 /// Whatever a crash leaves while the other half's first gate is closed, which holds 1 or isn't there: the chain.
 pub fn law_of_turning()
-    ensures { (store : Store) (w : Where) (half : ℕ) → half ≡ 1 - w.half → Stands store w → IsOpenAt store.read half → (image : List ℕ)
+    ensures { (store : Store) (w : Where) (half : ℕ) → half ≡ 1 - w.half → Stands store w → IsOpenAt store.read half
+        → (image : List ℕ)
         → MayLeave (wrote store (half * half_len) (0 ∷ [])) image → HasChain image w }
 {}
 
 /// Whatever a crash leaves while the other half's first gate is closed, and anything is written behind it within that
 /// half: the chain.
 pub fn law_of_laying()
-    ensures { (store : Store) (w : Where) (half : ℕ) → IsApart store w half → (image : List ℕ) → MayLeave store image → HasChain image w }
+    ensures { (store : Store) (w : Where) (half : ℕ) → IsApart store w half → (image : List ℕ) → MayLeave store image
+        → HasChain image w }
 {}
 
 /// Whatever a crash leaves while the first gate of a checkpoint that is laid whole is opened: the chain, or the

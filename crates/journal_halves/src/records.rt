@@ -122,7 +122,7 @@ impl HalfRecords {
         self.body_at = 0;
     }
 
-    /// Finds the current half of the journal through this window, as `current_half`'s `find`. Only `begin` may be called then.
+    /// Finds the current half of the journal through this window, as `finding`'s `find`. Only `begin` may be called then.
     pub fn find<V: Shelf>(&mut self, shelf: &mut V, cloud: CloudNo) -> Result<Found, FindErr>
         ensures found { IsTrue (V.cloud_at shelf.old cloud.0).told
             → FindIs ((V.cloud_at shelf.old cloud.0).now Area.Journal).read result }
@@ -148,8 +148,8 @@ impl HalfRecords {
     /// it is no length from 1 to 65,535 with so many bytes and a next gate before that end (the first place of the length and
     /// its byte). Failed comes only where the cloud's count of faults rose. After an Err only `begin` may be called.
     ///
-    /// It makes one device call at most, and none where the record was read ahead. A call reads from the record's gate on as
-    /// much as the window takes, which is 64 KiB and a record's frame.
+    /// It makes one device call at most, and none where the record was read ahead: by its body, no clause counts reads. A call
+    /// reads from the record's gate on as much as the window takes, which is 64 KiB and a record's frame.
     pub fn next<V: Shelf>(&mut self, shelf: &mut V, cloud: CloudNo) -> Result<bool, JournalErr>
         ensures reads { ReadsNext (state_of self.old) (state_of self.new) (V.cloud_at shelf.old cloud.0) result }
         ensures step { StepIs (state_of self.old) (state_of self.new) result }

@@ -12,7 +12,8 @@ ghost use Rattle.journal_start.specs.Reading.{fields_of, start_at};
 /// Reading and spelling are inverse.
 pub fn law_of_starts()
     // a start is read again
-    ensures again { (half : ℕ) (start : Start) → IsStart half start → start_at half (start_bytes start) ≡ Ok (fields_of start) }
+    ensures again { (half : ℕ) (start : Start) → IsStart half start
+        → start_at half (start_bytes start) ≡ Ok (fields_of start) }
     // no two starts have one spelling
     ensures one { (half : ℕ) (a b : Start) → IsStart half a → IsStart half b → start_bytes a ≡ start_bytes b → a ≡ b }
     // bytes behind a checkpoint's start are refused at the first of them

@@ -65,9 +65,11 @@ impl Rooms {
         files: u32,
     ) -> Result<Rooms, RoomsField>
         ensures { MatchResult result
-            (λ rooms. (rooms ≡ record { users = users; shares = shares; recipes = recipes; owners = owners; files = files })
+            (λ rooms. (rooms
+            ≡ record { users = users; shares = shares; recipes = recipes; owners = owners; files = files })
             × AreRooms rooms)
-            (λ field. first_broken (record { users = users; shares = shares; recipes = recipes; owners = owners; files = files })
+            (λ field. first_broken
+            (record { users = users; shares = shares; recipes = recipes; owners = owners; files = files })
             ≡ Some field) }
     {
         if !are_users(users) {

@@ -15,16 +15,20 @@ ghost use Rattle.lane_steps.specs.Runs.{Progress, request_of, progress_after, st
 /// a frame.
 pub fn law_of_lane_requests()
     // a cloud of the shape reads what is written as the request
-    ensures read { (shape : Shape) (lanes : List LaneView) (i : ℕ) (request : Request) → IsReached shape lanes → request_at lanes i ≡ Some request
+    ensures read { (shape : Shape) (lanes : List LaneView) (i : ℕ) (request : Request) → IsReached shape lanes
+        → request_at lanes i ≡ Some request
         → asked_at shape (request_bytes request) ≡ Ok request }
     // it has a byte at least
-    ensures some { (shape : Shape) (lanes : List LaneView) (i : ℕ) (request : Request) → IsReached shape lanes → request_at lanes i ≡ Some request
+    ensures some { (shape : Shape) (lanes : List LaneView) (i : ℕ) (request : Request) → IsReached shape lanes
+        → request_at lanes i ≡ Some request
         → 1 ≤ length (request_bytes request) }
     // and no more than a frame takes
-    ensures framed { (shape : Shape) (lanes : List LaneView) (i : ℕ) (request : Request) → IsReached shape lanes → request_at lanes i ≡ Some request
+    ensures framed { (shape : Shape) (lanes : List LaneView) (i : ℕ) (request : Request) → IsReached shape lanes
+        → request_at lanes i ≡ Some request
         → length (request_bytes request) ≤ frame_limit }
     // each field is in its range, and the recipe of a Commit is one of the shape
-    ensures fits { (shape : Shape) (lanes : List LaneView) (i : ℕ) (request : Request) → IsReached shape lanes → request_at lanes i ≡ Some request
+    ensures fits { (shape : Shape) (lanes : List LaneView) (i : ℕ) (request : Request) → IsReached shape lanes
+        → request_at lanes i ≡ Some request
         → FitsRequest request × HasRecipe shape request }
 {}
 

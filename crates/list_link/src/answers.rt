@@ -74,7 +74,9 @@ fn commit(
     recipe: &Recipe,
 ) -> Result<Served, NoMemory>
     requires { length recipe.now.items < 2 ^ 32 }
-    ensures { IfOk result (λ s. outcome_of s ≡ commit_outcome (first_lacking view.now.own (fps_in recipe.now.items)) (entry_at view.now.files (tag, version)) (CommitCommand user tag version bytes.now) bytes.now) }
+    ensures { IfOk result (λ s. outcome_of s
+        ≡ commit_outcome (first_lacking view.now.own (fps_in recipe.now.items))
+        (entry_at view.now.files (tag, version)) (CommitCommand user tag version bytes.now) bytes.now) }
 {
     if let Some(place) = missing_place(view, recipe) {
         return Ok(only(Reply::Lacking { place }));
@@ -110,7 +112,9 @@ fn get_recipe(alloc: Global, view: &View, tag: &Tag, version: Version) -> Result
 
 fn get_shares(alloc: Global, list: &[Command], view: &View, fps: &Fps) -> Result<Served, NoMemory>
     requires { length fps.now ≤ batch_limit }
-    ensures { IfOk result (λ s. outcome_of s ≡ only_reply (shares_reply (first_lacking view.now.own fps.now) (map (λ fp. unwrap_or (held_string list.now fp) []) fps.now))) }
+    ensures { IfOk result (λ s. outcome_of s
+        ≡ only_reply (shares_reply (first_lacking view.now.own fps.now)
+        (map (λ fp. unwrap_or (held_string list.now fp) []) fps.now))) }
 {
     match lacking_place(view.own.as_slice(), fps.as_slice()) {
         Some(place) => Ok(only(Reply::NotYours { place })),
@@ -133,7 +137,8 @@ fn list_files(
 }
 
 fn delete(view: &View, user: UserId, tag: Tag, version: Version) -> Served
-    ensures { outcome_of result ≡ delete_outcome (entry_at view.now.files (tag, version)) (DeleteCommand user tag version) }
+    ensures { outcome_of result ≡ delete_outcome (entry_at view.now.files (tag, version))
+        (DeleteCommand user tag version) }
 {
     let found = entry_of(view.files.as_slice(), &tag, version);
     match found {
@@ -157,7 +162,8 @@ fn commit_read(
     bytes: &Bytes,
 ) -> Result<Served, NoMemory>
     requires { length bytes.now ≤ frame_limit }
-    ensures { IfOk result (IsAnswer shape cloud list.now (recipe_read (CommitRequest user tag version bytes.now) (recipe_at shape bytes.now))) }
+    ensures { IfOk result (IsAnswer shape cloud list.now
+        (recipe_read (CommitRequest user tag version bytes.now) (recipe_at shape bytes.now))) }
 {
     match Recipe::read(alloc, shape, bytes.as_slice()) {
         Ok(recipe) => {

@@ -2,7 +2,6 @@
 use Rattle.std.proofs.Common.{◌≡◌, ℕ, ◌+◌, ◌-◌, ◌<◌, ◌≤◌, ◌^◌, Bool, true, false, List, [], ◌∷◌, ◌++◌, min, Option, Some, None, Result, Ok, Err, refl, sym, ap, ◌∙◌, subst, arith, inl, inr, ◌⊎◌}
 use Rattle.std.specs.Prelude.{IsTrue, IsSomeAnd, IfOk, OnOk, OnErr}
 use Rattle.std.specs.List.{Contains}
-use Rattle.cd_base.specs.declared.rooms.Rooms.{Rooms}
 use Rattle.cd_base.specs.declared.shape.Shape.{Shape}
 use Rattle.cd_edges.specs.declared.area.Area.{Area}
 use Rattle.cd_edges.specs.declared.area.Area.TheVariants.{Journal}
@@ -12,62 +11,35 @@ use Rattle.cd_edges.specs.Disk.{Store, MayLeave, Cloud, Image, IsImage, reads}
 use Rattle.cd_edges.specs.Shelf.{stable, IsCall, HasFailed, KeepsCounts, IsFresh, Refreshes, Arms}
 use Rattle.cd_edges.specs.Shelf as shelves
 use Rattle.cd_edges.proofs.Moments.{moved, stayed}
-use Rattle.commit_journal.specs.declared.header.Header.{Header}
-use Rattle.commit_journal.specs.declared.errors.OpenErr.{OpenErr}
-use Rattle.commit_journal.specs.declared.errors.OpenErr.TheVariants as errors
-use Rattle.commit_journal.specs.declared.journal.Stage.TheVariants.{Shut}
+use Rattle.cd_edges.proofs.Torn.{only}
+use Rattle.journal_start.specs.declared.rooms.Rooms.{Rooms}
+use Rattle.journal_start.specs.declared.start.Header.{Header}
+use Rattle.half_journal.specs.declared.errors.OpenErr.{OpenErr}
+use Rattle.half_journal.specs.declared.errors.OpenErr.TheVariants as errors
+use Rattle.half_journal.specs.Openings.{OnFault}
 use Rattle.user_dedup.specs.declared.command.Command.{Command}
+use Rattle.user_dedup.specs.Cloud.{counted as number_in}
 use Rattle.user_dedup.specs.Dedup.{IsSound, Begun}
 use Rattle.user_dedup.specs.Exec.{Peer, MaySettleAs, Settles, Stays as PeerStays, CountsOn, StandsSound}
-use Rattle.commit_journal.specs.Openings.{OnFault}
-use Rattle.cloud_opening.specs.Exact.{Opens}
-use Rattle.cloud_opening.specs.Replied.{IsOkOrFault, MayBegin, NotBegunIs, OtherStoreIs}
-use Rattle.cloud_opening.specs.Spared.{Spares}
-use Rattle.cloud_state.specs.State.{IsOpen}
-use Rattle.cloud_store.specs.Space.{IsWithin}
-use Rattle.cloud_store.specs.Standing.{ImagesNow, ImagesSince}
-use Rattle.cloud_store.specs.Store.{StandsFor}
-use Rattle.command_log.proofs.Both.{as_read}
-use Rattle.share_server.specs.Names.{counted as number_in}
-use Rattle.share_server.specs.declared.server.Server.{Server}
-use Rattle.share_server.specs.Serving.{IsServing, ReopensAs, settled_with}
-use Rattle.share_server.proofs.NoCommands.{empty_stands, fewer_within}
+use Rattle.user_dedup.specs.Spending.{IsWithin}
+use Rattle.cloud_areas.specs.Peers.{ImagesNow, ImagesSince}
+use Rattle.cloud_areas.specs.Standing.{StandsFor}
+use Rattle.cloud_memory.specs.Rooms.{memory_of}
+use Rattle.store_opening.specs.Exact.{Opens}
+use Rattle.store_opening.specs.Spared.{IsOkOrFault, MayBegin, Spares}
+use Rattle.open_store.specs.Store.{IsOpen}
+use Rattle.cloud_server.specs.Names.{HasNoJournal}
+use Rattle.cloud_server.specs.Openings.{NotBegunIs, OtherStoreIs}
+use Rattle.cloud_server.specs.declared.server.Server.{Server}
+use Rattle.cloud_server.specs.Serving.{IsServing, ReopensAs, settled_with}
 use Rattle.local_link.specs.declared.servers.Servers.{Servers}
 use Rattle.local_link.specs.declared.link.LocalLink.{LocalLink}
-use Rattle.local_link.specs.Members.{IsServerOf}
-use Rattle.local_link.specs.Tells.{server_at, IsPeer, LeavesRest}
+use Rattle.local_link.specs.Tells.{server_at, header_at, rooms_at, IsPeer, LeavesRest}
 use Rattle.local_link.specs.Steps.{Puts, IsClosedIn, Closes, Reopens}
-use Rattle.local_link.specs.Calls.{Replaces, Armed, WasBefore, no_commands, header_of, MayServe}
-use Rattle.local_link.proofs.Standing.{server_of_put, here_now, there_now, said_of, known_of, closed_serves, closed_stands, header_same, counted, areas_serve}
+use Rattle.local_link.specs.Calls.{Replaces, Armed, WasBefore, no_commands, MayServe}
+use Rattle.local_link.proofs.Standing.{header_put, here_now, there_now, said_of, known_of, closed_serves, closed_stands, counted, ServesByAreas}
 
 -- ---- other rooms
-
-pub rooms_stand : (old new : Servers) (cloud : ℕ) (before after : Server) (rooms : Rooms) → Puts old new cloud before after → cloud < old.shape.n → IsClosedIn rooms after → (c : Cloud) (p : Peer)
-    → ((list : List Command) → MaySettleAs p list → IsWithin rooms list) → IsPeer old.shape cloud c (server_at old cloud) p → IsPeer new.shape cloud c (server_at new cloud) p
-rooms_stand old new cloud before after rooms put lt closed c p within is =
-    let of = server_of_put old new cloud before after put in
-    let new_of = new.are_servers.each cloud after (here_now old new cloud before after put lt) in
-    record {
-      faults = is.faults;
-      armings = is.armings;
-      serving = λ told.
-          let serving = known_of (server_at old cloud) before (λ (s : Server). IsServing s c p) put.here (is.serving told) in
-          said_of (server_at new cloud) after (λ (s : Server). IsServing s c p) (here_now old new cloud before after put lt)
-          (closed_serves after c p closed.shut
-          (subst (λ (h : Header). ImagesNow c h (MaySettleAs p)) (header_of_both old new cloud before after of new_of put.shape) serving.stands.images)
-          is.faults is.armings (λ list settles. subst (λ (r : Rooms). IsWithin r list) (sym closed.rooms_are) (within list settles)));
-      sound = λ told. subst (λ (s : Shape). StandsSound s cloud p) (sym put.shape) (is.sound told);
-    }
-  where
-    header_of_both : (old new : Servers) (cloud : ℕ) (before after : Server) → IsServerOf old.shape cloud before → IsServerOf new.shape cloud after → new.shape ≡ old.shape → before.state.header ≡ after.state.header
-    header_of_both old new cloud before after of new_of same =
-        header_same old.shape cloud before of ∙ ap (λ (s : Shape). header_of s cloud) (sym same) ∙ sym (header_same new.shape cloud after new_of)
-
-pub rooms_stand_on : {E : Type 0} (r : Result (Unit {0}) E) (old new : Servers) (cloud : ℕ) (rooms : Rooms) (c : Cloud) (p : Peer) → cloud < old.shape.n
-    → OnOk r ((before : Server) × (after : Server) × Puts old new cloud before after × IsClosedIn rooms after)
-    → IsPeer old.shape cloud c (server_at old cloud) p → ((list : List Command) → MaySettleAs p list → IsWithin rooms list) → OnOk r (IsPeer new.shape cloud c (server_at new cloud) p)
-rooms_stand_on (Ok u) old new cloud rooms c p lt put is within = rooms_stand old new cloud put.0 put.1 rooms put.2 lt put.3 c p within is
-rooms_stand_on (Err e) old new cloud rooms c p lt put is within = tt
 
 pub rooms_serve : {E : Type 0} (r : Result (Unit {0}) E) (old new : Servers) (cloud : ℕ) (rooms : Rooms) (c : Cloud) (p : Peer) → cloud < old.shape.n
     → OnOk r ((before : Server) × (after : Server) × Puts old new cloud before after × IsClosedIn rooms after)
@@ -113,10 +85,8 @@ opened_sound : (begin : Bool) (shape : Shape) (cloud : ℕ) (p q : Peer) (result
 opened_sound begin shape cloud p q (Ok commands) r sound = settled_sound shape cloud p q r.0 sound
 opened_sound begin shape cloud p q (Err errors.Fault) r sound = stays_sound shape cloud p q r.0 sound
 opened_sound begin shape cloud p q (Err (errors.NotBegun len)) r sound = subst (StandsSound shape cloud) (sym r.0) sound
-opened_sound begin shape cloud p q (Err (errors.OtherStore found asked)) r sound = absurd r
+opened_sound begin shape cloud p q (Err (errors.OtherStore found asked at)) r sound = absurd r
 opened_sound begin shape cloud p q (Err (errors.Damaged at byte)) r sound = absurd r
-opened_sound begin shape cloud p q (Err (errors.RoomsTooSmall room limit at)) r sound = absurd r
-opened_sound begin shape cloud p q (Err errors.NoMemory) r sound = absurd r
 
 stands_sound : (image : Image) (header : Header) (list : List Command) → StandsFor image header list → IsSound header.shape header.cloud.0 list
 unfolding StandsFor
@@ -124,44 +94,46 @@ stands_sound image header list s = s.0
 
 module _ (old_servers new_servers : Servers) (cloud : ℕ) (before after : Server) (put : Puts old_servers new_servers cloud before after) (lt : cloud < old_servers.shape.n)
     (old new : ℕ → Cloud) (faults_before faults_now : ℕ) (begin : Bool) (result : Result ℕ OpenErr) (x : Reopens before after old new faults_before faults_now begin result) where
-  of : IsServerOf old_servers.shape cloud before
-  of = server_of_put old_servers new_servers cloud before after put
+  h : before.store.header ≡ header_at old_servers cloud
+  h = header_put old_servers new_servers cloud before after put
 
-  record CallAt (n : ℕ) : Type 0 where
-    told : (new n).told ≡ (old n).told
-    armings : (new n).armings ≡ (old n).armings
-    later : (old n).faults ≤ (new n).faults
+  here : server_at new_servers cloud ≡ Some after
+  here = here_now old_servers new_servers cloud before after put lt
 
   pub reopens : (p : Peer) → IsTrue (old cloud).told → IsPeer old_servers.shape cloud (old cloud) (server_at old_servers cloud) p
       → (q : Peer) × IsPeer new_servers.shape cloud (new cloud) (server_at new_servers cloud) q × ReopensAs begin p q result
   reopens p told is =
-      let P : ℕ → Type 0 = λ n. IsTrue (old n).told → IsServing before (old n) p → (q : Peer) × IsServing after (new n) q × ReopensAs begin p q result in
-      let e = subst P of.number_is (x.peer p) told (known_of (server_at old_servers cloud) before (λ (s : Server). IsServing s (old cloud) p) put.here (is.serving told)) in (
+      let P : Header → Type 0 = λ d. IsTrue (old d.cloud.0).told → IsServing before (old d.cloud.0) p → (q : Peer) × IsServing after (new d.cloud.0) q × ReopensAs begin p q result in
+      let e = subst P h (x.peer p) told (known_of (server_at old_servers cloud) before (λ (s : Server). IsServing s (old cloud) p) put.here (is.serving told)) in (
         e.0,
         record {
           faults = e.1.stands.faults;
           armings = e.1.stands.armings;
-          serving = λ t. said_of (server_at new_servers cloud) after (λ (s : Server). IsServing s (new cloud) e.0) (here_now old_servers new_servers cloud before after put lt) e.1;
+          serving = λ t. said_of (server_at new_servers cloud) after (λ (s : Server). IsServing s (new cloud) e.0) here e.1;
           sound = λ t. subst (λ (s : Shape). StandsSound s cloud e.0) (sym put.shape) (opened_sound begin old_servers.shape cloud p e.0 result e.2 (is.sound told));
         },
         e.2,
       )
 
-  pub whole_here : IsTrue (old cloud).told → (list : List Command) → StandsFor (reads (old cloud).now) (header_of old_servers.shape cloud) list
-      → IsSomeAnd (server_at old_servers cloud) (λ (s : Server). IsWithin s.state.rooms list → MayBegin ((old cloud).now Journal).read begin → IsOkOrFault result)
-  whole_here told list stands =
-      let P : ℕ → Type 0 = λ n. IsTrue (old n).told → StandsFor (reads (old n).now) before.state.header list → IsWithin before.state.rooms list → MayBegin ((old n).now Journal).read begin → IsOkOrFault result in
-      said_of (server_at old_servers cloud) before (λ (s : Server). IsWithin s.state.rooms list → MayBegin ((old cloud).now Journal).read begin → IsOkOrFault result) put.here
-      (subst P of.number_is (λ t st. x.whole t list st) told (subst (λ (h : Header). StandsFor (reads (old cloud).now) h list) (sym (header_same old_servers.shape cloud before of)) stands))
+  pub whole_here : IsTrue (old cloud).told → (list : List Command) → StandsFor (reads (old cloud).now) (header_at old_servers cloud) list
+      → IsWithin old_servers.shape (rooms_at old_servers cloud) list → MayBegin ((old cloud).now Journal).read begin → IsOkOrFault result
+  whole_here =
+      subst (λ (d : Header). IsTrue (old d.cloud.0).told → (list : List Command) → StandsFor (reads (old d.cloud.0).now) d list
+      → IsWithin d.shape d.rooms list → MayBegin ((old d.cloud.0).now Journal).read begin → IsOkOrFault result) h x.whole
 
-  pub loaded_here : IsTrue (old cloud).told → (list : List Command) → StandsFor (reads (old cloud).now) (header_of old_servers.shape cloud) list
+  pub loaded_here : IsTrue (old cloud).told → (list : List Command) → StandsFor (reads (old cloud).now) (header_at old_servers cloud) list
+      → IsWithin old_servers.shape (rooms_at old_servers cloud) list
       → IfOk result (λ (commands : ℕ). (commands ≡ number_in list) × IsPeer new_servers.shape cloud (new cloud) (server_at new_servers cloud) (settled_with list (new cloud)))
-  loaded_here told list stands =
-      let P : ℕ → Type 0 = λ n. IsTrue (old n).told → StandsFor (reads (old n).now) before.state.header list → IfOk result (λ (commands : ℕ). (commands ≡ number_in list) × IsServing after (new n) (settled_with list (new n))) in
-      by_result result (subst P of.number_is (λ t s. x.loaded t list s) told (subst (λ (h : Header). StandsFor (reads (old cloud).now) h list) (sym (header_same old_servers.shape cloud before of)) stands))
+  loaded_here told list stands within = by_result result (loads told list stands within)
     where
+      loads : IsTrue (old cloud).told → (l : List Command) → StandsFor (reads (old cloud).now) (header_at old_servers cloud) l → IsWithin old_servers.shape (rooms_at old_servers cloud) l
+          → IfOk result (λ (commands : ℕ). (commands ≡ number_in l) × IsServing after (new cloud) (settled_with l (new cloud)))
+      loads =
+          subst (λ (d : Header). IsTrue (old d.cloud.0).told → (l : List Command) → StandsFor (reads (old d.cloud.0).now) d l → IsWithin d.shape d.rooms l
+          → IfOk result (λ (commands : ℕ). (commands ≡ number_in l) × IsServing after (new d.cloud.0) (settled_with l (new d.cloud.0)))) h x.loaded
+
       sound_one : (l : List Command) → MaySettleAs (settled_with list (new cloud)) l → IsSound old_servers.shape cloud l
-      sound_one l (inl same) = subst (IsSound old_servers.shape cloud) (sym same) (stands_sound (reads (old cloud).now) (header_of old_servers.shape cloud) list stands)
+      sound_one l (inl same) = subst (IsSound old_servers.shape cloud) (sym same) (stands_sound (reads (old cloud).now) (header_at old_servers cloud) list stands)
       sound_one l (inr none) = absurd none
 
       by_result : (r : Result ℕ OpenErr) → IfOk r (λ (commands : ℕ). (commands ≡ number_in list) × IsServing after (new cloud) (settled_with list (new cloud)))
@@ -171,77 +143,70 @@ module _ (old_servers new_servers : Servers) (cloud : ℕ) (before after : Serve
         record {
           faults = refl;
           armings = refl;
-          serving = λ t. said_of (server_at new_servers cloud) after (λ (s : Server). IsServing s (new cloud) (settled_with list (new cloud))) (here_now old_servers new_servers cloud before after put lt) e.1;
+          serving = λ t. said_of (server_at new_servers cloud) after (λ (s : Server). IsServing s (new cloud) (settled_with list (new cloud))) here e.1;
           sound = λ t. subst (λ (s : Shape). StandsSound s cloud (settled_with list (new cloud))) (sym put.shape) sound_one;
         },
       )
       by_result (Err e) y = tt
 
-  opened_at : server_at new_servers cloud ≡ Some after
-  opened_at = here_now old_servers new_servers cloud before after put lt
-
-  pub opens_here : OnOk result (IsSomeAnd (server_at new_servers cloud) (λ (s : Server). IsOpen s.state))
+  pub opens_here : OnOk result (IsSomeAnd (server_at new_servers cloud) (λ (s : Server). IsOpen s.store))
   opens_here = on_ok_said result x.opens
     where
-      on_ok_said : (r : Result ℕ OpenErr) → OnOk r (IsOpen after.state) → OnOk r (IsSomeAnd (server_at new_servers cloud) (λ (s : Server). IsOpen s.state))
-      on_ok_said (Ok n) is_open = said_of (server_at new_servers cloud) after (λ (s : Server). IsOpen s.state) opened_at is_open
+      on_ok_said : (r : Result ℕ OpenErr) → OnOk r (IsOpen after.store) → OnOk r (IsSomeAnd (server_at new_servers cloud) (λ (s : Server). IsOpen s.store))
+      on_ok_said (Ok n) is_open = said_of (server_at new_servers cloud) after (λ (s : Server). IsOpen s.store) here is_open
       on_ok_said (Err e) is_open = tt
 
-  pub shut_here : OnErr result (IsSomeAnd (server_at new_servers cloud) (λ (s : Server). s.state.log.journal.stage ≡ Shut))
+  pub shut_here : OnErr result (IsSomeAnd (server_at new_servers cloud) (λ (s : Server). ¬ (IsOpen s.store)))
   shut_here = on_err_said result x.shut
     where
-      on_err_said : (r : Result ℕ OpenErr) → OnErr r (after.state.log.journal.stage ≡ Shut) → OnErr r (IsSomeAnd (server_at new_servers cloud) (λ (s : Server). s.state.log.journal.stage ≡ Shut))
+      on_err_said : (r : Result ℕ OpenErr) → OnErr r (¬ (IsOpen after.store)) → OnErr r (IsSomeAnd (server_at new_servers cloud) (λ (s : Server). ¬ (IsOpen s.store)))
       on_err_said (Ok n) shut = tt
-      on_err_said (Err e) shut = said_of (server_at new_servers cloud) after (λ (s : Server). s.state.log.journal.stage ≡ Shut) opened_at shut
+      on_err_said (Err e) shut = said_of (server_at new_servers cloud) after (λ (s : Server). ¬ (IsOpen s.store)) here shut
 
   pub counts_here : OnFault result (HasFailed (old cloud) (new cloud) faults_before faults_now) (KeepsCounts (old cloud) (new cloud) faults_before faults_now)
-  counts_here = let P : ℕ → Type 0 = λ n. OnFault result (HasFailed (old n) (new n) faults_before faults_now) (KeepsCounts (old n) (new n) faults_before faults_now) in subst P of.number_is x.counts
+  counts_here =
+      subst (λ (d : Header). OnFault result (HasFailed (old d.cloud.0) (new d.cloud.0) faults_before faults_now) (KeepsCounts (old d.cloud.0) (new d.cloud.0) faults_before faults_now)) h x.counts
 
   pub not_begun_here : IsTrue (old cloud).told → NotBegunIs (old cloud) (new cloud) begin result
-  not_begun_here = let P : ℕ → Type 0 = λ n. IsTrue (old n).told → NotBegunIs (old n) (new n) begin result in subst P of.number_is x.not_begun
+  not_begun_here = subst (λ (d : Header). IsTrue (old d.cloud.0).told → NotBegunIs (old d.cloud.0) (new d.cloud.0) begin result) h x.not_begun
 
   pub exact_here : IsTrue (old cloud).told
-      → IsSomeAnd (server_at old_servers cloud) (λ (s : Server). OnFault result (Unit {0}) (Opens (header_of old_servers.shape cloud) s.state.rooms begin (reads (old cloud).now) result))
+      → IsSomeAnd (server_at new_servers cloud) (λ (s : Server). OnFault result (Unit {0}) (Opens (header_at old_servers cloud) begin (reads (old cloud).now) (memory_of s.store.memory) result))
   exact_here told =
-      let P : ℕ → Type 0 = λ n. IsTrue (old n).told → OnFault result (Unit {0}) (Opens before.state.header before.state.rooms begin (reads (old n).now) result) in
-      said_of (server_at old_servers cloud) before (λ (s : Server). OnFault result (Unit {0}) (Opens (header_of old_servers.shape cloud) s.state.rooms begin (reads (old cloud).now) result)) put.here
-      (subst (λ (h : Header). OnFault result (Unit {0}) (Opens h before.state.rooms begin (reads (old cloud).now) result)) (header_same old_servers.shape cloud before of) (subst P of.number_is x.exact told))
+      said_of (server_at new_servers cloud) after (λ (s : Server). OnFault result (Unit {0}) (Opens (header_at old_servers cloud) begin (reads (old cloud).now) (memory_of s.store.memory) result)) here
+      (subst (λ (d : Header). IsTrue (old d.cloud.0).told → OnFault result (Unit {0}) (Opens d begin (reads (old d.cloud.0).now) (memory_of after.store.memory) result)) h x.exact told)
 
-  pub other_here : IsTrue (old cloud).told → OtherStoreIs ((old cloud).now Journal).read (header_of old_servers.shape cloud) result
-  other_here told =
-      let P : ℕ → Type 0 = λ n. IsTrue (old n).told → OtherStoreIs ((old n).now Journal).read before.state.header result in
-      subst (λ (h : Header). OtherStoreIs ((old cloud).now Journal).read h result) (header_same old_servers.shape cloud before of) (subst P of.number_is x.other_store told)
+  pub other_here : IsTrue (old cloud).told → OtherStoreIs ((old cloud).now Journal).read (header_at old_servers cloud) result
+  other_here = subst (λ (d : Header). IsTrue (old d.cloud.0).told → OtherStoreIs ((old d.cloud.0).now Journal).read d result) h x.other_store
 
-  pub areas_here : IsTrue (old cloud).told → Spares (header_of old_servers.shape cloud) begin (old cloud) (new cloud) result
-  areas_here told =
-      let P : ℕ → Type 0 = λ n. IsTrue (old n).told → Spares before.state.header begin (old n) (new n) result in
-      subst (λ (h : Header). Spares h begin (old cloud) (new cloud) result) (header_same old_servers.shape cloud before of) (subst P of.number_is x.areas told)
+  pub areas_here : IsTrue (old cloud).told → Spares (header_at old_servers cloud) begin (old cloud) (new cloud) result
+  areas_here = subst (λ (d : Header). IsTrue (old d.cloud.0).told → Spares d begin (old d.cloud.0) (new d.cloud.0) result) h x.areas
 
   pub call_here : IsCall old new cloud faults_before faults_now
-  call_here = subst (λ (n : ℕ). IsCall old new n faults_before faults_now) of.number_is x.call
+  call_here = subst (λ (d : Header). IsCall old new d.cloud.0 faults_before faults_now) h x.call
 
   pub untold_here : (p : Peer) → (old cloud).told ≡ false → IsPeer old_servers.shape cloud (old cloud) (server_at old_servers cloud) p
       → (q : Peer) × IsPeer new_servers.shape cloud (new cloud) (server_at new_servers cloud) q × PeerStays p q × CountsOn p q
   untold_here p untold is =
-      let call = subst (λ (n : ℕ). CallAt n) of.number_is (record { told = x.call.told; armings = x.call.armings; later = x.call.later }) in
-      let never : (A : Type 0) → IsTrue (new cloud).told → A = λ A told. absurd (let f : true ≡ false = sym told ∙ call.told ∙ untold in cc) in (
+      let told : (new cloud).told ≡ (old cloud).told = call_here.told in
+      let armings : (new cloud).armings ≡ (old cloud).armings = call_here.armings in
+      let never : (A : Type 0) → IsTrue (new cloud).told → A = λ A t. absurd (let f : true ≡ false = sym t ∙ told ∙ untold in cc) in (
         counted p (new cloud),
-        record { faults = refl; armings = refl; serving = λ told. never _ told; sound = λ told. never _ told },
+        record { faults = refl; armings = refl; serving = λ t. never _ t; sound = λ t. never _ t },
         record { list = refl; pending = refl },
-        record { faults = let f = is.faults in let l = call.later in omega arith; armings = call.armings ∙ sym is.armings },
+        record { faults = let f = is.faults in let l : (old cloud).faults ≤ (new cloud).faults = call_here.later in omega arith; armings = armings ∙ sym is.armings },
       )
 
-  pub opened_images : IsTrue (old cloud).told → (lists : List (List Command)) → IsSomeAnd (server_at old_servers cloud) (λ (s : Server).
-      ImagesNow (old cloud) s.state.header (Contains lists) → ImagesSince (old cloud) (new cloud) s.state.header (Contains lists))
-  opened_images told lists =
-      let P : ℕ → Type 0 = λ n. IsTrue (old n).told → (ls : List (List Command)) → ImagesNow (old n) before.state.header (Contains ls) → ImagesSince (old n) (new n) before.state.header (Contains ls) in
-      said_of (server_at old_servers cloud) before (λ (s : Server). ImagesNow (old cloud) s.state.header (Contains lists) → ImagesSince (old cloud) (new cloud) s.state.header (Contains lists)) put.here
-      (subst P of.number_is x.images told lists)
+  pub opened_images : IsTrue (old cloud).told → (lists : List (List Command)) → ImagesNow (old cloud) (header_at old_servers cloud) (Contains lists)
+      → ImagesSince (old cloud) (new cloud) (header_at old_servers cloud) (Contains lists)
+  opened_images =
+      subst (λ (d : Header). IsTrue (old d.cloud.0).told → (lists : List (List Command)) → ImagesNow (old d.cloud.0) d (Contains lists)
+      → ImagesSince (old d.cloud.0) (new d.cloud.0) d (Contains lists)) h x.images
 
 -- ---- a replacement
 
 stable_empty : (now : Store) (image : List ℕ) → now ≡ stable [] → MayLeave now image → image ≡ []
-stable_empty now image e left = as_read now image (e ∙ ap stable (sym (ap (λ (s : Store). s.read) e))) left ∙ ap (λ (s : Store). s.read) e
+stable_empty now image e left = only [] image (subst (λ (s : Store). MayLeave s image) e left)
 
 empty_images : (cloud : Cloud) → ((area : Area) → cloud.now area ≡ stable []) → (image : Image) → IsImage cloud.now image → (area : Area) → image area ≡ []
 empty_images cloud now image left area = stable_empty (cloud.now area) (image area) (now area) (left area)
@@ -257,25 +222,36 @@ none_settles cloud list (inr none) = absurd none
 none_sound : (shape : Shape) (number : ℕ) (cloud : Cloud) → StandsSound shape number (no_commands cloud)
 none_sound shape number cloud list settles = subst (IsSound shape number) (sym (none_settles cloud list settles)) Begun
 
-none_stands : (server : Server) (old new : Cloud) → server.state.log.journal.stage ≡ Shut → ((area : Area) → new.now area ≡ stable []) → new.faults ≡ old.faults → new.armings ≡ old.armings
-    → IsWithin server.state.rooms [] → IsServing server new (no_commands old)
-none_stands server old new shut now faults armings within = closed_serves server new (no_commands old) shut
-    (λ image left. ([], inl refl, empty_stands image server.state.header (empty_images new now image left)))
-    (sym faults) (sym armings)
-    (λ list settles. subst (IsWithin server.state.rooms) (sym (none_settles old list settles)) within)
+-- areas that are all empty stand for no commands, and these are within any rooms
+abbrev pub EmptyStands : Type 0
+EmptyStands = (image : Image) → ((area : Area) → image area ≡ []) → HasNoJournal image
 
-module _ (old_servers new_servers : Servers) (cloud : ℕ) (before after : Server) (put : Puts old_servers new_servers cloud before after) (lt : cloud < old_servers.shape.n) (closes : Closes before after)
+abbrev pub NoneStands : Type 0
+NoneStands = (image : Image) (header : Header) → HasNoJournal image → StandsFor image header []
+
+abbrev pub NoneWithin : Type 0
+NoneWithin = (shape : Shape) (rooms : Rooms) → IsWithin shape rooms []
+
+none_stands : EmptyStands → NoneStands → NoneWithin → (server : Server) (old new : Cloud) → ¬ (IsOpen server.store) → ((area : Area) → new.now area ≡ stable [])
+    → new.faults ≡ old.faults → new.armings ≡ old.armings → IsServing server new (no_commands old)
+none_stands unbegun none within server old new shut now faults armings = closed_serves server new (no_commands old) shut
+    (λ image left. ([], inl refl, none image server.store.header (unbegun image (empty_images new now image left))))
+    (sym faults) (sym armings)
+    (λ list settles. subst (IsWithin server.store.header.shape server.store.header.rooms) (sym (none_settles old list settles)) (within server.store.header.shape server.store.header.rooms))
+
+module _ (areas : ServesByAreas) (unbegun : EmptyStands) (none : NoneStands) (none_within : NoneWithin)
+    (old_servers new_servers : Servers) (cloud : ℕ) (before after : Server) (put : Puts old_servers new_servers cloud before after) (lt : cloud < old_servers.shape.n) (closes : Closes before after)
     (old new : Cloud) (faults_before faults_now : ℕ) where
   here_after : server_at new_servers cloud ≡ Some after
   here_after = here_now old_servers new_servers cloud before after put lt
 
-  pub none_peer : (IsTrue old.told → IsFresh old new) → new.told ≡ old.told → new.faults ≡ old.faults → new.armings ≡ old.armings → (IsTrue old.told → IsWithin before.state.rooms [])
+  pub none_peer : (IsTrue old.told → IsFresh old new) → new.told ≡ old.told → new.faults ≡ old.faults → new.armings ≡ old.armings
       → IsPeer new_servers.shape cloud new (server_at new_servers cloud) (no_commands old)
-  none_peer fresh told faults armings within = record {
+  none_peer fresh told faults armings = record {
     faults = sym faults;
     armings = sym armings;
     serving = λ t. said_of (server_at new_servers cloud) after (λ (s : Server). IsServing s new (no_commands old)) here_after
-        (none_stands after old new closes.shut (fresh (sym told ∙ t)).now faults armings (subst (λ (r : Rooms). IsWithin r []) (sym closes.same.rooms) (within (sym told ∙ t))));
+        (none_stands unbegun none none_within after old new closes.shut (fresh (sym told ∙ t)).now faults armings);
     sound = λ t. none_sound new_servers.shape cloud old;
   }
 
@@ -286,10 +262,10 @@ module _ (old_servers new_servers : Servers) (cloud : ℕ) (before after : Serve
     armings = refl;
     serving = λ t.
         let was : IsTrue old.told = sym told ∙ t in
-        let serving = areas_serve before old new p told (stays was).now (known_of (server_at old_servers cloud) before (λ (s : Server). IsServing s old p) put.here (is.serving was)) in
+        let serving = areas before old new p told (stays was).now (known_of (server_at old_servers cloud) before (λ (s : Server). IsServing s old p) put.here (is.serving was)) in
         said_of (server_at new_servers cloud) after (λ (s : Server). IsServing s new (counted p new)) here_after
-        (closed_serves after new (counted p new) closes.shut (subst (λ (h : Header). ImagesNow new h (MaySettleAs p)) (sym closes.same.header) serving.stands.images) refl refl
-        (λ list settles. subst (λ (r : Rooms). IsWithin r list) (sym closes.same.rooms) (serving.within list settles)));
+        (closed_serves after new (counted p new) closes.shut (subst (λ (d : Header). ImagesNow new d (MaySettleAs p)) (sym closes.same) serving.stands.images) refl refl
+        (λ list settles. subst (λ (d : Header). IsWithin d.shape d.rooms list) (sym closes.same) (serving.within list settles)));
     sound = λ t. subst (λ (s : Shape). StandsSound s cloud (counted p new)) (sym put.shape) (is.sound (sym told ∙ t));
   }
 
@@ -301,8 +277,7 @@ module _ (old_servers new_servers : Servers) (cloud : ℕ) (before after : Serve
       → (p : Peer) → IsPeer old_servers.shape cloud old (server_at old_servers cloud) p → (q : Peer) × IsPeer new_servers.shape cloud new (server_at new_servers cloud) q × Replaces p q result
   replaced (Ok u) fresh told armings failed kept p is = (
     no_commands old,
-    none_peer (λ t. (fresh t).ok) told kept.cloud armings (λ t.
-        fewer_within before.state.rooms p.list ((known_of (server_at old_servers cloud) before (λ (s : Server). IsServing s old p) put.here (is.serving t)).within p.list (inl refl))),
+    none_peer (λ t. (fresh t).ok) told kept.cloud armings,
     (refl, refl, sym is.faults, sym is.armings),
   )
   replaced (Err e) fresh told armings failed kept p is = (
@@ -312,16 +287,9 @@ module _ (old_servers new_servers : Servers) (cloud : ℕ) (before after : Serve
   )
 
   pub freshened : (result : Result (Unit {0}) Failed) → (IsTrue old.told → Refreshes old new result) → new.told ≡ old.told → new.armings ≡ old.armings
-      → OnOk result (KeepsCounts old new faults_before faults_now)
-      → IsSomeAnd (server_at old_servers cloud) (λ (s : Server). IsWithin s.state.rooms [] → OnOk result (IsPeer new_servers.shape cloud new (server_at new_servers cloud) (no_commands old)))
-  freshened result fresh told armings kept =
-      said_of (server_at old_servers cloud) before (λ (s : Server). IsWithin s.state.rooms [] → OnOk result (IsPeer new_servers.shape cloud new (server_at new_servers cloud) (no_commands old))) put.here
-      (on_ok result fresh kept)
-    where
-      on_ok : (r : Result (Unit {0}) Failed) → (IsTrue old.told → Refreshes old new r) → OnOk r (KeepsCounts old new faults_before faults_now) → IsWithin before.state.rooms []
-          → OnOk r (IsPeer new_servers.shape cloud new (server_at new_servers cloud) (no_commands old))
-      on_ok (Ok u) fresh kept within = none_peer (λ t. (fresh t).ok) told kept.cloud armings (λ t. within)
-      on_ok (Err e) fresh kept within = tt
+      → OnOk result (KeepsCounts old new faults_before faults_now) → OnOk result (IsPeer new_servers.shape cloud new (server_at new_servers cloud) (no_commands old))
+  freshened (Ok u) fresh told armings kept = none_peer (λ t. (fresh t).ok) told kept.cloud armings
+  freshened (Err e) fresh told armings kept = tt
 
 -- ---- an arming
 
@@ -329,14 +297,14 @@ some_map : {A : Type 0} (P Q : A → Type 0) (o : Option A) → ((x : A) → P x
 some_map P Q (Some x) f p = f x p
 some_map P Q None f p = p
 
-pub armed : (shape : Shape) (cloud : ℕ) (server : Option Server) (old new : Cloud) (calls keep : ℕ) (p : Peer) → Arms old new calls keep → IsPeer shape cloud old server p
+pub armed : ServesByAreas → (shape : Shape) (cloud : ℕ) (server : Option Server) (old new : Cloud) (calls keep : ℕ) (p : Peer) → Arms old new calls keep → IsPeer shape cloud old server p
     → (q : Peer) × IsPeer shape cloud new server q × Armed p q
-armed shape cloud server old new calls keep p arms is = (
+armed areas shape cloud server old new calls keep p arms is = (
   counted p new,
   record {
     faults = refl;
     armings = refl;
-    serving = λ t. some_map (λ (s : Server). IsServing s old p) (λ (s : Server). IsServing s new (counted p new)) server (λ s serving. areas_serve s old new p arms.told arms.now serving) (is.serving (sym arms.told ∙ t));
+    serving = λ t. some_map (λ (s : Server). IsServing s old p) (λ (s : Server). IsServing s new (counted p new)) server (λ s serving. areas s old new p arms.told arms.now serving) (is.serving (sym arms.told ∙ t));
     sound = λ t. is.sound (sym arms.told ∙ t);
   },
   record {

@@ -1,5 +1,5 @@
 -- What executing a request does to the peer that a cloud stands as.
-use Rattle.std.proofs.Common.{◌≡◌, ◌⊎◌, ℕ, ◌<◌, ◌≤◌, Bool, true, false, List, length, Option, Some, None, Ok, Err, refl, sym, ap, ◌∙◌, subst, arith, inl}
+use Rattle.std.proofs.Common.{◌≡◌, ◌⊎◌, ℕ, ◌<◌, ◌≤◌, Bool, true, false, List, length, Option, Some, Ok, Err, refl, sym, ap, ◌∙◌, subst, arith, inl}
 use Rattle.std.specs.Prelude.{IsTrue, IsSomeAnd}
 use Rattle.cd_base.specs.Reading.{AreBytes}
 use Rattle.cd_base.specs.declared.ids.Fp.{Fp}
@@ -8,28 +8,30 @@ use Rattle.cd_edges.specs.Causes.{Rose}
 use Rattle.cd_edges.specs.Disk.{Cloud}
 use Rattle.cd_edges.specs.Shelf.{IsCall}
 use Rattle.cd_edges.proofs.Moments.{started}
+use Rattle.journal_start.specs.declared.rooms.Rooms.{Rooms}
+use Rattle.journal_start.specs.declared.start.Header.{Header}
 use Rattle.messages.specs.declared.request.Request.{Request}
 use Rattle.messages.specs.declared.reply.Reply.{Reply}
 use Rattle.messages.specs.declared.reply.Reply.TheVariants as replies
 use Rattle.messages.specs.Replies.{IsReply, reply_bytes}
 use Rattle.user_dedup.specs.declared.command.Command.{Command}
 use Rattle.user_dedup.specs.Requests.{asked_at}
-use Rattle.user_dedup.specs.Dedup.{Outcome, FullRoom}
-use Rattle.user_dedup.specs.Exec.{Peer, Exec, StandsSound, served}
+use Rattle.user_dedup.specs.Dedup.{Outcome}
+use Rattle.user_dedup.specs.Exec.{Peer, MaySettleAs, Exec, StandsSound, served}
+use Rattle.user_dedup.specs.Served.{served_by}
 use Rattle.user_dedup.proofs.Asked.{asked_law}
 use Rattle.user_dedup.proofs.Execs.{keeps_sound}
-use Rattle.cloud_store.specs.Space.{full_for}
-use Rattle.cloud_store.specs.Standing.{StandsForSome, ImagesSince, MayBecome}
-use Rattle.request_dispatch.specs.Asking.{IsFound}
-use Rattle.share_server.specs.declared.server.Server.{Server}
-use Rattle.cloud_state.specs.State.{IsOpen}
-use Rattle.share_server.specs.Serving.{number_of, IsServing, server_serves, CanOpen, Refused}
+use Rattle.cloud_areas.specs.Peers.{StandsForSome, ImagesNow, ImagesSince, MayBecome}
+use Rattle.cloud_memory.specs.Rooms.{memory_of}
+use Rattle.open_store.specs.Store.{IsOpen}
+use Rattle.server_commands.specs.Leaving.{IsFound}
+use Rattle.cloud_server.specs.declared.server.Server.{Server}
+use Rattle.cloud_server.specs.Serving.{IsServing, CanOpen, Refused, ChangesBehind, OpensFirst}
 use Rattle.local_link.specs.declared.servers.Servers.{Servers}
 use Rattle.local_link.specs.declared.link.LocalLink.{LocalLink}
-use Rattle.local_link.specs.Members.{IsServerOf}
-use Rattle.local_link.specs.Tells.{server_at, full_by, IsPeer}
+use Rattle.local_link.specs.Tells.{server_at, rooms_at, header_at, full_at, IsPeer}
 use Rattle.local_link.specs.Steps.{Puts, Executed, Replied, RepliesOpen, Executes}
-use Rattle.local_link.proofs.Standing.{server_of_put, here_now, said_of, known_of, peer_moves}
+use Rattle.local_link.proofs.Standing.{header_put, here_now, said_of, known_of, peer_moves}
 use Rattle.local_link.proofs.Malformed.{place_fits}
 
 -- a cloud went on by a request
@@ -38,60 +40,75 @@ pub record GoesOn (old_servers new_servers : Servers) (cloud : ℕ) (old new : C
   pub answer : Reply
   pub stands : IsPeer new_servers.shape cloud new (server_at new_servers cloud) peer
   pub is : IsReply reply answer
-  pub exec : Exec old_servers.shape old.told (served old_servers.shape cloud (full_by (server_at old_servers cloud))) p request answer peer
+  pub exec : Exec old_servers.shape old.told (served old_servers.shape cloud (full_at old_servers cloud)) p request answer peer
 
 module _ (old_servers new_servers : Servers) (cloud : ℕ) (before after : Server) (put : Puts old_servers new_servers cloud before after) (lt : cloud < old_servers.shape.n)
     (old new : ℕ → Cloud) (faults_before faults_now : ℕ) (content reply : List ℕ) (x : Executes before after old new faults_before faults_now content reply) where
-  of : IsServerOf old_servers.shape cloud before
-  of = server_of_put old_servers new_servers cloud before after put
+  h : before.store.header ≡ header_at old_servers cloud
+  h = header_put old_servers new_servers cloud before after put
 
   here : server_at new_servers cloud ≡ Some after
   here = here_now old_servers new_servers cloud before after put lt
 
-  full_is : full_by (Some before) ≡ full_by (server_at old_servers cloud)
-  full_is = ap full_by (sym put.here)
-
   -- the clauses at the cloud's number
   exec_here : (p : Peer) (r : Request) → IsTrue (old cloud).told → IsServing before (old cloud) p → asked_at old_servers.shape content ≡ Ok r → Executed before after (new cloud) p r reply
   exec_here p r =
-      let P : ℕ → Shape → Type 0 = λ n s. IsTrue (old n).told → IsServing before (old n) p → asked_at s content ≡ Ok r → Executed before after (new n) p r reply in
-      subst (λ (n : ℕ). P n old_servers.shape) of.number_is (subst (P (number_of before)) of.shape_is (x.exec p r))
+      subst (λ (d : Header). IsTrue (old d.cloud.0).told → IsServing before (old d.cloud.0) p → asked_at d.shape content ≡ Ok r → Executed before after (new d.cloud.0) p r reply) h (x.exec p r)
 
   pub replied_here : (r : Request) → asked_at old_servers.shape content ≡ Ok r → Replied old_servers.shape (old cloud) (new cloud) faults_before faults_now r reply
   replied_here r =
-      let P : ℕ → Shape → Type 0 = λ n s. asked_at s content ≡ Ok r → Replied s (old n) (new n) faults_before faults_now r reply in
-      subst (λ (n : ℕ). P n old_servers.shape) of.number_is (subst (P (number_of before)) of.shape_is (x.untold r))
+      subst (λ (d : Header). asked_at d.shape content ≡ Ok r → Replied d.shape (old d.cloud.0) (new d.cloud.0) faults_before faults_now r reply) h (x.untold r)
 
   pub uncounted_here : (at : ℕ) → asked_at old_servers.shape content ≡ Err at → faults_now ≡ faults_before
-  uncounted_here at = subst (λ (s : Shape). asked_at s content ≡ Err at → faults_now ≡ faults_before) of.shape_is (x.uncounted at)
+  uncounted_here at = subst (λ (d : Header). asked_at d.shape content ≡ Err at → faults_now ≡ faults_before) h (x.uncounted at)
 
   pub called_here : IsCall old new cloud faults_before faults_now
-  called_here = subst (λ (n : ℕ). IsCall old new n faults_before faults_now) of.number_is x.call
+  called_here = subst (λ (d : Header). IsCall old new d.cloud.0 faults_before faults_now) h x.call
 
   pub closed_here : (r : Request) → IsTrue (old cloud).told → asked_at old_servers.shape content ≡ Ok r
-      → IsSomeAnd (server_at old_servers cloud) (λ (s : Server). ¬ IsOpen s.state → CanOpen s.state (old cloud) ⊎ Refused s.state (old cloud) (new cloud) reply)
+      → IsSomeAnd (server_at old_servers cloud) (λ (s : Server). ¬ (IsOpen s.store) → CanOpen s.store (old cloud) ⊎ Refused s.store (old cloud) (new cloud) reply)
   closed_here r told asked =
-      let P : ℕ → Shape → Type 0 = λ n s. IsTrue (old n).told → ¬ IsOpen before.state → asked_at s content ≡ Ok r → CanOpen before.state (old n) ⊎ Refused before.state (old n) (new n) reply in
-      let at_shape : P (number_of before) old_servers.shape = subst (P (number_of before)) of.shape_is (x.closed r) in
-      let at_cloud : P cloud old_servers.shape = subst (λ (n : ℕ). P n old_servers.shape) of.number_is at_shape in
-      said_of (server_at old_servers cloud) before (λ (s : Server). ¬ IsOpen s.state → CanOpen s.state (old cloud) ⊎ Refused s.state (old cloud) (new cloud) reply) put.here
+      let at_cloud =
+      subst (λ (d : Header). IsTrue (old d.cloud.0).told → ¬ (IsOpen before.store) → asked_at d.shape content ≡ Ok r
+      → CanOpen before.store (old d.cloud.0) ⊎ Refused before.store (old d.cloud.0) (new d.cloud.0) reply) h (x.closed r) in
+      said_of (server_at old_servers cloud) before (λ (s : Server). ¬ (IsOpen s.store) → CanOpen s.store (old cloud) ⊎ Refused s.store (old cloud) (new cloud) reply) put.here
       (λ shut. at_cloud told shut asked)
 
   pub opened_here : (r : Request) → asked_at old_servers.shape content ≡ Ok r
-      → IsSomeAnd (server_at old_servers cloud) (λ (s : Server). IsOpen s.state → RepliesOpen old new faults_before faults_now r reply)
+      → IsSomeAnd (server_at old_servers cloud) (λ (s : Server). IsOpen s.store → RepliesOpen old new faults_before faults_now r reply)
   opened_here r asked =
-      said_of (server_at old_servers cloud) before (λ (s : Server). IsOpen s.state → RepliesOpen old new faults_before faults_now r reply) put.here
-      (λ is_open. subst (λ (s : Shape). asked_at s content ≡ Ok r → RepliesOpen old new faults_before faults_now r reply) of.shape_is (x.opened r is_open) asked)
+      said_of (server_at old_servers cloud) before (λ (s : Server). IsOpen s.store → RepliesOpen old new faults_before faults_now r reply) put.here
+      (λ is_open. subst (λ (d : Header). asked_at d.shape content ≡ Ok r → RepliesOpen old new faults_before faults_now r reply) h (x.opened r is_open) asked)
 
   pub found_here : (r : Request) → asked_at old_servers.shape content ≡ Ok r
-      → IsSomeAnd (server_at new_servers cloud) (λ (s : Server). (named what : Fp) → IsReply reply (replies.Rotten named what) → IsFound (new cloud) s.state.index r named what)
+      → IsSomeAnd (server_at new_servers cloud) (λ (s : Server). (named what : Fp) → IsReply reply (replies.Rotten named what) → IsFound (new cloud) (memory_of s.store.memory) r named what)
   found_here r asked =
-      said_of (server_at new_servers cloud) after (λ (s : Server). (named what : Fp) → IsReply reply (replies.Rotten named what) → IsFound (new cloud) s.state.index r named what) here
-      (λ named what rotten.
-      let P : ℕ → Shape → Type 0 = λ n s. asked_at s content ≡ Ok r → IsReply reply (replies.Rotten named what) → IsFound (new n) after.state.index r named what in
-      let at_shape : P (number_of before) old_servers.shape = subst (P (number_of before)) of.shape_is (x.found r named what) in
-      let at_cloud : P cloud old_servers.shape = subst (λ (n : ℕ). P n old_servers.shape) of.number_is at_shape in
-      at_cloud asked rotten)
+      said_of (server_at new_servers cloud) after (λ (s : Server). (named what : Fp) → IsReply reply (replies.Rotten named what) → IsFound (new cloud) (memory_of s.store.memory) r named what) here
+      (λ named what.
+      subst (λ (d : Header). asked_at d.shape content ≡ Ok r → IsReply reply (replies.Rotten named what) → IsFound (new d.cloud.0) (memory_of after.store.memory) r named what) h (x.found r named what) asked)
+
+  pub behind_here : (r : Request) → asked_at old_servers.shape content ≡ Ok r
+      → IsSomeAnd (server_at old_servers cloud) (λ (s : Server). IsOpen s.store
+      → IsSomeAnd (server_at new_servers cloud) (λ (t : Server). ChangesBehind s.store t.store (old cloud) (new cloud) r))
+  behind_here r asked =
+      said_of (server_at old_servers cloud) before (λ (s : Server). IsOpen s.store
+      → IsSomeAnd (server_at new_servers cloud) (λ (t : Server). ChangesBehind s.store t.store (old cloud) (new cloud) r)) put.here
+      (λ is_open.
+      let at_cloud = subst (λ (d : Header). asked_at d.shape content ≡ Ok r → ChangesBehind before.store after.store (old d.cloud.0) (new d.cloud.0) r) h (x.behind r is_open) in
+      said_of (server_at new_servers cloud) after (λ (t : Server). ChangesBehind before.store t.store (old cloud) (new cloud) r) here (at_cloud asked))
+
+  pub first_here : (r : Request) → IsTrue (old cloud).told → asked_at old_servers.shape content ≡ Ok r
+      → IsSomeAnd (server_at old_servers cloud) (λ (s : Server). ¬ (IsOpen s.store)
+      → IsSomeAnd (server_at new_servers cloud) (λ (t : Server). OpensFirst s.store t.store (old cloud) (new cloud) r ⊎ Refused s.store (old cloud) (new cloud) reply))
+  first_here r told asked =
+      said_of (server_at old_servers cloud) before (λ (s : Server). ¬ (IsOpen s.store)
+      → IsSomeAnd (server_at new_servers cloud) (λ (t : Server). OpensFirst s.store t.store (old cloud) (new cloud) r ⊎ Refused s.store (old cloud) (new cloud) reply)) put.here
+      (λ shut.
+      let at_cloud =
+      subst (λ (d : Header). IsTrue (old d.cloud.0).told → ¬ (IsOpen before.store) → asked_at d.shape content ≡ Ok r
+      → OpensFirst before.store after.store (old d.cloud.0) (new d.cloud.0) r ⊎ Refused before.store (old d.cloud.0) (new d.cloud.0) reply) h (x.first r) in
+      said_of (server_at new_servers cloud) after (λ (t : Server). OpensFirst before.store t.store (old cloud) (new cloud) r ⊎ Refused before.store (old cloud) (new cloud) reply) here
+      (at_cloud told shut asked))
 
   told_goes : (p : Peer) (r : Request) → AreBytes content → (old cloud).told ≡ true → IsPeer old_servers.shape cloud (old cloud) (server_at old_servers cloud) p → asked_at old_servers.shape content ≡ Ok r
       → GoesOn old_servers new_servers cloud (old cloud) (new cloud) p r reply
@@ -99,12 +116,9 @@ module _ (old_servers new_servers : Servers) (cloud : ℕ) (before after : Serve
       let asks = (asked_law old_servers.shape content r known).0 asked in
       let serving = known_of (server_at old_servers cloud) before (λ (s : Server). IsServing s (old cloud) p) put.here (is.serving told) in
       let e = exec_here p r told serving asked in
-      let F : Shape → ℕ → Bool → (List Command → Command → Option FullRoom) → Type 0 = λ s n b f. Exec s b (served s n f) p r e.answer e.left in
-      let by_shape : F old_servers.shape before.state.header.cloud.0 true (full_for before.state.rooms) =
-      subst (λ (s : Shape). F s before.state.header.cloud.0 true (full_for before.state.rooms)) of.shape_is e.exec in
-      let by_number : F old_servers.shape cloud true (full_for before.state.rooms) = subst (λ (n : ℕ). F old_servers.shape n true (full_for before.state.rooms)) of.number_is by_shape in
-      let by_full : F old_servers.shape cloud true (full_by (server_at old_servers cloud)) = subst (λ (f : List Command → Command → Option FullRoom). F old_servers.shape cloud true f) full_is by_number in
-      let sound = keeps_sound old_servers.shape cloud (full_by (server_at old_servers cloud)) p e.left r e.answer (is.sound told) asks.asked.fits asks.recipe by_full in
+      let exec : Exec old_servers.shape true (served old_servers.shape cloud (full_at old_servers cloud)) p r e.answer e.left =
+      subst (λ (d : Header). Exec d.shape true (served_by d.rooms d.shape d.cloud.0) p r e.answer e.left) h e.exec in
+      let sound = keeps_sound old_servers.shape cloud (full_at old_servers cloud) p e.left r e.answer (is.sound told) asks.asked.fits asks.recipe exec in
       record {
         peer = e.left;
         answer = e.answer;
@@ -115,24 +129,24 @@ module _ (old_servers new_servers : Servers) (cloud : ℕ) (before after : Serve
           sound = λ t. subst (λ (s : Shape). StandsSound s cloud e.left) (sym put.shape) sound;
         };
         is = e.is;
-        exec = subst (λ (b : Bool). F old_servers.shape cloud b (full_by (server_at old_servers cloud))) (sym told) by_full;
+        exec = subst (λ (b : Bool). Exec old_servers.shape b (served old_servers.shape cloud (full_at old_servers cloud)) p r e.answer e.left) (sym told) exec;
       }
 
   told_call : (new cloud).told ≡ (old cloud).told
-  told_call = subst (λ (n : ℕ). (new n).told ≡ (old n).told) of.number_is x.call.told
+  told_call = called_here.told
 
   armings_call : (new cloud).armings ≡ (old cloud).armings
-  armings_call = subst (λ (n : ℕ). (new n).armings ≡ (old n).armings) of.number_is x.call.armings
+  armings_call = called_here.armings
 
   later_call : (old cloud).faults ≤ (new cloud).faults
-  later_call = subst (λ (n : ℕ). (old n).faults ≤ (new n).faults) of.number_is x.call.later
+  later_call = called_here.later
 
   untold_goes : (p : Peer) (r : Request) → (old cloud).told ≡ false → IsPeer old_servers.shape cloud (old cloud) (server_at old_servers cloud) p → asked_at old_servers.shape content ≡ Ok r
       → GoesOn old_servers new_servers cloud (old cloud) (new cloud) p r reply
   untold_goes p r untold is asked =
       let e = replied_here r asked in
       let q : Peer = record { list = p.list; pending = p.pending; faults = (new cloud).faults; armings = (new cloud).armings } in
-      let shown : Exec old_servers.shape false (served old_servers.shape cloud (full_by (server_at old_servers cloud))) p r e.answer q = record {
+      let shown : Exec old_servers.shape false (served old_servers.shape cloud (full_at old_servers cloud)) p r e.answer q = record {
         counts = record { faults = let f = is.faults in let l = later_call in omega arith; armings = armings_call ∙ sym is.armings };
         does = record {
           kind = e.kind;
@@ -151,7 +165,7 @@ module _ (old_servers new_servers : Servers) (cloud : ℕ) (before after : Serve
           sound = λ told. absurd (let f : true ≡ false = sym told ∙ told_call ∙ untold in cc);
         };
         is = e.is;
-        exec = subst (λ (b : Bool). Exec old_servers.shape b (served old_servers.shape cloud (full_by (server_at old_servers cloud))) p r e.answer q) (sym untold) shown;
+        exec = subst (λ (b : Bool). Exec old_servers.shape b (served old_servers.shape cloud (full_at old_servers cloud)) p r e.answer q) (sym untold) shown;
       }
     where
       rose_at : (a b c : ℕ) → a ≡ b → Rose a c → Rose b c
@@ -167,7 +181,7 @@ module _ (old_servers new_servers : Servers) (cloud : ℕ) (before after : Serve
 
   -- content that asks nothing
   refused : (at : ℕ) → asked_at old_servers.shape content ≡ Err at → (reply ≡ reply_bytes (replies.Malformed at)) × (after ≡ before) × (new ≡ old)
-  refused at = subst (λ (s : Shape). asked_at s content ≡ Err at → (reply ≡ reply_bytes (replies.Malformed at)) × (after ≡ before) × (new ≡ old)) of.shape_is (x.malformed at)
+  refused at = subst (λ (d : Header). asked_at d.shape content ≡ Err at → (reply ≡ reply_bytes (replies.Malformed at)) × (after ≡ before) × (new ≡ old)) h (x.malformed at)
 
   pub refused_clouds : (at : ℕ) → asked_at old_servers.shape content ≡ Err at → new ≡ old
   refused_clouds at asked = (refused at asked).2
@@ -185,25 +199,18 @@ module _ (old_servers new_servers : Servers) (cloud : ℕ) (before after : Serve
 
   -- what a crash leaves meanwhile
   pub images_since : (p : Peer) (r : Request) → IsTrue (old cloud).told → IsPeer old_servers.shape cloud (old cloud) (server_at old_servers cloud) p → asked_at old_servers.shape content ≡ Ok r
-      → IsSomeAnd (server_at old_servers cloud) (λ (s : Server). ImagesSince (old cloud) (new cloud) s.state.header (MayBecome (served old_servers.shape cloud (full_by (server_at old_servers cloud))) p r))
+      → ImagesSince (old cloud) (new cloud) (header_at old_servers cloud) (MayBecome (served old_servers.shape cloud (full_at old_servers cloud)) p r)
   images_since p r told is asked =
       let serving = known_of (server_at old_servers cloud) before (λ (s : Server). IsServing s (old cloud) p) put.here (is.serving told) in
-      let P : ℕ → Shape → Type 0 = λ n s. IsTrue (old n).told → IsServing before (old n) p → asked_at s content ≡ Ok r → ImagesSince (old n) (new n) before.state.header (MayBecome (server_serves before) p r) in
-      let at_shape : P (number_of before) old_servers.shape = subst (P (number_of before)) of.shape_is (x.images p r) in
-      let at_cloud : P cloud old_servers.shape = subst (λ (n : ℕ). P n old_servers.shape) of.number_is at_shape in
-      let F : Shape → ℕ → (List Command → Command → Option FullRoom) → Type 0 = λ s n f. ImagesSince (old cloud) (new cloud) before.state.header (MayBecome (served s n f) p r) in
-      let by_shape : F old_servers.shape before.state.header.cloud.0 (full_for before.state.rooms) =
-      subst (λ (s : Shape). F s before.state.header.cloud.0 (full_for before.state.rooms)) of.shape_is (at_cloud told serving asked) in
-      let by_number : F old_servers.shape cloud (full_for before.state.rooms) = subst (λ (n : ℕ). F old_servers.shape n (full_for before.state.rooms)) of.number_is by_shape in
-      said_of (server_at old_servers cloud) before (λ (s : Server). ImagesSince (old cloud) (new cloud) s.state.header (MayBecome (served old_servers.shape cloud (full_by (server_at old_servers cloud))) p r)) put.here
-      (subst (λ (f : List Command → Command → Option FullRoom). F old_servers.shape cloud f) full_is by_number)
+      let at_cloud =
+      subst (λ (d : Header). IsTrue (old d.cloud.0).told → IsServing before (old d.cloud.0) p → asked_at d.shape content ≡ Ok r
+      → ImagesSince (old d.cloud.0) (new d.cloud.0) d (MayBecome (served_by d.rooms d.shape d.cloud.0) p r)) h (x.images p r) in
+      at_cloud told serving asked
 
 -- ---- nothing was executed
 
-pub images_stay : (server : Option Server) (serve : List Command → Request → Outcome) (c : Cloud) (p : Peer) (r : Request) → IsSomeAnd server (λ (s : Server). IsServing s c p)
-    → IsSomeAnd server (λ (s : Server). ImagesSince c c s.state.header (MayBecome serve p r))
-images_stay None serve c p r none = none
-images_stay (Some s) serve c p r is = started c (StandsForSome s.state.header (MayBecome serve p r)) (λ image left. let f = is.stands.images image left in (f.0, inl f.1, f.2))
+pub images_stay : (header : Header) (serve : List Command → Request → Outcome) (c : Cloud) (p : Peer) (r : Request) → ImagesNow c header (MaySettleAs p) → ImagesSince c c header (MayBecome serve p r)
+images_stay header serve c p r now = started c (StandsForSome header (MayBecome serve p r)) (λ image left. let f = now image left in (f.0, inl f.1, f.2))
 
 -- ---- a loss is counted, and nothing else
 
@@ -211,9 +218,12 @@ pub peer_counted : {V : Type 0} (clouds : V → ℕ → Cloud) (a b : LocalLink 
     → IsPeer a.servers.shape cloud (clouds a.shelf.now cloud) (server_at a.servers cloud) p → IsPeer b.servers.shape cloud (clouds b.shelf.now cloud) (server_at b.servers cloud) p
 peer_counted {V} clouds a b cloud p e is = subst (λ (l : LocalLink V). IsPeer l.servers.shape cloud (clouds l.shelf.now cloud) (server_at l.servers cloud) p) (sym e) is
 
-pub images_counted : {V : Type 0} (clouds : V → ℕ → Cloud) (a b : LocalLink V) (cloud : ℕ) (old : Cloud) (server : Option Server) (P : List Command → Type 0) → b ≡ a
-    → IsSomeAnd server (λ (s : Server). ImagesSince old (clouds a.shelf.now cloud) s.state.header P) → IsSomeAnd server (λ (s : Server). ImagesSince old (clouds b.shelf.now cloud) s.state.header P)
-images_counted {V} clouds a b cloud old server P e is = subst (λ (l : LocalLink V). IsSomeAnd server (λ (s : Server). ImagesSince old (clouds l.shelf.now cloud) s.state.header P)) (sym e) is
+pub images_counted : {V : Type 0} (clouds : V → ℕ → Cloud) (a b : LocalLink V) (cloud : ℕ) (old : Cloud) (header : Header) (P : List Command → Type 0) → b ≡ a
+    → ImagesSince old (clouds a.shelf.now cloud) header P → ImagesSince old (clouds b.shelf.now cloud) header P
+images_counted {V} clouds a b cloud old header P e is = subst (λ (l : LocalLink V). ImagesSince old (clouds l.shelf.now cloud) header P) (sym e) is
+
+pub rooms_counted : {V : Type 0} (a b : LocalLink V) (cloud : ℕ) (rooms : Rooms) → b ≡ a → rooms_at a.servers cloud ≡ rooms → rooms_at b.servers cloud ≡ rooms
+rooms_counted {V} a b cloud rooms e is = ap (λ (l : LocalLink V). rooms_at l.servers cloud) e ∙ is
 
 pub clouds_counted : {V : Type 0} (clouds : V → ℕ → Cloud) (a b : LocalLink V) (old : ℕ → Cloud) → b ≡ a → clouds a.shelf.now ≡ old → clouds b.shelf.now ≡ old
 clouds_counted {V} clouds a b old e is = ap (λ (l : LocalLink V). clouds l.shelf.now) e ∙ is
@@ -232,22 +242,37 @@ pub replied_counted : {V : Type 0} (clouds : V → ℕ → Cloud) (faults : V �
 replied_counted {V} clouds faults a b cloud shape old before r reply e is = subst (λ (l : LocalLink V). Replied shape old (clouds l.shelf.now cloud) before (faults l.shelf.now) r reply) (sym e) is
 
 pub closed_counted : {V : Type 0} (clouds : V → ℕ → Cloud) (a b : LocalLink V) (cloud : ℕ) (server : Option Server) (old : Cloud) (reply : List ℕ) → b ≡ a
-    → IsSomeAnd server (λ (s : Server). ¬ IsOpen s.state → CanOpen s.state old ⊎ Refused s.state old (clouds a.shelf.now cloud) reply)
-    → IsSomeAnd server (λ (s : Server). ¬ IsOpen s.state → CanOpen s.state old ⊎ Refused s.state old (clouds b.shelf.now cloud) reply)
+    → IsSomeAnd server (λ (s : Server). ¬ (IsOpen s.store) → CanOpen s.store old ⊎ Refused s.store old (clouds a.shelf.now cloud) reply)
+    → IsSomeAnd server (λ (s : Server). ¬ (IsOpen s.store) → CanOpen s.store old ⊎ Refused s.store old (clouds b.shelf.now cloud) reply)
 closed_counted {V} clouds a b cloud server old reply e is =
-    subst (λ (l : LocalLink V). IsSomeAnd server (λ (s : Server). ¬ IsOpen s.state → CanOpen s.state old ⊎ Refused s.state old (clouds l.shelf.now cloud) reply)) (sym e) is
+    subst (λ (l : LocalLink V). IsSomeAnd server (λ (s : Server). ¬ (IsOpen s.store) → CanOpen s.store old ⊎ Refused s.store old (clouds l.shelf.now cloud) reply)) (sym e) is
 
 pub opened_counted : {V : Type 0} (clouds : V → ℕ → Cloud) (faults : V → ℕ) (a b : LocalLink V) (server : Option Server) (old : ℕ → Cloud) (before : ℕ) (r : Request) (reply : List ℕ) → b ≡ a
-    → IsSomeAnd server (λ (s : Server). IsOpen s.state → RepliesOpen old (clouds a.shelf.now) before (faults a.shelf.now) r reply)
-    → IsSomeAnd server (λ (s : Server). IsOpen s.state → RepliesOpen old (clouds b.shelf.now) before (faults b.shelf.now) r reply)
+    → IsSomeAnd server (λ (s : Server). IsOpen s.store → RepliesOpen old (clouds a.shelf.now) before (faults a.shelf.now) r reply)
+    → IsSomeAnd server (λ (s : Server). IsOpen s.store → RepliesOpen old (clouds b.shelf.now) before (faults b.shelf.now) r reply)
 opened_counted {V} clouds faults a b server old before r reply e is =
-    subst (λ (l : LocalLink V). IsSomeAnd server (λ (s : Server). IsOpen s.state → RepliesOpen old (clouds l.shelf.now) before (faults l.shelf.now) r reply)) (sym e) is
+    subst (λ (l : LocalLink V). IsSomeAnd server (λ (s : Server). IsOpen s.store → RepliesOpen old (clouds l.shelf.now) before (faults l.shelf.now) r reply)) (sym e) is
 
 pub found_counted : {V : Type 0} (clouds : V → ℕ → Cloud) (a b : LocalLink V) (cloud : ℕ) (r : Request) (reply : List ℕ) → b ≡ a
-    → IsSomeAnd (server_at a.servers cloud) (λ (s : Server). (named what : Fp) → IsReply reply (replies.Rotten named what) → IsFound (clouds a.shelf.now cloud) s.state.index r named what)
-    → IsSomeAnd (server_at b.servers cloud) (λ (s : Server). (named what : Fp) → IsReply reply (replies.Rotten named what) → IsFound (clouds b.shelf.now cloud) s.state.index r named what)
+    → IsSomeAnd (server_at a.servers cloud) (λ (s : Server). (named what : Fp) → IsReply reply (replies.Rotten named what) → IsFound (clouds a.shelf.now cloud) (memory_of s.store.memory) r named what)
+    → IsSomeAnd (server_at b.servers cloud) (λ (s : Server). (named what : Fp) → IsReply reply (replies.Rotten named what) → IsFound (clouds b.shelf.now cloud) (memory_of s.store.memory) r named what)
 found_counted {V} clouds a b cloud r reply e is =
-    subst (λ (l : LocalLink V). IsSomeAnd (server_at l.servers cloud) (λ (s : Server). (named what : Fp) → IsReply reply (replies.Rotten named what) → IsFound (clouds l.shelf.now cloud) s.state.index r named what)) (sym e) is
+    subst (λ (l : LocalLink V). IsSomeAnd (server_at l.servers cloud) (λ (s : Server). (named what : Fp) → IsReply reply (replies.Rotten named what) → IsFound (clouds l.shelf.now cloud) (memory_of s.store.memory) r named what)) (sym e) is
 
 pub total_counted : {V : Type 0} (faults : V → ℕ) (a b : LocalLink V) (before : ℕ) → b ≡ a → faults a.shelf.now ≡ before → faults b.shelf.now ≡ before
 total_counted {V} faults a b before e is = ap (λ (l : LocalLink V). faults l.shelf.now) e ∙ is
+
+pub behind_counted : {V : Type 0} (clouds : V → ℕ → Cloud) (a b : LocalLink V) (cloud : ℕ) (server : Option Server) (old : Cloud) (r : Request) → b ≡ a
+    → IsSomeAnd server (λ (s : Server). IsOpen s.store → IsSomeAnd (server_at a.servers cloud) (λ (t : Server). ChangesBehind s.store t.store old (clouds a.shelf.now cloud) r))
+    → IsSomeAnd server (λ (s : Server). IsOpen s.store → IsSomeAnd (server_at b.servers cloud) (λ (t : Server). ChangesBehind s.store t.store old (clouds b.shelf.now cloud) r))
+behind_counted {V} clouds a b cloud server old r e is =
+    subst (λ (l : LocalLink V). IsSomeAnd server (λ (s : Server). IsOpen s.store → IsSomeAnd (server_at l.servers cloud) (λ (t : Server). ChangesBehind s.store t.store old (clouds l.shelf.now cloud) r))) (sym e) is
+
+pub first_counted : {V : Type 0} (clouds : V → ℕ → Cloud) (a b : LocalLink V) (cloud : ℕ) (server : Option Server) (old : Cloud) (r : Request) (reply : List ℕ) → b ≡ a
+    → IsSomeAnd server (λ (s : Server). ¬ (IsOpen s.store) → IsSomeAnd (server_at a.servers cloud) (λ (t : Server).
+    OpensFirst s.store t.store old (clouds a.shelf.now cloud) r ⊎ Refused s.store old (clouds a.shelf.now cloud) reply))
+    → IsSomeAnd server (λ (s : Server). ¬ (IsOpen s.store) → IsSomeAnd (server_at b.servers cloud) (λ (t : Server).
+    OpensFirst s.store t.store old (clouds b.shelf.now cloud) r ⊎ Refused s.store old (clouds b.shelf.now cloud) reply))
+first_counted {V} clouds a b cloud server old r reply e is =
+    subst (λ (l : LocalLink V). IsSomeAnd server (λ (s : Server). ¬ (IsOpen s.store) → IsSomeAnd (server_at l.servers cloud) (λ (t : Server).
+    OpensFirst s.store t.store old (clouds l.shelf.now cloud) r ⊎ Refused s.store old (clouds l.shelf.now cloud) reply))) (sym e) is

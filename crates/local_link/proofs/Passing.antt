@@ -7,7 +7,7 @@ use Rattle.std.proofs.lemmas.Bool.{cases_eq}
 use Rattle.cd_base.specs.declared.shape.Shape.{Shape}
 use Rattle.cd_edges.specs.Disk.{Cloud}
 use Rattle.cd_edges.proofs.Moments.{started, joined, weaker, left_alone}
-use Rattle.commit_journal.specs.declared.header.Header.{Header}
+use Rattle.journal_start.specs.declared.start.Header.{Header}
 use Rattle.messages.specs.declared.request.Request.{Request}
 use Rattle.messages.specs.declared.request.Request.TheVariants as requests
 use Rattle.messages.specs.declared.reply.Reply.{Reply}
@@ -16,16 +16,13 @@ use Rattle.user_dedup.specs.Dedup.{FullRoom}
 use Rattle.user_dedup.specs.Requests.{asked_at, HasRecipe}
 use Rattle.user_dedup.specs.Exec.{Peer, MaySettleAs, Stays, CountsOn, Exec, ExecTold, ExecUntold, IsCut, served}
 use Rattle.user_dedup.proofs.Asked.{asked_law}
-use Rattle.cloud_store.specs.Standing.{StandsForSome, ImagesNow, ImagesSince, MayBecome}
-use Rattle.share_server.specs.declared.server.Server.{Server}
-use Rattle.share_server.specs.Serving.{IsServing}
+use Rattle.cloud_areas.specs.Peers.{StandsForSome, ImagesSince, MayBecome}
 use Rattle.local_link.specs.declared.link.LocalLink.{LocalLink}
-use Rattle.local_link.specs.Tells.{server_at, full_by, IsPeer, LeavesRest, serving_at, StandsAt, PassesOn, telling}
-use Rattle.user_dedup.specs.Link.{Exchange, exchange_of, AddsNothing, Passes, ReadsFrom, LeavesOthers, Asks, serves}
+use Rattle.local_link.specs.Tells.{server_at, header_at, rooms_at, full_at, IsPeer, LeavesRest, serving_at, StandsAt, PassesOn, telling}
+use Rattle.user_dedup.specs.Link.{Exchange, exchange_of, AddsNothing, Passes, ReadsFrom, Asks, serves}
 use Rattle.cd_base.specs.Reading.{AreBytes}
 use Rattle.local_link.specs.declared.fate.Fate.TheVariants.{Deliver}
-use Rattle.local_link.specs.Calls.{header_of}
-use Rattle.local_link.proofs.Standing.{some_server, known_of, header_same, peer_moves}
+use Rattle.local_link.proofs.Standing.{images_now, header_stays, peer_moves}
 
 -- ---- what adds nothing
 
@@ -78,23 +75,16 @@ module _ (shape : Shape) (cloud : ℕ) (full : List Command → Command → Opti
 -- ---- the chain
 
 module _ {V : Type 0} (clouds : V → ℕ → Cloud) where
-  images_now : (link : LocalLink V) (cloud : ℕ) (p : Peer) → cloud < link.servers.shape.n → IsTrue (clouds link.shelf.now cloud).told → StandsAt clouds link cloud p
-      → ImagesNow (clouds link.shelf.now cloud) (header_of link.servers.shape cloud) (MaySettleAs p)
-  images_now link cloud p lt told is =
-      let here = some_server link.servers cloud lt in
-      let serving = known_of (server_at link.servers cloud) here.0 (λ (s : Server). IsServing s (clouds link.shelf.now cloud) p) here.1 (is.serving told) in
-      subst (λ (h : Header). ImagesNow (clouds link.shelf.now cloud) h (MaySettleAs p)) (header_same link.servers.shape cloud here.0 (link.servers.are_servers.each cloud here.0 here.1)) serving.stands.images
-
   -- one ask, and what follows
   read_step : (named : List ℕ) (e : Exchange) (old mid new : LocalLink V) (cloud : ℕ) (p : Peer) → ReadsFrom named e → PassesOn clouds old e mid → cloud < old.servers.shape.n
       → IsTrue (clouds old.shelf.now cloud).told → StandsAt clouds old cloud p
       → ((q : Peer) → cloud < mid.servers.shape.n → IsTrue (clouds mid.shelf.now cloud).told → StandsAt clouds mid cloud q
-      → ImagesSince (clouds mid.shelf.now cloud) (clouds new.shelf.now cloud) (header_of mid.servers.shape cloud) (MaySettleAs q))
-      → ImagesSince (clouds old.shelf.now cloud) (clouds new.shelf.now cloud) (header_of old.servers.shape cloud) (MaySettleAs p)
+      → ImagesSince (clouds mid.shelf.now cloud) (clouds new.shelf.now cloud) (header_at mid.servers cloud) (MaySettleAs q))
+      → ImagesSince (clouds old.shelf.now cloud) (clouds new.shelf.now cloud) (header_at old.servers cloud) (MaySettleAs p)
   read_step named e old mid new cloud p reads step lt told is more = by_cloud (cases_eq cloud e.cloud)
     where
       header : Header
-      header = header_of old.servers.shape cloud
+      header = header_at old.servers cloud
 
       r : Request
       r = reads.1.0
@@ -110,32 +100,33 @@ module _ {V : Type 0} (clouds : V → ℕ → Cloud) where
           → ImagesSince (clouds old.shelf.now cloud) (clouds new.shelf.now cloud) header (MaySettleAs p)
       goes_on q stands fewer first =
           let rest = more q (subst (λ (s : Shape). cloud < s.n) (sym step.rest.shape_stays) lt) (subst (λ (b : Bool). IsTrue b) (sym (step.rest.told_stays cloud)) told) stands in
-          let rest_here = subst (λ (s : Shape). ImagesSince (clouds mid.shelf.now cloud) (clouds new.shelf.now cloud) (header_of s cloud) (MaySettleAs q)) step.rest.shape_stays rest in
+          let rest_here =
+          subst (λ (h : Header). ImagesSince (clouds mid.shelf.now cloud) (clouds new.shelf.now cloud) h (MaySettleAs q)) (header_stays clouds e.cloud cloud old mid step.rest step.rooms) rest in
           joined (clouds old.shelf.now cloud) (clouds mid.shelf.now cloud) (clouds new.shelf.now cloud) (StandsForSome header (MaySettleAs p)) first
           (weaker (clouds mid.shelf.now cloud) (clouds new.shelf.now cloud) (StandsForSome header (MaySettleAs q)) (StandsForSome header (MaySettleAs p)) rest_here (λ image some. (some.0, fewer some.0 some.1, some.2)))
 
       fewer : (q : Peer) → IsTrue (clouds old.shelf.now e.cloud).told → (Stays p q × CountsOn p q) ⊎ ((answer : Reply) × Exec old.servers.shape (clouds old.shelf.now e.cloud).told (serving_at old e.cloud) p r answer q)
           → (list : List Command) → MaySettleAs q list → MaySettleAs p list
-      fewer q t (inl x) = stays_in old.servers.shape e.cloud (full_by (server_at old.servers e.cloud)) r none p q x.0
+      fewer q t (inl x) = stays_in old.servers.shape e.cloud (full_at old.servers e.cloud) r none p q x.0
       fewer q t (inr x) =
-          executed_in old.servers.shape e.cloud (full_by (server_at old.servers e.cloud)) r none p q x.0
+          executed_in old.servers.shape e.cloud (full_at old.servers e.cloud) r none p q x.0
           (subst (λ (b : Bool). MatchBool b (ExecTold (serving_at old e.cloud) p r x.0 q) (ExecUntold old.servers.shape p r x.0 q)) t x.1.does)
 
       at_asked : StandsAt clouds old e.cloud p → IsTrue (clouds old.shelf.now e.cloud).told → (q : Peer) × StandsAt clouds mid e.cloud q × ((list : List Command) → MaySettleAs q list → MaySettleAs p list)
-          × ImagesSince (clouds old.shelf.now e.cloud) (clouds mid.shelf.now e.cloud) (header_of old.servers.shape e.cloud) (MaySettleAs p)
+          × ImagesSince (clouds old.shelf.now e.cloud) (clouds mid.shelf.now e.cloud) (header_at old.servers e.cloud) (MaySettleAs p)
       at_asked stands t =
           let x = step.goes p r asked stands in (
             x.0,
             x.1,
             fewer x.0 t x.2,
-            weaker (clouds old.shelf.now e.cloud) (clouds mid.shelf.now e.cloud) _ (StandsForSome (header_of old.servers.shape e.cloud) (MaySettleAs p)) (step.images p r t stands asked)
-                (λ image some. (some.0, becomes old.servers.shape e.cloud (full_by (server_at old.servers e.cloud)) r none p some.0 some.1, some.2)),
+            weaker (clouds old.shelf.now e.cloud) (clouds mid.shelf.now e.cloud) _ (StandsForSome (header_at old.servers e.cloud) (MaySettleAs p)) (step.images p r t stands asked)
+                (λ image some. (some.0, becomes old.servers.shape e.cloud (full_at old.servers e.cloud) r none p some.0 some.1, some.2)),
           )
 
       asked_cloud : cloud ≡ e.cloud → ImagesSince (clouds old.shelf.now cloud) (clouds new.shelf.now cloud) header (MaySettleAs p)
       asked_cloud same =
           let P : ℕ → Type 0 = λ n. StandsAt clouds old n p → IsTrue (clouds old.shelf.now n).told → (q : Peer) × StandsAt clouds mid n q × ((list : List Command) → MaySettleAs q list → MaySettleAs p list)
-          × ImagesSince (clouds old.shelf.now n) (clouds mid.shelf.now n) (header_of old.servers.shape n) (MaySettleAs p) in
+          × ImagesSince (clouds old.shelf.now n) (clouds mid.shelf.now n) (header_at old.servers n) (MaySettleAs p) in
           let x = subst P (sym same) at_asked is told in
           goes_on x.0 x.1 x.2 x.3
 
@@ -146,15 +137,15 @@ module _ {V : Type 0} (clouds : V → ℕ → Cloud) where
           (subst (λ (s : Shape). IsPeer s cloud (clouds mid.shelf.now cloud) (server_at mid.servers cloud) p) (sym step.rest.shape_stays)
           (peer_moves old.servers.shape cloud (clouds old.shelf.now cloud) (clouds mid.shelf.now cloud) (server_at old.servers cloud) (server_at mid.servers cloud) p (step.rest.clouds_stay cloud ne) (step.rest.servers_stay cloud ne) is))
           (λ list settles. settles)
-          (left_alone (clouds old.shelf.now cloud) (clouds mid.shelf.now cloud) (StandsForSome header (MaySettleAs p)) (step.rest.clouds_stay cloud ne) (images_now old cloud p lt told is))
+          (left_alone (clouds old.shelf.now cloud) (clouds mid.shelf.now cloud) (StandsForSome header (MaySettleAs p)) (step.rest.clouds_stay cloud ne) (images_now old.servers cloud (clouds old.shelf.now cloud) p lt told is))
 
   -- each image since then stands for a list that the cloud might have settled as
   pub read_images : (named : List ℕ) (es : List Exchange) (old new : LocalLink V) (cloud : ℕ) (p : Peer) → Passes (telling clouds) (ReadsFrom named) old es new → cloud < old.servers.shape.n
       → IsTrue (clouds old.shelf.now cloud).told → StandsAt clouds old cloud p
-      → ImagesSince (clouds old.shelf.now cloud) (clouds new.shelf.now cloud) (header_of old.servers.shape cloud) (MaySettleAs p)
+      → ImagesSince (clouds old.shelf.now cloud) (clouds new.shelf.now cloud) (header_at old.servers cloud) (MaySettleAs p)
   read_images named [] old new cloud p same lt told is =
-      subst (λ (l : LocalLink V). ImagesSince (clouds old.shelf.now cloud) (clouds l.shelf.now cloud) (header_of old.servers.shape cloud) (MaySettleAs p)) (sym same)
-      (started (clouds old.shelf.now cloud) (StandsForSome (header_of old.servers.shape cloud) (MaySettleAs p)) (images_now old cloud p lt told is))
+      subst (λ (l : LocalLink V). ImagesSince (clouds old.shelf.now cloud) (clouds l.shelf.now cloud) (header_at old.servers cloud) (MaySettleAs p)) (sym same)
+      (started (clouds old.shelf.now cloud) (StandsForSome (header_at old.servers cloud) (MaySettleAs p)) (images_now old.servers cloud (clouds old.shelf.now cloud) p lt told is))
   read_images named (e ∷ es) old new cloud p chain lt told is =
       read_step named e old chain.1.0 new cloud p chain.0 chain.1.1 lt told is (λ q below t stands. read_images named es chain.1.0 new cloud q chain.1.2 below t stands)
 
@@ -172,38 +163,28 @@ module _ {V : Type 0} (clouds : V → ℕ → Cloud) where
 -- ---- one ask
 
 pub passes_by : {V E : Type 0} (clouds : V → ℕ → Cloud) (old new : LocalLink V) (cloud : ℕ) (content reply : List ℕ) (result : Result (Unit {0}) E) → cloud < old.servers.shape.n → AreBytes content
-    → LeavesRest clouds cloud old new → LeavesOthers (telling clouds) cloud old new → new.fate ≡ Deliver → new.shelf.ghost_name ≡ old.shelf.ghost_name
+    → LeavesRest clouds cloud old new → rooms_at new.servers cloud ≡ rooms_at old.servers cloud → new.fate ≡ Deliver → new.shelf.ghost_name ≡ old.shelf.ghost_name
     → ((r : Request) → asked_at old.servers.shape content ≡ Ok r → Asks (telling clouds) cloud old r reply result new)
     → ((p : Peer) (r : Request) → IsTrue (clouds old.shelf.now cloud).told → StandsAt clouds old cloud p → asked_at old.servers.shape content ≡ Ok r
-    → IsSomeAnd (server_at old.servers cloud) (λ (s : Server). ImagesSince (clouds old.shelf.now cloud) (clouds new.shelf.now cloud) s.state.header (MayBecome (serves (telling clouds) old cloud) p r)))
+    → ImagesSince (clouds old.shelf.now cloud) (clouds new.shelf.now cloud) (header_at old.servers cloud) (MayBecome (serves (telling clouds) old cloud) p r))
     → PassesOn clouds old (exchange_of cloud content result reply) new
-passes_by {E = E} clouds old new cloud content reply result lt bytes rest others fate same exec images = by_result result exec
-  where
-    image : (p : Peer) (r : Request) → IsTrue (clouds old.shelf.now cloud).told → StandsAt clouds old cloud p → asked_at old.servers.shape content ≡ Ok r
-        → ImagesSince (clouds old.shelf.now cloud) (clouds new.shelf.now cloud) (header_of old.servers.shape cloud) (MayBecome (serving_at old cloud) p r)
-    image p r told is asked =
-        let here = some_server old.servers cloud lt in
-        let x = known_of (server_at old.servers cloud) here.0 (λ (s : Server). ImagesSince (clouds old.shelf.now cloud) (clouds new.shelf.now cloud) s.state.header (MayBecome (serving_at old cloud) p r)) here.1 (images p r told is asked) in
-        subst (λ (h : Header). ImagesSince (clouds old.shelf.now cloud) (clouds new.shelf.now cloud) h (MayBecome (serving_at old cloud) p r)) (header_same old.servers.shape cloud here.0 (old.servers.are_servers.each cloud here.0 here.1)) x
-
-    by_result : (result : Result (Unit {0}) E) → ((r : Request) → asked_at old.servers.shape content ≡ Ok r → Asks (telling clouds) cloud old r reply result new) → PassesOn clouds old (exchange_of cloud content result reply) new
-    by_result (Ok u) exec = record {
-      reached = lt;
-      bytes = bytes;
-      rest = rest;
-      full = ap (λ (f : ℕ → List Command → Command → Option FullRoom). f cloud) others.full;
-      fate = fate;
-      same_reference = same;
-      goes = λ p r asked is. let x = exec r asked p is in (x.0, x.1, inr (x.2.0, x.2.2));
-      images = image;
-    }
-    by_result (Err e) exec = record {
-      reached = lt;
-      bytes = bytes;
-      rest = rest;
-      full = ap (λ (f : ℕ → List Command → Command → Option FullRoom). f cloud) others.full;
-      fate = fate;
-      same_reference = same;
-      goes = λ p r asked is. let x = exec r asked p is in (x.0, x.1, x.2);
-      images = image;
-    }
+passes_by clouds old new cloud content reply (Ok u) lt bytes rest rooms fate same exec images = record {
+  reached = lt;
+  bytes = bytes;
+  rest = rest;
+  rooms = rooms;
+  fate = fate;
+  same_reference = same;
+  goes = λ p r asked is. let x = exec r asked p is in (x.0, x.1, inr (x.2.0, x.2.2));
+  images = images;
+}
+passes_by clouds old new cloud content reply (Err e) lt bytes rest rooms fate same exec images = record {
+  reached = lt;
+  bytes = bytes;
+  rest = rest;
+  rooms = rooms;
+  fate = fate;
+  same_reference = same;
+  goes = λ p r asked is. let x = exec r asked p is in (x.0, x.1, x.2);
+  images = images;
+}

@@ -5,12 +5,12 @@ use Rattle.std.proofs.lemmas.Bool.{cases_eq}
 use Rattle.std.proofs.lemmas.List.{get_or-set_same, get_or-set_other, length-set, length-append, get_or_append_left, get_or_push}
 use Rattle.std.proofs.lemmas.Option.{slice_get_within, slice_get_cases, slice_get_past, slice_get-get_or, get_or_from_slice_get}
 use Rattle.cd_base.specs.declared.ids.CloudNo.{CloudNo}
-use Rattle.cd_base.specs.declared.rooms.Rooms.{Rooms}
 use Rattle.cd_base.specs.declared.shape.Shape.{Shape}
-use Rattle.commit_journal.specs.declared.journal.Stage.TheVariants.{Shut}
-use Rattle.cloud_state.specs.State.{IsSameServer}
-use Rattle.share_server.specs.declared.server.Server.{Server}
-use Rattle.share_server.specs.Serving.{IsOf}
+use Rattle.journal_start.specs.declared.rooms.Rooms.{Rooms}
+use Rattle.journal_start.specs.declared.start.Header.{Header}
+use Rattle.open_store.specs.Store.{IsOpen}
+use Rattle.cloud_server.specs.Names.{header_of}
+use Rattle.cloud_server.specs.declared.server.Server.{Server}
 use Rattle.local_link.specs.Members.{IsServerOf, AreServers}
 use Rattle.local_link.specs.Steps.{IsClosedIn}
 
@@ -27,10 +27,9 @@ set_there xs i j v ne = elim (slice_get_cases xs j).1 [
 ]
 
 -- a server of the same cloud in the same rooms
-pub server_of_same : (shape : Shape) (number : ℕ) (before after : Server) → IsSameServer before.state after.state → IsServerOf shape number before → IsServerOf shape number after
+pub server_of_same : (shape : Shape) (number : ℕ) (before after : Server) → after.store.header ≡ before.store.header → IsServerOf shape number before → IsServerOf shape number after
 server_of_same shape number before after same of = record {
-  number_is = ap (λ h. h.cloud.0) same.header ∙ of.number_is;
-  shape_is = ap (λ h. h.shape) same.header ∙ of.shape_is;
+  header_is = same ∙ of.header_is ∙ ap (λ (h : Header). header_of shape h.rooms number) (sym same);
 }
 
 -- another server of that cloud at its place
@@ -55,11 +54,12 @@ stands_at shape list cloud server are lt e = let n = are.count in slice_get-get_
 
 -- ---- servers that are made
 
-pub server_made : (shape : Shape) (cloud : CloudNo) (rooms : Rooms) (server : Server) → IsOf server cloud shape rooms → IsServerOf shape cloud.0 server
-server_made shape cloud rooms server of = record {
-  number_is = ap (λ (c : CloudNo). c.0) of.cloud_is;
-  shape_is = of.shape_is;
-}
+pub server_made : (shape : Shape) (number : ℕ) (rooms : Rooms) (server : Server) → server.store.header ≡ header_of shape rooms number → IsServerOf shape number server
+server_made shape number rooms server of = record { header_is = of ∙ ap (λ (h : Header). header_of shape h.rooms number) (sym of) }
+
+-- in its rooms, where it is closed
+pub closed_made : (shape : Shape) (number : ℕ) (rooms : Rooms) (server : Server) → server.store.header ≡ header_of shape rooms number → ¬ (IsOpen server.store) → IsClosedIn rooms server
+closed_made shape number rooms server of shut = record { rooms_are = ap (λ (h : Header). h.rooms) of; shut = shut }
 
 -- so many servers are made, each of its own number, and closed
 pub record Made (shape : Shape) (rooms : Rooms) (list : List Server) (count : ℕ) : Type 0 where
@@ -73,7 +73,7 @@ none_made shape rooms list e = record {
 }
 
 pub one_made : (shape : Shape) (rooms : Rooms) (list : List Server) (count : ℕ) (cloud : CloudNo) (server : Server) → Made shape rooms list count → cloud.0 ≡ count
-    → IsOf server cloud shape rooms → server.state.log.journal.stage ≡ Shut → Made shape rooms (list ++ server ∷ []) (count + 1)
+    → server.store.header ≡ header_of shape rooms cloud.0 → ¬ (IsOpen server.store) → Made shape rooms (list ++ server ∷ []) (count + 1)
 one_made shape rooms list count cloud server made here of shut = record {
   long = omega (arith, length-append list (server ∷ []), made.long);
   each = λ number other g. by_place number other g (cases_eq number (length list));
@@ -85,8 +85,8 @@ one_made shape rooms list count cloud server made here of shut = record {
         let same : server ≡ other = some_same server other _ is_last g in
         let at : cloud.0 ≡ number = here ∙ sym made.long ∙ sym last in
         subst (λ (s : Server). IsServerOf shape number s × IsClosedIn rooms s) same (
-          subst (λ (n : ℕ). IsServerOf shape n server) at (server_made shape cloud rooms server of),
-          record { rooms_are = of.rooms_are; shut = shut },
+          subst (λ (n : ℕ). IsServerOf shape n server) at (server_made shape cloud.0 rooms server of),
+          closed_made shape cloud.0 rooms server of shut,
         )
     by_place number other g (inr not_last) =
         let within = slice_get_within (list ++ server ∷ []) number other g in

@@ -1,6 +1,6 @@
 -- What the calls of the link do to a cloud's peer.
 use Rattle.std.specs.Prelude.{◌≡◌, ◌⊎◌, ℕ, ◌+◌, ◌-◌, ◌^◌, min, IsTrue, List, [], None, Result, Ok, Err}
-use Rattle.cd_base.specs.declared.rooms.Rooms.{Rooms}
+use Rattle.journal_start.specs.declared.rooms.Rooms.{Rooms}
 use Rattle.cd_base.specs.declared.shape.Shape.{Shape}
 use Rattle.cd_edges.specs.declared.area.Area.{Area}
 use Rattle.cd_edges.specs.declared.stream.Failed.{Failed}
@@ -8,17 +8,17 @@ use Rattle.cd_edges.specs.Causes.{Rose}
 use Rattle.cd_edges.specs.Disk.{Cloud, Image, IsImage, LeavesOnly}
 use Rattle.user_dedup.specs.declared.command.Command.{Command}
 use Rattle.user_dedup.specs.Exec.{Peer, MaySettleAs, Stays, StandsSound}
-use Rattle.cloud_store.specs.Space.{IsWithin}
-use Rattle.cloud_store.specs.Standing.{ImagesNow}
-pub use Rattle.share_server.specs.Names.{header_of}
+use Rattle.user_dedup.specs.Spending.{IsWithin}
+use Rattle.cloud_areas.specs.Peers.{ImagesNow}
+pub use Rattle.cloud_server.specs.Names.{header_of}
 
 -- A cloud may be served as this peer, in these rooms: its counts are the peer's, and where it is told each image now stands for a list that
 -- the peer may settle as, all of which are sound and within the rooms.
 pub record MayServe (shape : Shape) (number : ℕ) (rooms : Rooms) (cloud : Cloud) (p : Peer) : Type 0 where
   pub faults : p.faults ≡ cloud.faults
   pub armings : p.armings ≡ cloud.armings
-  pub images : IsTrue cloud.told → ImagesNow cloud (header_of shape number) (MaySettleAs p)
-  pub within : IsTrue cloud.told → (list : List Command) → MaySettleAs p list → IsWithin rooms list
+  pub images : IsTrue cloud.told → ImagesNow cloud (header_of shape rooms number) (MaySettleAs p)
+  pub within : IsTrue cloud.told → (list : List Command) → MaySettleAs p list → IsWithin shape rooms list
   pub sound : IsTrue cloud.told → StandsSound shape number p
 
 -- the peer of no commands, with the cloud's counts

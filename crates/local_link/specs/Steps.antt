@@ -2,14 +2,12 @@
 use Rattle.std.specs.Prelude.{◌≡◌, ◌≢◌, ◌⊎◌, ℕ, Bool, true, IsTrue, List, Some, Result, Ok, Err, IfOk, OnOk, OnErr, slice_set}
 use Rattle.std.specs.List.{Contains}
 use Rattle.cd_base.specs.declared.ids.Fp.{Fp}
-use Rattle.cd_base.specs.declared.rooms.Rooms.{Rooms}
+use Rattle.journal_start.specs.declared.rooms.Rooms.{Rooms}
 use Rattle.cd_base.specs.declared.shape.Shape.{Shape}
 use Rattle.cd_edges.specs.declared.area.Area.TheVariants.{Journal}
 use Rattle.cd_edges.specs.Disk.{Cloud, reads}
 use Rattle.cd_edges.specs.Shelf.{IsCall, HasFailed, KeepsCounts}
-use Rattle.commit_journal.specs.declared.errors.OpenErr.{OpenErr}
-use Rattle.commit_journal.specs.declared.errors.OpenErr.TheVariants as errors
-use Rattle.commit_journal.specs.declared.journal.Stage.TheVariants.{Shut}
+use Rattle.half_journal.specs.declared.errors.OpenErr.{OpenErr}
 use Rattle.messages.specs.declared.request.Request.{Request}
 use Rattle.messages.specs.declared.reply.Reply.{Reply}
 use Rattle.messages.specs.declared.reply.Reply.TheVariants as replies
@@ -18,19 +16,19 @@ use Rattle.messages.specs.Replies.{IsReply, reply_bytes}
 use Rattle.user_dedup.specs.declared.command.Command.{Command}
 use Rattle.user_dedup.specs.Requests.{asked_at}
 use Rattle.user_dedup.specs.Exec.{Peer, Exec, items_of}
-use Rattle.commit_journal.specs.Openings.{OnFault, HasBegun}
-use Rattle.cloud_opening.specs.Replied.{IsOkOrFault, MayBegin, NotBegunIs, OtherStoreIs}
-use Rattle.cloud_opening.specs.Exact.{Opens}
-use Rattle.cloud_opening.specs.Spared.{Spares}
-use Rattle.cloud_store.specs.Space.{IsWithin}
-use Rattle.cloud_state.specs.State.{IsOpen, IsSameServer}
-use Rattle.cloud_store.specs.Standing.{ImagesNow, ImagesSince, MayBecome}
-use Rattle.cloud_store.specs.Store.{StandsFor}
-use Rattle.request_dispatch.specs.Asking.{IsFound}
-use Rattle.request_dispatch.specs.Leaving.{LeavesAll}
-use Rattle.share_server.specs.declared.server.Server.{Server}
-use Rattle.share_server.specs.Names.{counted}
-use Rattle.share_server.specs.Serving.{number_of, IsServing, server_serves, settled_with, ReopensAs, CanOpen, Refused}
+use Rattle.half_journal.specs.Openings.{OnFault, HasBegun}
+use Rattle.store_opening.specs.Spared.{IsOkOrFault, MayBegin, Spares}
+use Rattle.cloud_server.specs.Openings.{NotBegunIs, OtherStoreIs}
+use Rattle.store_opening.specs.Exact.{Opens}
+use Rattle.user_dedup.specs.Spending.{IsWithin}
+use Rattle.open_store.specs.Store.{IsOpen}
+use Rattle.cloud_areas.specs.Peers.{ImagesNow, ImagesSince, MayBecome}
+use Rattle.cloud_areas.specs.Standing.{StandsFor}
+use Rattle.cloud_memory.specs.Rooms.{memory_of}
+use Rattle.server_commands.specs.Leaving.{IsFound, LeavesAll}
+use Rattle.cloud_server.specs.declared.server.Server.{Server}
+use Rattle.user_dedup.specs.Cloud.{counted}
+use Rattle.cloud_server.specs.Serving.{number_of, IsServing, server_serves, settled_with, ReopensAs, CanOpen, Refused, ChangesBehind, OpensFirst}
 use Rattle.local_link.specs.declared.servers.Servers.{Servers}
 use Rattle.local_link.specs.Tells.{server_at}
 
@@ -42,13 +40,13 @@ pub record Puts (old new : Servers) (cloud : ℕ) (before after : Server) : Type
 
 -- A closed server in these rooms.
 pub record IsClosedIn (rooms : Rooms) (server : Server) : Type 0 where
-  pub rooms_are : server.state.rooms ≡ rooms
-  pub shut : server.state.log.journal.stage ≡ Shut
+  pub rooms_are : server.store.header.rooms ≡ rooms
+  pub shut : ¬ (IsOpen server.store)
 
 -- The server is closed, and else what it was.
 pub record Closes (before after : Server) : Type 0 where
-  pub same : IsSameServer before.state after.state
-  pub shut : after.state.log.journal.stage ≡ Shut
+  pub same : after.store.header ≡ before.store.header
+  pub shut : ¬ (IsOpen after.store)
 
 -- what a server does to a peer that it serves, and what it replies
 pub record Executed (before after : Server) (cloud : Cloud) (p : Peer) (request : Request) (reply : List ℕ) : Type 0 where
@@ -56,7 +54,7 @@ pub record Executed (before after : Server) (cloud : Cloud) (p : Peer) (request 
   pub answer : Reply
   pub stands : IsServing after cloud left
   pub is : IsReply reply answer
-  pub exec : Exec before.state.header.shape true (server_serves before) p request answer left
+  pub exec : Exec before.store.header.shape true (server_serves before) p request answer left
 
 -- what it replies whatever is told of its cloud
 pub record Replied (shape : Shape) (old new : Cloud) (faults_before faults_after : ℕ) (request : Request) (reply : List ℕ) : Type 0 where
@@ -76,32 +74,36 @@ pub record RepliesOpen (old new : ℕ → Cloud) (faults_before faults_after : �
 
 -- A server executed the content, over the clouds of a shelf.
 pub record Executes (before after : Server) (old new : ℕ → Cloud) (faults_before faults_after : ℕ) (content reply : List ℕ) : Type 0 where
-  pub same : IsSameServer before.state after.state
+  pub same : after.store.header ≡ before.store.header
   pub exec : (p : Peer) (request : Request) → IsTrue (old (number_of before)).told → IsServing before (old (number_of before)) p
-      → asked_at before.state.header.shape content ≡ Ok request → Executed before after (new (number_of before)) p request reply
+      → asked_at before.store.header.shape content ≡ Ok request → Executed before after (new (number_of before)) p request reply
   pub images : (p : Peer) (request : Request) → IsTrue (old (number_of before)).told → IsServing before (old (number_of before)) p
-      → asked_at before.state.header.shape content ≡ Ok request
-      → ImagesSince (old (number_of before)) (new (number_of before)) before.state.header (MayBecome (server_serves before) p request)
-  pub malformed : (at : ℕ) → asked_at before.state.header.shape content ≡ Err at
+      → asked_at before.store.header.shape content ≡ Ok request
+      → ImagesSince (old (number_of before)) (new (number_of before)) before.store.header (MayBecome (server_serves before) p request)
+  pub malformed : (at : ℕ) → asked_at before.store.header.shape content ≡ Err at
       → (reply ≡ reply_bytes (replies.Malformed at)) × (after ≡ before) × (new ≡ old)
-  pub uncounted : (at : ℕ) → asked_at before.state.header.shape content ≡ Err at → faults_after ≡ faults_before
-  pub untold : (request : Request) → asked_at before.state.header.shape content ≡ Ok request
-      → Replied before.state.header.shape (old (number_of before)) (new (number_of before)) faults_before faults_after request reply
-  pub closed : (request : Request) → IsTrue (old (number_of before)).told → ¬ IsOpen before.state → asked_at before.state.header.shape content ≡ Ok request
-      → CanOpen before.state (old (number_of before)) ⊎ Refused before.state (old (number_of before)) (new (number_of before)) reply
-  pub opened : (request : Request) → IsOpen before.state → asked_at before.state.header.shape content ≡ Ok request
+  pub uncounted : (at : ℕ) → asked_at before.store.header.shape content ≡ Err at → faults_after ≡ faults_before
+  pub untold : (request : Request) → asked_at before.store.header.shape content ≡ Ok request
+      → Replied before.store.header.shape (old (number_of before)) (new (number_of before)) faults_before faults_after request reply
+  pub closed : (request : Request) → IsTrue (old (number_of before)).told → ¬ IsOpen before.store → asked_at before.store.header.shape content ≡ Ok request
+      → CanOpen before.store (old (number_of before)) ⊎ Refused before.store (old (number_of before)) (new (number_of before)) reply
+  pub first : (request : Request) → IsTrue (old (number_of before)).told → ¬ (IsOpen before.store) → asked_at before.store.header.shape content ≡ Ok request
+      → OpensFirst before.store after.store (old (number_of before)) (new (number_of before)) request
+      ⊎ Refused before.store (old (number_of before)) (new (number_of before)) reply
+  pub behind : (request : Request) → IsOpen before.store → asked_at before.store.header.shape content ≡ Ok request
+      → ChangesBehind before.store after.store (old (number_of before)) (new (number_of before)) request
+  pub opened : (request : Request) → IsOpen before.store → asked_at before.store.header.shape content ≡ Ok request
       → RepliesOpen old new faults_before faults_after request reply
-  pub found : (request : Request) (named what : Fp) → asked_at before.state.header.shape content ≡ Ok request
+  pub found : (request : Request) (named what : Fp) → asked_at before.store.header.shape content ≡ Ok request
       → IsReply reply (replies.Rotten named what)
-      → IsFound (new (number_of before)) after.state.index request named what
+      → IsFound (new (number_of before)) (memory_of after.store.memory) request named what
   pub call : IsCall old new (number_of before) faults_before faults_after
 
 -- A server was opened, over the clouds of a shelf.
 pub record Reopens (before after : Server) (old new : ℕ → Cloud) (faults_before faults_after : ℕ) (begin : Bool) (result : Result ℕ OpenErr) : Type 0 where
-  pub same : IsSameServer before.state after.state
-  pub opens : OnOk result (IsOpen after.state)
-  pub shut : OnErr result (after.state.log.journal.stage ≡ Shut)
-  pub memory : result ≢ Err errors.NoMemory
+  pub same : after.store.header ≡ before.store.header
+  pub opens : OnOk result (IsOpen after.store)
+  pub shut : OnErr result (¬ (IsOpen after.store))
   pub counts : OnFault result
       (HasFailed (old (number_of before)) (new (number_of before)) faults_before faults_after)
       (KeepsCounts (old (number_of before)) (new (number_of before)) faults_before faults_after)
@@ -109,15 +111,16 @@ pub record Reopens (before after : Server) (old new : ℕ → Cloud) (faults_bef
   pub peer : (p : Peer) → IsTrue (old (number_of before)).told → IsServing before (old (number_of before)) p
       → (q : Peer) × IsServing after (new (number_of before)) q × ReopensAs begin p q result
   pub exact : IsTrue (old (number_of before)).told
-      → OnFault result (Unit {0}) (Opens before.state.header before.state.rooms begin (reads (old (number_of before)).now) result)
-  pub other_store : IsTrue (old (number_of before)).told → OtherStoreIs ((old (number_of before)).now Journal).read before.state.header result
-  pub areas : IsTrue (old (number_of before)).told → Spares before.state.header begin (old (number_of before)) (new (number_of before)) result
+      → OnFault result (Unit {0}) (Opens before.store.header begin (reads (old (number_of before)).now) (memory_of after.store.memory) result)
+  pub other_store : IsTrue (old (number_of before)).told → OtherStoreIs ((old (number_of before)).now Journal).read before.store.header result
+  pub areas : IsTrue (old (number_of before)).told → Spares before.store.header begin (old (number_of before)) (new (number_of before)) result
   pub begins : IsTrue begin → HasBegun result
-  pub whole : IsTrue (old (number_of before)).told → (list : List Command) → StandsFor (reads (old (number_of before)).now) before.state.header list → IsWithin before.state.rooms list
+  pub whole : IsTrue (old (number_of before)).told → (list : List Command) → StandsFor (reads (old (number_of before)).now) before.store.header list → IsWithin before.store.header.shape before.store.header.rooms list
       → MayBegin ((old (number_of before)).now Journal).read begin → IsOkOrFault result
-  pub loaded : IsTrue (old (number_of before)).told → (list : List Command) → StandsFor (reads (old (number_of before)).now) before.state.header list
+  pub loaded : IsTrue (old (number_of before)).told → (list : List Command) → StandsFor (reads (old (number_of before)).now) before.store.header list
+      → IsWithin before.store.header.shape before.store.header.rooms list
       → IfOk result (λ commands. (commands ≡ counted list) × IsServing after (new (number_of before)) (settled_with list (new (number_of before))))
   pub images : IsTrue (old (number_of before)).told → (lists : List (List Command))
-      → ImagesNow (old (number_of before)) before.state.header (Contains lists)
-      → ImagesSince (old (number_of before)) (new (number_of before)) before.state.header (Contains lists)
+      → ImagesNow (old (number_of before)) before.store.header (Contains lists)
+      → ImagesSince (old (number_of before)) (new (number_of before)) before.store.header (Contains lists)
   pub call : IsCall old new (number_of before) faults_before faults_after

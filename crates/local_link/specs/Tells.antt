@@ -10,11 +10,14 @@ use Rattle.user_dedup.specs.Dedup.{Outcome, FullRoom}
 use Rattle.user_dedup.specs.Requests.{asked_at}
 use Rattle.user_dedup.specs.Exec.{Peer, Stays, CountsOn, Exec, StandsSound, served}
 use Rattle.user_dedup.specs.Link.{LinkTelling, Exchange}
-use Rattle.cloud_store.specs.Standing.{ImagesSince, MayBecome}
-use Rattle.local_link.specs.Calls.{header_of}
-use Rattle.cloud_store.specs.Space.{full_for}
-use Rattle.share_server.specs.declared.server.Server.{Server}
-use Rattle.share_server.specs.Serving.{IsServing}
+use Rattle.cloud_areas.specs.Peers.{ImagesSince, MayBecome}
+use Rattle.journal_start.specs.declared.rooms.Rooms.{Rooms}
+use Rattle.journal_start.specs.declared.start.Header.{Header}
+use Rattle.journal_start.specs.Ranges.{usual_rooms}
+use Rattle.cloud_server.specs.Names.{header_of}
+use Rattle.user_dedup.specs.Spending.{full_for}
+use Rattle.cloud_server.specs.declared.server.Server.{Server}
+use Rattle.cloud_server.specs.Serving.{IsServing}
 use Rattle.local_link.specs.declared.fate.Fate.{Fate}
 use Rattle.local_link.specs.declared.fate.Fate.TheVariants as fates
 use Rattle.local_link.specs.declared.fate.Fate.TheVariants.{Deliver}
@@ -25,10 +28,22 @@ use Rattle.local_link.specs.declared.link.LocalLink.{LocalLink}
 abbrev pub server_at : Servers → ℕ → Option Server
 server_at servers cloud = slice_get servers.list.items cloud
 
--- when a room of a server is full
-abbrev pub full_by : Option Server → List Command → Command → Option FullRoom
-full_by None list command = None
-full_by (Some server) list command = full_for server.state.rooms list command
+-- the rooms of a server; where there is none, the usual ones
+abbrev pub rooms_of : Option Server → Rooms
+rooms_of None = usual_rooms
+rooms_of (Some server) = server.store.header.rooms
+
+-- the rooms of a cloud's server
+abbrev pub rooms_at : Servers → ℕ → Rooms
+rooms_at servers cloud = rooms_of (server_at servers cloud)
+
+-- the header of a cloud of the servers' store, in the rooms of its server
+abbrev pub header_at : Servers → ℕ → Header
+header_at servers cloud = header_of servers.shape (rooms_at servers cloud) cloud
+
+-- when a room of a cloud's server is full
+abbrev pub full_at : Servers → ℕ → List Command → Command → Option FullRoom
+full_at servers cloud = full_for servers.shape (rooms_at servers cloud)
 
 -- The cloud of this number, over which this server is, stands as the peer. Its counts are the peer's; and where the cloud is told the
 -- server serves it as the peer, whose lists are sound.
@@ -53,7 +68,7 @@ pub record LeavesRest {V : Type 0} (clouds : V → ℕ → Cloud) (cloud : ℕ) 
 
 -- what the cloud of a link serves
 abbrev pub serving_at : {V : Type 0} → LocalLink V → ℕ → List Command → Request → Outcome
-serving_at link cloud = served link.servers.shape cloud (full_by (server_at link.servers cloud))
+serving_at link cloud = served link.servers.shape cloud (full_at link.servers cloud)
 
 -- how the cloud of a link stands
 abbrev pub StandsAt : {V : Type 0} → (V → ℕ → Cloud) → LocalLink V → ℕ → Peer → Type 0
@@ -65,14 +80,14 @@ pub record PassesOn {V : Type 0} (clouds : V → ℕ → Cloud) (old : LocalLink
   pub reached : e.cloud < old.servers.shape.n
   pub bytes : AreBytes e.content
   pub rest : LeavesRest clouds e.cloud old new
-  pub full : full_by (server_at new.servers e.cloud) ≡ full_by (server_at old.servers e.cloud)
+  pub rooms : rooms_at new.servers e.cloud ≡ rooms_at old.servers e.cloud
   pub fate : new.fate ≡ Deliver
   pub same_reference : new.shelf.ghost_name ≡ old.shelf.ghost_name
   pub goes : (p : Peer) (r : Request) → asked_at old.servers.shape e.content ≡ Ok r → StandsAt clouds old e.cloud p
       → (q : Peer) × StandsAt clouds new e.cloud q × ((Stays p q × CountsOn p q)
       ⊎ ((answer : Reply) × Exec old.servers.shape (clouds old.shelf.now e.cloud).told (serving_at old e.cloud) p r answer q))
   pub images : (p : Peer) (r : Request) → IsTrue (clouds old.shelf.now e.cloud).told → StandsAt clouds old e.cloud p → asked_at old.servers.shape e.content ≡ Ok r
-      → ImagesSince (clouds old.shelf.now e.cloud) (clouds new.shelf.now e.cloud) (header_of old.servers.shape e.cloud) (MayBecome (serving_at old e.cloud) p r)
+      → ImagesSince (clouds old.shelf.now e.cloud) (clouds new.shelf.now e.cloud) (header_at old.servers e.cloud) (MayBecome (serving_at old e.cloud) p r)
 
 -- It reaches the clouds that have a server, and tells of those of which the shelf does.
 abbrev pub telling : {V : Type 0} → (V → ℕ → Cloud) → LinkTelling (LocalLink V)
@@ -81,7 +96,7 @@ telling {V} clouds = record {
   shape = λ link. link.servers.shape;
   told = λ link cloud. (clouds link.shelf.now cloud).told;
   stands = λ link cloud. IsPeer link.servers.shape cloud (clouds link.shelf.now cloud) (server_at link.servers cloud);
-  full = λ link cloud. full_by (server_at link.servers cloud);
+  full = λ link cloud. full_at link.servers cloud;
   losses = λ link. link.losses;
   lossless = λ link. is_delivered link.fate;
   passes = PassesOn clouds;

@@ -7,5 +7,5 @@ mod link;
 mod servers;
 
 pub use fate::Fate;
-pub use link::{LocalLink, law_of_areas, law_of_headers, law_of_readings};
+pub use link::{LocalLink, law_of_headers, law_of_readings};
 pub use servers::Servers;

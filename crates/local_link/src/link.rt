@@ -2,23 +2,22 @@
 
 ghost use Rattle.std.specs.Prelude.{◌≡◌, ◌<◌, ℕ, List, Some, IsTrue};
 ghost use Rattle.std.specs.List.{Contains};
-ghost use Rattle.cd_edges.specs.Disk.{Cloud};
 ghost use Rattle.user_dedup.specs.Exec.{Peer, MaySettleAs};
-ghost use Rattle.share_server.specs.declared.server.Server.{Server};
-ghost use Rattle.share_server.specs.Serving.{IsServing};
+ghost use Rattle.cloud_server.specs.declared.server.Server.{Server};
 ghost use Rattle.local_link.specs.declared.servers.Servers.{Servers};
-ghost use Rattle.cloud_store.specs.Standing.{ImagesSince};
+ghost use Rattle.cloud_areas.specs.Peers.{ImagesSince};
 ghost use Rattle.local_link.specs.declared.link.LocalLink.{LocalLink};
-ghost use Rattle.local_link.specs.Calls.{header_of};
 ghost use Rattle.user_dedup.specs.Link.{Exchange, Passes, ReadsFrom};
-ghost use Rattle.local_link.specs.Tells.{server_at, telling, StandsAt};
+ghost use Rattle.local_link.specs.Tells.{server_at, header_at, telling, StandsAt};
 
 use crate::Fate;
 use crate::servers::Servers;
-use cd_base::{CloudNo, NoMemory, Rooms, Shape};
+use cd_base::{CloudNo, NoMemory, Shape};
 use cd_edges::{Failed, Shelf};
+use cloud_server::OpenErr;
+use cloud_server::laws::{law_of_areas, law_of_no_commands};
 use frames::ReplyBuf;
-use share_server::OpenErr;
+use journal_start::Rooms;
 use std::alloc::Global;
 use user_dedup::{Link, Lost};
 
@@ -38,38 +37,38 @@ impl<'a, V: Shelf> LocalLink<'a, V> {
     ghost use Rattle.std.specs.Prelude.{◌≡◌, ◌≢◌, ◌⊎◌, ◌↔◌, ℕ, false, ◌+◌, ◌-◌, ◌^◌, ◌<◌, ◌≤◌, List, [], length, min};
     ghost use Rattle.std.specs.Prelude.{IsTrue, IsOk, IfOk, OnOk, OnErr, IsSomeAnd, Some, Ok, Err, if◌then◌else◌};
     ghost use Rattle.std.specs.List.{Contains};
-    ghost use Rattle.cd_edges.specs.Causes.{Rose};
     ghost use Rattle.cd_edges.specs.Shelf.{IsCall, HasFailed, KeepsCounts, Arms, Refreshes};
-    ghost use Rattle.commit_journal.specs.declared.journal.Stage.TheVariants.{Shut};
     ghost use Rattle.frames.specs.Frames.{frame_limit};
     ghost use Rattle.messages.specs.declared.request.Request.{Request};
     ghost use Rattle.messages.specs.declared.reply.Reply.{Reply};
     ghost use Rattle.messages.specs.declared.reply.Reply.TheVariants as replies;
     ghost use Rattle.messages.specs.Replies.{IsReply};
     ghost use Rattle.cd_base.specs.declared.ids.Fp.{Fp};
-    ghost use Rattle.request_dispatch.specs.Asking.{IsFound};
+    ghost use Rattle.cloud_memory.specs.Rooms.{memory_of};
+    ghost use Rattle.server_commands.specs.Leaving.{IsFound};
     ghost use Rattle.user_dedup.specs.declared.command.Command.{Command};
     ghost use Rattle.user_dedup.specs.Requests.{asked_at};
     ghost use Rattle.user_dedup.specs.Exec.{Peer, MaySettleAs, Stays, CountsOn};
     ghost use Rattle.user_dedup.specs.Link.{Asks, AsksNothing, LeavesOthers, Does, serves};
-    ghost use Rattle.commit_journal.specs.Openings.{OnFault, HasBegun};
+    ghost use Rattle.half_journal.specs.Openings.{OnFault, HasBegun};
     ghost use Rattle.cd_edges.specs.declared.area.Area.TheVariants.{Journal};
-    ghost use Rattle.cloud_opening.specs.Replied.{IsOkOrFault, MayBegin, NotBegunIs, OtherStoreIs};
-    ghost use Rattle.cloud_opening.specs.Exact.{Opens};
-    ghost use Rattle.cloud_opening.specs.Spared.{Spares};
-    ghost use Rattle.cloud_state.specs.State.{AreRooms, IsOpen};
-    ghost use Rattle.cloud_store.specs.Space.{IsWithin};
-    ghost use Rattle.cloud_store.specs.Standing.{ImagesNow, ImagesSince, MayBecome};
-    ghost use Rattle.share_server.specs.declared.server.Server.{Server};
-    ghost use Rattle.cd_base.specs.declared.rooms.Rooms.{Rooms};
-    ghost use Rattle.share_server.specs.Names.{counted};
-    ghost use Rattle.share_server.specs.Serving.{ReopensAs, settled_with, CanOpen, Refused};
-    ghost use Rattle.cloud_store.specs.Store.{StandsFor};
+    ghost use Rattle.store_opening.specs.Spared.{IsOkOrFault, MayBegin, Spares};
+    ghost use Rattle.cloud_server.specs.Openings.{NotBegunIs, OtherStoreIs};
+    ghost use Rattle.store_opening.specs.Exact.{Opens};
+    ghost use Rattle.open_store.specs.Store.{IsOpen};
+    ghost use Rattle.journal_start.specs.Ranges.{AreRooms};
+    ghost use Rattle.user_dedup.specs.Spending.{IsWithin};
+    ghost use Rattle.cloud_areas.specs.Peers.{ImagesNow, ImagesSince, MayBecome};
+    ghost use Rattle.cloud_server.specs.declared.server.Server.{Server};
+    ghost use Rattle.journal_start.specs.declared.rooms.Rooms.{Rooms};
+    ghost use Rattle.user_dedup.specs.Cloud.{counted};
+    ghost use Rattle.cloud_server.specs.Serving.{ReopensAs, settled_with, CanOpen, Refused, ChangesBehind, OpensFirst};
+    ghost use Rattle.cloud_areas.specs.Standing.{StandsFor};
     ghost use Rattle.cd_edges.specs.Disk.{reads};
     ghost use Rattle.local_link.specs.declared.fate.Fate.TheVariants.{Deliver, LoseRequest};
-    ghost use Rattle.local_link.specs.Tells.{server_at, is_delivered, telling, LeavesRest};
+    ghost use Rattle.local_link.specs.Tells.{server_at, rooms_at, header_at, is_delivered, telling, LeavesRest};
     ghost use Rattle.local_link.specs.Steps.{IsClosedIn, Replied, RepliesOpen};
-    ghost use Rattle.local_link.specs.Calls.{header_of, MayServe, Replaces, Armed, WasBefore, no_commands};
+    ghost use Rattle.local_link.specs.Calls.{MayServe, Replaces, Armed, WasBefore, no_commands};
 
     /// A link to the clouds of this shelf, over a closed server for each, all in these rooms. The next ask is
     /// delivered, and none was lost. The only error is want of memory.
@@ -162,14 +161,12 @@ impl<'a, V: Shelf> LocalLink<'a, V> {
     }
 
     /// Puts a closed server in these rooms in the cloud's place. Nothing else changes, and for want of memory nothing
-    /// does. The cloud stands for each peer whose lists are within the new rooms, whatever the rooms before.
+    /// does. The cloud stands for each peer that it may be served as in the new rooms; its images then name just these
+    /// rooms in their header.
     pub fn set_rooms(&mut self, cloud: CloudNo, rooms: Rooms) -> Result<(), NoMemory>
         requires reached { IsTrue ((telling V.cloud_at).reaches self.old cloud.0) }
         requires rooms { AreRooms rooms }
         ensures closed { OnOk result (IsSomeAnd (server_at self.new.servers cloud.0) (IsClosedIn rooms)) }
-        ensures stands { (p : Peer) → (telling V.cloud_at).stands self.old cloud.0 p
-            → ((list : List Command) → MaySettleAs p list → IsWithin rooms list)
-            → OnOk result ((telling V.cloud_at).stands self.new cloud.0 p) }
         ensures serves { (p : Peer)
             → MayServe self.old.servers.shape cloud.0 rooms (V.cloud_at self.old.shelf.now cloud.0) p
             → OnOk result ((telling V.cloud_at).stands self.new cloud.0 p) }
@@ -181,14 +178,13 @@ impl<'a, V: Shelf> LocalLink<'a, V> {
         self.servers.renew(self.alloc, cloud, rooms)
     }
 
-    /// Opens the cloud's server, and answers how many commands the cloud has: `share_server::Server::reopen`. After an
+    /// Opens the cloud's server, and answers how many commands the cloud has: `cloud_server::Server::reopen`. After an
     /// Err the server is closed. Where the cloud's journal isn't begun it is begun, where `begin` is true.
     pub fn reopen(&mut self, cloud: CloudNo, begin: bool) -> Result<u64, OpenErr>
         requires { IsTrue ((telling V.cloud_at).reaches self.old cloud.0) }
-        ensures opens { OnOk result (IsSomeAnd (server_at self.new.servers cloud.0) (λ server. IsOpen server.state)) }
+        ensures opens { OnOk result (IsSomeAnd (server_at self.new.servers cloud.0) (λ server. IsOpen server.store)) }
         ensures shut { OnErr result
-            (IsSomeAnd (server_at self.new.servers cloud.0) (λ server. server.state.log.journal.stage ≡ Shut)) }
-        ensures memory { result ≢ Err OpenErr.NoMemory }
+            (IsSomeAnd (server_at self.new.servers cloud.0) (λ server. ¬ (IsOpen server.store))) }
 
         // Fault comes only where the cloud's count of faults and the one in all rose; with any other answer both stay.
         ensures counts { OnFault result
@@ -210,23 +206,23 @@ impl<'a, V: Shelf> LocalLink<'a, V> {
         // begun, the answer is Ok or Fault.
         ensures whole { IsTrue ((telling V.cloud_at).told self.old cloud.0) → (list : List Command)
             → StandsFor (reads (V.cloud_at self.old.shelf.now cloud.0).now)
-            (header_of ((telling V.cloud_at).shape self.old) cloud.0) list
-            → IsSomeAnd (server_at self.old.servers cloud.0) (λ server. IsWithin server.state.rooms list
-            → MayBegin ((V.cloud_at self.old.shelf.now cloud.0).now Journal).read begin → IsOkOrFault result) }
+            (header_at self.old.servers cloud.0) list
+            → IsWithin ((telling V.cloud_at).shape self.old) (rooms_at self.old.servers cloud.0) list
+            → MayBegin ((V.cloud_at self.old.shelf.now cloud.0).now Journal).read begin → IsOkOrFault result }
         ensures begins { IsTrue begin → HasBegun result }
 
         // The answer is what the bytes of the areas come to, record by record, unless a device call failed.
         ensures exact { IsTrue ((telling V.cloud_at).told self.old cloud.0)
-            → IsSomeAnd (server_at self.old.servers cloud.0) (λ server. OnFault result (Unit {0})
-            (Opens (header_of ((telling V.cloud_at).shape self.old) cloud.0) server.state.rooms begin
-            (reads (V.cloud_at self.old.shelf.now cloud.0).now) result)) }
+            → IsSomeAnd (server_at self.new.servers cloud.0) (λ server. OnFault result (Unit {0})
+            (Opens (header_at self.old.servers cloud.0) begin
+            (reads (V.cloud_at self.old.shelf.now cloud.0).now) (memory_of server.store.memory) result)) }
         ensures other_store { IsTrue ((telling V.cloud_at).told self.old cloud.0)
             → OtherStoreIs ((V.cloud_at self.old.shelf.now cloud.0).now Journal).read
-            (header_of ((telling V.cloud_at).shape self.old) cloud.0) result }
+            (header_at self.old.servers cloud.0) result }
 
         // Whatever the areas hold, they are spared.
         ensures areas { IsTrue ((telling V.cloud_at).told self.old cloud.0)
-            → Spares (header_of ((telling V.cloud_at).shape self.old) cloud.0) begin
+            → Spares (header_at self.old.servers cloud.0) begin
             (V.cloud_at self.old.shelf.now cloud.0) (V.cloud_at self.new.shelf.now cloud.0) result }
         ensures call { IsCall (V.cloud_at self.old.shelf.now) (V.cloud_at self.new.shelf.now) cloud.0
             (V.faults self.old.shelf.now) (V.faults self.new.shelf.now) }
@@ -234,7 +230,8 @@ impl<'a, V: Shelf> LocalLink<'a, V> {
         // Where what the cloud reads stands for a list, the cloud stands for that list.
         ensures loaded { IsTrue ((telling V.cloud_at).told self.old cloud.0) → (list : List Command)
             → StandsFor (reads (V.cloud_at self.old.shelf.now cloud.0).now)
-            (header_of ((telling V.cloud_at).shape self.old) cloud.0) list
+            (header_at self.old.servers cloud.0) list
+            → IsWithin ((telling V.cloud_at).shape self.old) (rooms_at self.old.servers cloud.0) list
             → IfOk result (λ commands. (commands ≡ counted list)
             × (telling V.cloud_at).stands self.new cloud.0
             (settled_with list (V.cloud_at self.new.shelf.now cloud.0))) }
@@ -244,10 +241,10 @@ impl<'a, V: Shelf> LocalLink<'a, V> {
 
         // Whenever a crash comes it leaves a list that it might have left before.
         ensures images { IsTrue ((telling V.cloud_at).told self.old cloud.0) → (lists : List (List Command))
-            → IsSomeAnd (server_at self.old.servers cloud.0) (λ server.
-            ImagesNow (V.cloud_at self.old.shelf.now cloud.0) server.state.header (Contains lists)
-            → ImagesSince (V.cloud_at self.old.shelf.now cloud.0)
-            (V.cloud_at self.new.shelf.now cloud.0) server.state.header (Contains lists)) }
+            → ImagesNow (V.cloud_at self.old.shelf.now cloud.0) (header_at self.old.servers cloud.0) (Contains lists)
+            → ImagesSince (V.cloud_at self.old.shelf.now cloud.0) (V.cloud_at self.new.shelf.now cloud.0)
+            (header_at self.old.servers cloud.0) (Contains lists) }
+        ensures rooms { rooms_at self.new.servers cloud.0 ≡ rooms_at self.old.servers cloud.0 }
 
         ensures others { LeavesOthers (telling V.cloud_at) cloud.0 self.old self.new }
         ensures rest { LeavesRest V.cloud_at cloud.0 self.old self.new }
@@ -263,14 +260,14 @@ impl<'a, V: Shelf> LocalLink<'a, V> {
     pub fn replace(&mut self, cloud: CloudNo) -> Result<(), Failed>
         requires { IsTrue ((telling V.cloud_at).reaches self.old cloud.0) }
         ensures closed { IsSomeAnd (server_at self.old.servers cloud.0)
-            (λ server. IsSomeAnd (server_at self.new.servers cloud.0) (IsClosedIn server.state.rooms)) }
+            (λ server. IsSomeAnd (server_at self.new.servers cloud.0) (IsClosedIn server.store.header.rooms)) }
         ensures replaced { (p : Peer) → (telling V.cloud_at).stands self.old cloud.0 p
             → (q : Peer) × (telling V.cloud_at).stands self.new cloud.0 q × Replaces p q result }
 
-        // Whatever the cloud stood for, it stands for no commands where the rooms hold the header.
-        ensures fresh { IsSomeAnd (server_at self.old.servers cloud.0) (λ server. IsWithin server.state.rooms []
-            → OnOk result ((telling V.cloud_at).stands self.new cloud.0
-            (no_commands (V.cloud_at self.old.shelf.now cloud.0)))) }
+        // Whatever the cloud stood for, it stands for no commands.
+        ensures fresh { OnOk result ((telling V.cloud_at).stands self.new cloud.0
+            (no_commands (V.cloud_at self.old.shelf.now cloud.0))) }
+        ensures rooms { rooms_at self.new.servers cloud.0 ≡ rooms_at self.old.servers cloud.0 }
 
         // Failed comes only where the cloud's count of faults and the one in all rose; after Ok both stay.
         ensures call { IsCall (V.cloud_at self.old.shelf.now) (V.cloud_at self.new.shelf.now) cloud.0
@@ -296,6 +293,8 @@ impl<'a, V: Shelf> LocalLink<'a, V> {
         ensures still { (self.new.fate ≡ self.old.fate) × (self.new.losses ≡ self.old.losses) }
         ensures same_reference { self.new.shelf.ghost_name ≡ self.old.shelf.ghost_name }
     {
+        law_of_areas();
+        law_of_no_commands();
         self.servers.close(cloud);
         self.shelf.fresh(cloud)
     }
@@ -313,6 +312,7 @@ impl<'a, V: Shelf> LocalLink<'a, V> {
             × (self.new.losses ≡ self.old.losses) }
         ensures same_reference { self.new.shelf.ghost_name ≡ self.old.shelf.ghost_name }
     {
+        law_of_areas();
         self.shelf.arm(cloud, calls, keep);
     }
 
@@ -373,9 +373,9 @@ impl<'a, V: Shelf> LocalLink<'a, V> {
             → IsTrue ((telling V.cloud_at).told self.old cloud.0)
             → asked_at ((telling V.cloud_at).shape self.old) request.now ≡ Ok r
             → (content : List ℕ) × OnOk result (reply.new ≡ content)
-            × IsSomeAnd (server_at self.old.servers cloud.0) (λ server. ¬ IsOpen server.state
-            → CanOpen server.state (V.cloud_at self.old.shelf.now cloud.0)
-            ⊎ Refused server.state (V.cloud_at self.old.shelf.now cloud.0)
+            × IsSomeAnd (server_at self.old.servers cloud.0) (λ server. ¬ (IsOpen server.store)
+            → CanOpen server.store (V.cloud_at self.old.shelf.now cloud.0)
+            ⊎ Refused server.store (V.cloud_at self.old.shelf.now cloud.0)
             (V.cloud_at self.new.shelf.now cloud.0) content) }
 
         // An open server never replies Damaged; and a reply that says that nothing is stored, entered or read comes
@@ -383,7 +383,7 @@ impl<'a, V: Shelf> LocalLink<'a, V> {
         ensures opened { self.old.fate ≢ LoseRequest → (r : Request)
             → asked_at ((telling V.cloud_at).shape self.old) request.now ≡ Ok r
             → (content : List ℕ) × OnOk result (reply.new ≡ content)
-            × IsSomeAnd (server_at self.old.servers cloud.0) (λ server. IsOpen server.state
+            × IsSomeAnd (server_at self.old.servers cloud.0) (λ server. IsOpen server.store
             → RepliesOpen (V.cloud_at self.old.shelf.now) (V.cloud_at self.new.shelf.now)
             (V.faults self.old.shelf.now) (V.faults self.new.shelf.now) r content) }
 
@@ -393,7 +393,7 @@ impl<'a, V: Shelf> LocalLink<'a, V> {
             → (content : List ℕ) × OnOk result (reply.new ≡ content)
             × IsSomeAnd (server_at self.new.servers cloud.0) (λ server. (named what : Fp)
             → IsReply content (replies.Rotten named what)
-            → IsFound (V.cloud_at self.new.shelf.now cloud.0) server.state.index r named what) }
+            → IsFound (V.cloud_at self.new.shelf.now cloud.0) (memory_of server.store.memory) r named what) }
 
         // Any request that wasn't lost on its way there is executed.
         ensures executed { self.old.fate ≢ LoseRequest → (r : Request)
@@ -414,9 +414,27 @@ impl<'a, V: Shelf> LocalLink<'a, V> {
         ensures images { (p : Peer) (r : Request) → IsTrue ((telling V.cloud_at).told self.old cloud.0)
             → (telling V.cloud_at).stands self.old cloud.0 p
             → asked_at ((telling V.cloud_at).shape self.old) request.now ≡ Ok r
-            → IsSomeAnd (server_at self.old.servers cloud.0)
-            (λ server. ImagesSince (V.cloud_at self.old.shelf.now cloud.0) (V.cloud_at self.new.shelf.now cloud.0)
-            server.state.header (MayBecome (serves (telling V.cloud_at) self.old cloud.0) p r)) }
+            → ImagesSince (V.cloud_at self.old.shelf.now cloud.0) (V.cloud_at self.new.shelf.now cloud.0)
+            (header_at self.old.servers cloud.0) (MayBecome (serves (telling V.cloud_at) self.old cloud.0) p r) }
+        ensures rooms { rooms_at self.new.servers cloud.0 ≡ rooms_at self.old.servers cloud.0 }
+
+        // Whatever the records say: what an open server adds lies behind the ends of both logs and of the current chain,
+        // or behind a checkpoint in the other half; and where its memory has it that the request adds nothing, the areas
+        // stay. Over a told cloud a closed server opens first, and the same holds of what it opened.
+        ensures behind { self.old.fate ≢ LoseRequest → (r : Request)
+            → asked_at ((telling V.cloud_at).shape self.old) request.now ≡ Ok r
+            → IsSomeAnd (server_at self.old.servers cloud.0) (λ before. IsOpen before.store
+            → IsSomeAnd (server_at self.new.servers cloud.0) (λ after. ChangesBehind before.store after.store
+            (V.cloud_at self.old.shelf.now cloud.0) (V.cloud_at self.new.shelf.now cloud.0) r)) }
+        ensures first { self.old.fate ≢ LoseRequest → (r : Request)
+            → IsTrue ((telling V.cloud_at).told self.old cloud.0)
+            → asked_at ((telling V.cloud_at).shape self.old) request.now ≡ Ok r
+            → (content : List ℕ) × OnOk result (reply.new ≡ content)
+            × IsSomeAnd (server_at self.old.servers cloud.0) (λ before. ¬ (IsOpen before.store)
+            → IsSomeAnd (server_at self.new.servers cloud.0) (λ after. OpensFirst before.store after.store
+            (V.cloud_at self.old.shelf.now cloud.0) (V.cloud_at self.new.shelf.now cloud.0) r
+            ⊎ Refused before.store (V.cloud_at self.old.shelf.now cloud.0)
+            (V.cloud_at self.new.shelf.now cloud.0) content)) }
 
         ensures rest { LeavesRest V.cloud_at cloud.0 self.old self.new }
         ensures same_reference { self.new.shelf.ghost_name ≡ self.old.shelf.ghost_name }
@@ -448,7 +466,7 @@ pub fn law_of_readings<V: Shelf>()
         → Passes (telling V.cloud_at) (ReadsFrom named) old asks new
         → cloud < old.servers.shape.n → IsTrue (V.cloud_at old.shelf.now cloud).told → StandsAt V.cloud_at old cloud p
         → ImagesSince (V.cloud_at old.shelf.now cloud) (V.cloud_at new.shelf.now cloud)
-        (header_of old.servers.shape cloud) (MaySettleAs p) }
+        (header_at old.servers cloud) (MaySettleAs p) }
     // the clouds that aren't named are as they were
     ensures others { (named : List ℕ) (asks : List Exchange) (old new : LocalLink V) (cloud : ℕ)
         → Passes (telling V.cloud_at) (ReadsFrom named) old asks new
@@ -459,24 +477,10 @@ pub fn law_of_readings<V: Shelf>()
         → new.shelf.ghost_name ≡ old.shelf.ghost_name }
 {}
 
-/// Areas that stay keep a server's conditions: over a cloud whose areas are as they were, with each image that a crash
-/// may leave, a server serves the peer that it served, with the cloud's counts. So no call of a shelf on another cloud,
-/// no read and no arming ends them.
-pub fn law_of_areas()
-    ensures { (server : Server) (old new : Cloud) (p : Peer) → new.told ≡ old.told → new.now ≡ old.now
-        → IsServing server old p
-        → IsServing server new (record {
-          list = p.list;
-          pending = p.pending;
-          faults = new.faults;
-          armings = new.armings;
-        }) }
-{}
-
 /// The header of each server is that of its cloud's number in a store of the servers' shape.
 pub fn law_of_headers()
     ensures { (servers : Servers) (cloud : ℕ) (server : Server) → server_at servers cloud ≡ Some server
-        → server.state.header ≡ header_of servers.shape cloud }
+        → server.store.header ≡ header_at servers cloud }
 {}
 
 impl<'a, V: Shelf> Link for LocalLink<'a, V> {

@@ -2,10 +2,11 @@
 
 ghost use Rattle.local_link.specs.Members.{AreServers};
 
-use cd_base::{CloudNo, NoMemory, Rooms, Shape};
+use cd_base::{CloudNo, NoMemory, Shape};
 use cd_edges::Shelf;
+use cloud_server::{OpenErr, Server};
 use frames::ReplyBuf;
-use share_server::{OpenErr, Server};
+use journal_start::Rooms;
 use std::alloc::Global;
 
 /// The servers of all clouds of a store, each at the place of its cloud's number and all of one shape.
@@ -17,10 +18,10 @@ pub struct Servers {
 }
 
 impl Servers {
-    ghost use Rattle.std.specs.Prelude.{◌≡◌, ◌<◌, ◌≤◌, ℕ, slice_get, length, IfOk, OnOk, OnErr, Some};
+    ghost use Rattle.std.specs.Prelude.{◌≡◌, ◌<◌, ◌≤◌, ℕ, length, IfOk, OnOk, OnErr, Some};
     ghost use Rattle.frames.specs.Frames.{frame_limit};
-    ghost use Rattle.cloud_state.specs.State.{AreRooms};
-    ghost use Rattle.share_server.specs.declared.server.Server.{Server};
+    ghost use Rattle.journal_start.specs.Ranges.{AreRooms};
+    ghost use Rattle.cloud_server.specs.declared.server.Server.{Server};
     ghost use Rattle.local_link.specs.Tells.{server_at};
     ghost use Rattle.local_link.specs.Steps.{Puts, IsClosedIn, Closes, Executes, Reopens};
 

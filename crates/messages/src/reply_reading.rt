@@ -242,7 +242,8 @@ fn plain_of(kind: u8, fields: &[u8]) -> Result<Reply, Left>
 fn view_of(alloc: Global, content: &[u8]) -> Result<ReplyView<'_>, Stop>
     requires { length content.now < 2 ^ 32 }
     ensures value { Gives seen_reply result (reply_left content.now) }
-    ensures memory { is_of_entries content.now ≡ false → IsErr (reply_left content.now) → IfErr result (λ e. e ≢ Stop.Memory) }
+    ensures memory { is_of_entries content.now ≡ false → IsErr (reply_left content.now)
+        → IfErr result (λ e. e ≢ Stop.Memory) }
     ensures in_place { IfOk result IsInPlace }
 {
     match content {
@@ -263,7 +264,8 @@ impl<'a> ReplyView<'a> {
         ensures reads { IsViewed result (reply_at content.now) }
         ensures in_place { IfOk result IsInPlace }
         // Want of memory is no answer to content that is none, but to entries, which are read one by one.
-        ensures malformed { (at : ℕ) → reply_at content.now ≡ Err at → is_of_entries content.now ≡ false → result ≢ Err MsgErr.NoMemory }
+        ensures malformed { (at : ℕ) → reply_at content.now ≡ Err at → is_of_entries content.now ≡ false
+            → result ≢ Err MsgErr.NoMemory }
         // Content is read as the reply that it is the spelling of, and no other content is read.
         ensures grammar { (r : Reply) → (reply_at content.now ≡ Ok r) ↔ IsReply content.now r }
     {
@@ -303,7 +305,8 @@ impl Reply {
         requires { length content.now < 2 ^ 32 }
         ensures reads { IsRead result (reply_at content.now) }
         // Want of memory is no answer to content that is none, but to entries, which are read one by one.
-        ensures malformed { (at : ℕ) → reply_at content.now ≡ Err at → is_of_entries content.now ≡ false → result ≢ Err MsgErr.NoMemory }
+        ensures malformed { (at : ℕ) → reply_at content.now ≡ Err at → is_of_entries content.now ≡ false
+            → result ≢ Err MsgErr.NoMemory }
         // Content is read as the reply that it is the spelling of, and no other content is read.
         ensures grammar { (r : Reply) → (reply_at content.now ≡ Ok r) ↔ IsReply content.now r }
     {

@@ -184,7 +184,8 @@ impl<'a> RequestView<'a> {
     #[tactic(auto, unfolding(crate::specs::RequestReading::request_at))]
     pub fn check(content: &'a [u8]) -> Result<RequestView<'a>, u32>
         requires { length content.now < 2 ^ 32 }
-        ensures reads { MatchResult result (λ view. request_at content.now ≡ Ok (seen view)) (λ at. request_at content.now ≡ Err at) }
+        ensures reads { MatchResult result (λ view. request_at content.now
+            ≡ Ok (seen view)) (λ at. request_at content.now ≡ Err at) }
         // Content is read as the request that it is the spelling of, and no other content is read.
         ensures grammar { (r : Request) → (request_at content.now ≡ Ok r) ↔ IsRequest content.now r }
     {

@@ -138,7 +138,8 @@ impl OpenStore {
             → IfOk result (λ place. Stages self.new.disk.recipes
             (blobs ++ record { place = place; blob = recipe.now } ∷ [])) }
         ensures ok { OnOk result (self.new
-            ≡ record self.old { disk = record self.old.disk { recipes = with_blob self.old.disk.recipes recipe.now } }) }
+            ≡ record self.old
+            { disk = record self.old.disk { recipes = with_blob self.old.disk.recipes recipe.now } }) }
         ensures err { OnErr result (self.new ≡ self.old) }
         ensures serves { (list : List Command) (c : Chain) (cloud : Cloud) → Serves list c self.old cloud
             → Serves list c self.new cloud }

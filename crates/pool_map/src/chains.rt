@@ -51,7 +51,8 @@ impl Chains {
         requires start { start < length self.old.heads.items }
         requires slot { slot < length self.old.next.items }
         ensures heads { self.new.heads.items ≡ slice_set self.old.heads.items start slot }
-        ensures next { self.new.next.items ≡ slice_set self.old.next.items slot (slice_index self.old.heads.items start) }
+        ensures next { self.new.next.items ≡ slice_set self.old.next.items slot
+            (slice_index self.old.heads.items start) }
     {
         self.next[slot as usize] = self.heads[start];
         self.heads[start] = slot;
@@ -61,7 +62,8 @@ impl Chains {
     pub(super) fn unlink<K: Key, W>(&mut self, pool: &Pool<Entry<K, W>>, key: &K, slot: u32)
         requires hashed { IsHashed K.cmp K.word_of pool.now.slots self.old.heads.items self.old.next.items }
         requires here { HasKey K.cmp pool.now.slots key.now slot }
-        ensures { IsHashed K.cmp K.word_of (slice_set pool.now.slots slot Empty) self.new.heads.items self.new.next.items }
+        ensures { IsHashed K.cmp K.word_of (slice_set pool.now.slots slot Empty)
+            self.new.heads.items self.new.next.items }
     {
         let start = bucket_of(key, self.heads.len());
         unlink(&mut self.heads, &mut self.next, start, slot);

@@ -53,9 +53,12 @@ pub trait Table<K: Key, W> {
     fn insert(&mut self, account: u32, key: K, value: W) -> Result<(), TableFull>
         requires is_account { IsAccount (pool self.old) account }
         requires absent { at_key K.cmp (pool self.old) key ≡ None }
-        ensures ok { OnOk result (contents K.cmp (pool self.new) ≡ map.insert (contents K.cmp (pool self.old)) key (account, value)) }
-        ensures placed { OnOk result (Fills (pool self.old) (pool self.new) (Held account (record { key = key; value = value }))) }
-        ensures refuses { IsErr result ↔ charged (contents K.cmp (pool self.old)) account ≡ limit_of (pool self.old) account }
+        ensures ok { OnOk result (contents K.cmp (pool self.new)
+            ≡ map.insert (contents K.cmp (pool self.old)) key (account, value)) }
+        ensures placed { OnOk result (Fills (pool self.old) (pool self.new)
+            (Held account (record { key = key; value = value }))) }
+        ensures refuses { IsErr result ↔ charged (contents K.cmp (pool self.old)) account
+            ≡ limit_of (pool self.old) account }
         ensures err { OnErr result (pool self.new ≡ pool self.old) }
         ensures used { IfErr result (λ full. full.used ≡ charged (contents K.cmp (pool self.old)) account) }
         ensures limit { IfErr result (λ full. full.limit ≡ limit_of (pool self.old) account) };

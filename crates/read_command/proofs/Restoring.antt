@@ -14,16 +14,19 @@ use Rattle.cd_edges.proofs.Moments.{joined, weaker}
 use Rattle.caont_rs.specs.declared.opening.RecoverErr.TheVariants as opening
 use Rattle.user_dedup.specs.declared.command.Command.{Command}
 use Rattle.user_dedup.specs.Exec.{Peer, MaySettleAs}
-use Rattle.user_dedup.specs.Link.{Exchange, Passes, ReadsFrom, Talk}
+use Rattle.user_dedup.specs.Spending.{IsWithin}
+use Rattle.journal_start.specs.declared.rooms.Rooms.{Rooms}
+use Rattle.journal_start.specs.declared.start.Header.{Header}
+use Rattle.journal_start.specs.Ranges.{usual_rooms}
+use Rattle.user_dedup.specs.Link.{Talk}
 use Rattle.user_dedup.proofs.Owned.{contains_here, contains_later, contains_cases, contains_nothing}
-use Rattle.cloud_store.specs.Standing.{StandsForSome, ImagesSince}
-use Rattle.cloud_store.specs.Store.{StandsFor}
-use Rattle.share_server.specs.Serving.{settled_with}
+use Rattle.cloud_areas.specs.Peers.{StandsForSome, ImagesSince}
+use Rattle.cloud_areas.specs.Standing.{StandsFor}
+use Rattle.cloud_server.specs.Serving.{settled_with}
 use Rattle.local_link.specs.declared.fate.Fate.TheVariants.{Deliver}
 use Rattle.local_link.specs.declared.link.LocalLink.{LocalLink}
 use Rattle.local_link.specs.Calls.{header_of}
-use Rattle.local_link.specs.Tells.{is_delivered, telling}
-use Rattle.local_link.proofs.Passing.{read_images, read_others}
+use Rattle.local_link.specs.Tells.{header_at, rooms_at, is_delivered, telling, StandsAt}
 use Rattle.restore_job.specs.Asking.{PeersOf, OnlyRead, MayRead, Asked, is_lost, TellsAll}
 use Rattle.restore_job.specs.Brought.{Brought}
 use Rattle.restore_job.specs.Reading.{Ends}
@@ -34,7 +37,7 @@ use Rattle.restore_job.specs.declared.error.RestoreErr.{RestoreErr}
 use Rattle.restore_job.specs.declared.error.RestoreErr.TheVariants as errors
 use Rattle.transcript.specs.declared.refusal.Refusal.{Refusal}
 use Rattle.transcript.specs.declared.refusal.Refusal.TheVariants as refusals
-use Rattle.read_command.specs.Disks.{AreReadable, KeepsDisks}
+use Rattle.read_command.specs.Disks.{AreReadable, KeepsDisks, usual_header}
 use Rattle.read_command.specs.Opening.{AreOpened}
 use Rattle.subset_restore.specs.Refusals.{refusal_of, refusal_text}
 use Rattle.subset_restore.specs.Ends.{Sought, AnyEnds, GivesNone, NoneCame, WasLost, any_outcome, outcome_of}
@@ -238,8 +241,9 @@ module _ {V : Type 0} (clouds : V → ℕ → Cloud) (named : List ℕ) (shape :
   shape_mid = opened.shape ∙ same
 
   lists_old : (lists : ℕ → List Command) → HaveLists around shape named lists → (cloud : ℕ) → Contains named cloud → IsTrue (clouds old.shelf.now cloud).told
-      → StandsFor (reads (clouds old.shelf.now cloud).now) (header_of old.servers.shape cloud) (lists cloud)
-  lists_old lists have cloud has told = subst (λ (s : Shape). StandsFor (reads (clouds old.shelf.now cloud).now) (header_of s cloud) (lists cloud)) (sym same) (have cloud has told)
+      → StandsFor (reads (clouds old.shelf.now cloud).now) (usual_header old.servers.shape cloud) (lists cloud) × IsWithin old.servers.shape usual_rooms (lists cloud)
+  lists_old lists have cloud has told =
+      subst (λ (s : Shape). StandsFor (reads (clouds old.shelf.now cloud).now) (usual_header s cloud) (lists cloud) × IsWithin s usual_rooms (lists cloud)) (sym same) (have cloud has told)
 
   told_back : (cloud : ℕ) → IsTrue (clouds mid.shelf.now cloud).told → IsTrue (clouds old.shelf.now cloud).told
   told_back cloud told = subst (λ (b : Bool). IsTrue b) (opened.told cloud) told
@@ -250,13 +254,20 @@ module _ {V : Type 0} (clouds : V → ℕ → Cloud) (named : List ℕ) (shape :
   abbrev peers : (ℕ → List Command) → ℕ → Peer
   peers lists cloud = settled_with (lists cloud) (clouds mid.shelf.now cloud)
 
+  loaded : (lists : ℕ → List Command) → HaveLists around shape named lists → (cloud : ℕ) → Contains named cloud → IsTrue (clouds mid.shelf.now cloud).told
+      → StandsAt clouds mid cloud (settled_with (lists cloud) (clouds mid.shelf.now cloud))
+  loaded lists have cloud has told =
+      let was = told_back cloud told in
+      let list = lists_old lists have cloud has was in
+      (opened.each cloud has).loaded was (lists cloud) list.0 list.1
+
   stand : (lists : ℕ → List Command) → HaveLists around shape named lists → PeersOf (telling clouds) mid (among named) (peers lists)
   stand lists have cloud is =
       let has = has_among named cloud is in record {
         faults = refl;
         armings = refl;
-        serving = λ told. ((opened.each cloud has).loaded (told_back cloud told) (lists cloud) (lists_old lists have cloud has (told_back cloud told))).serving told;
-        sound = λ told. ((opened.each cloud has).loaded (told_back cloud told) (lists cloud) (lists_old lists have cloud has (told_back cloud told))).sound told;
+        serving = λ told. (loaded lists have cloud has told).serving told;
+        sound = λ told. (loaded lists have cloud has told).sound told;
       }
 
   module _ (user : UserId) (tag : Tag) (version : Version) (talk : LocalLink V → ℕ → Talk → Type 0)
@@ -319,7 +330,7 @@ module _ {V : Type 0} (clouds : V → ℕ → Cloud) (named : List ℕ) (shape :
       is_due lists are = by_result result names restored found
         where
           have : HaveLists around shape named lists
-          have cloud has told = (are cloud has).stands
+          have cloud has told = ((are cloud has).stands, (are cloud has).within)
 
           told : TellsAll (telling clouds) mid named
           told cloud has = told_on cloud (are cloud has).told
@@ -364,20 +375,28 @@ module _ {V : Type 0} (clouds : V → ℕ → Cloud) (named : List ℕ) (shape :
               (λ x is names unlost. by_error x is names unlost) e came n f
 
   -- the images of all, and the clouds that weren't named
-  pub kept_on : (asks : List Exchange) → Passes (telling clouds) (ReadsFrom named) mid asks new → All (λ cloud. cloud < shape.n) named
+  pub kept_on : ((cloud : ℕ) (p : Peer) → cloud < mid.servers.shape.n → IsTrue (clouds mid.shelf.now cloud).told → StandsAt clouds mid cloud p
+      → ImagesSince (clouds mid.shelf.now cloud) (clouds new.shelf.now cloud) (header_at mid.servers cloud) (MaySettleAs p))
+      → ((cloud : ℕ) → ¬ Contains named cloud → clouds new.shelf.now cloud ≡ clouds mid.shelf.now cloud) → All (λ cloud. cloud < shape.n) named
       → ((cloud : ℕ) → IsTrue (clouds old.shelf.now cloud).told → IsImage (clouds old.shelf.now cloud).now (reads (clouds old.shelf.now cloud).now))
       → KeepsDisks old.servers.shape named (clouds old.shelf.now) (clouds mid.shelf.now) → KeepsDisks shape named (clouds old.shelf.now) (clouds new.shelf.now)
-  kept_on asks passed within reads_image kept = subst (λ (s : Shape). KeepsDisks s named (clouds old.shelf.now) (clouds new.shelf.now)) same (record {
-    chosen = λ cloud lists has told images.
-        let header = header_of old.servers.shape cloud in
+  kept_on read_images read_others within reads_image kept = subst (λ (s : Shape). KeepsDisks s named (clouds old.shelf.now) (clouds new.shelf.now)) same (record {
+    chosen = λ cloud lists has told small images.
+        let header = usual_header old.servers.shape cloud in
         let read = images (reads (clouds old.shelf.now cloud).now) (reads_image cloud told) in
-        let stands = (opened.each cloud has).loaded told read.0 read.2 in
+        let may = MaySettleAs (settled_with read.0 (clouds mid.shelf.now cloud)) in
+        let stands = (opened.each cloud has).loaded told read.0 read.2 (small read.0 read.1) in
         joined (clouds old.shelf.now cloud) (clouds mid.shelf.now cloud) (clouds new.shelf.now cloud) (StandsForSome header (Contains lists))
-        (kept.chosen cloud lists has told images)
-        (weaker (clouds mid.shelf.now cloud) (clouds new.shelf.now cloud) (StandsForSome header (MaySettleAs (settled_with read.0 (clouds mid.shelf.now cloud)))) (StandsForSome header (Contains lists))
-        (subst (λ (s : Shape). ImagesSince (clouds mid.shelf.now cloud) (clouds new.shelf.now cloud) (header_of s cloud) (MaySettleAs (settled_with read.0 (clouds mid.shelf.now cloud)))) opened.shape
-        (read_images clouds named asks mid new cloud (settled_with read.0 (clouds mid.shelf.now cloud)) passed
+        (kept.chosen cloud lists has told small images)
+        (weaker (clouds mid.shelf.now cloud) (clouds new.shelf.now cloud) (StandsForSome header may) (StandsForSome header (Contains lists))
+        (subst (λ (h : Header). ImagesSince (clouds mid.shelf.now cloud) (clouds new.shelf.now cloud) h may) (header_mid cloud has)
+        (read_images cloud (settled_with read.0 (clouds mid.shelf.now cloud))
         (subst (λ (s : Shape). cloud < s.n) (sym shape_mid) (of_one (λ x. x < shape.n) named cloud within has)) (told_on cloud told) stands))
         (λ image x. (x.0, subst (Contains lists) (sym (only_list read.0 (clouds mid.shelf.now cloud) x.0 x.1)) read.1, x.2)));
-    others = λ cloud not. read_others clouds named asks mid new cloud passed not ∙ kept.others cloud not;
+    others = λ cloud not. read_others cloud not ∙ kept.others cloud not;
   })
+    where
+      header_mid : (cloud : ℕ) → Contains named cloud → header_at mid.servers cloud ≡ usual_header old.servers.shape cloud
+      header_mid cloud has =
+          ap (λ (s : Shape). header_of s (rooms_at mid.servers cloud) cloud) opened.shape
+          ∙ ap (λ (r : Rooms). header_of old.servers.shape r cloud) (opened.each cloud has).rooms

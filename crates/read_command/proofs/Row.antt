@@ -11,19 +11,18 @@ use Rattle.cd_base.specs.declared.shape.Shape.{Shape}
 use Rattle.cd_edges.specs.Disk.{Cloud, IsImage, reads}
 use Rattle.cd_edges.specs.Shelf.{HasFailed}
 use Rattle.cd_edges.proofs.Moments.{left_alone}
-use Rattle.commit_journal.specs.declared.errors.OpenErr.{OpenErr}
-use Rattle.commit_journal.specs.declared.errors.OpenErr.TheVariants as errors
+use Rattle.half_journal.specs.declared.errors.OpenErr.{OpenErr}
+use Rattle.half_journal.specs.declared.errors.OpenErr.TheVariants as errors
 use Rattle.user_dedup.specs.declared.command.Command.{Command}
 use Rattle.user_dedup.proofs.Owned.{contains_here, contains_nothing}
-use Rattle.cloud_store.specs.Standing.{StandsForSome, ImagesNow, ImagesSince}
-use Rattle.share_server.specs.declared.server.Server.{Server}
-use Rattle.share_server.specs.Serving.{settled_with}
+use Rattle.cloud_areas.specs.Peers.{StandsForSome, ImagesNow, ImagesSince}
+use Rattle.cloud_server.specs.declared.server.Server.{Server}
+use Rattle.cloud_server.specs.Serving.{settled_with}
 use Rattle.local_link.specs.declared.link.LocalLink.{LocalLink}
-use Rattle.local_link.specs.Calls.{header_of}
-use Rattle.local_link.specs.Tells.{server_at, IsPeer, LeavesRest}
+use Rattle.local_link.specs.Tells.{server_at, rooms_of, IsPeer, LeavesRest}
 use Rattle.read_command.specs.declared.end.ReadEnd.{ReadEnd}
 use Rattle.read_command.specs.declared.end.ReadEnd.TheVariants as ends
-use Rattle.read_command.specs.Disks.{AreReadable, IsUnopened, IsSpared, StopsAt, KeepsDisks}
+use Rattle.read_command.specs.Disks.{AreReadable, IsUnopened, IsSpared, StopsAt, KeepsDisks, usual_header}
 use Rattle.read_command.proofs.Disks.{opening_from, spared_still}
 use Rattle.read_command.specs.Opening.{Opening, BecomesOpen, AreOpened, EndsBy, EndsOpening, IsFree}
 
@@ -49,8 +48,8 @@ module _ {V : Type 0} (clouds : V → ℕ → Cloud) where
   pub record Leaves (old new : LocalLink V) : Type 0 where
     pub spared : (cloud : ℕ) → IsTrue (clouds old.shelf.now cloud).told → IsSpared (clouds old.shelf.now cloud) (clouds new.shelf.now cloud)
     pub images : (cloud : ℕ) → IsTrue (clouds old.shelf.now cloud).told → (lists : List (List Command))
-        → ImagesNow (clouds old.shelf.now cloud) (header_of old.servers.shape cloud) (Contains lists)
-        → ImagesSince (clouds old.shelf.now cloud) (clouds new.shelf.now cloud) (header_of old.servers.shape cloud) (Contains lists)
+        → ImagesNow (clouds old.shelf.now cloud) (usual_header old.servers.shape cloud) (Contains lists)
+        → ImagesSince (clouds old.shelf.now cloud) (clouds new.shelf.now cloud) (usual_header old.servers.shape cloud) (Contains lists)
     pub shape : new.servers.shape ≡ old.servers.shape
     pub told : (cloud : ℕ) → (clouds new.shelf.now cloud).told ≡ (clouds old.shelf.now cloud).told
 
@@ -71,8 +70,7 @@ ends_map : (S T : ℕ → OpenErr → Type 0) (F G : ℕ → Type 0) → ((c : �
     → (end : ReadEnd) → EndsBy S F end → EndsBy T G end
 ends_map S T F G f g (ends.NotBegun cloud len) x = f cloud.0 (errors.NotBegun len) x
 ends_map S T F G f g (ends.Damaged cloud at byte) x = f cloud.0 (errors.Damaged at byte) x
-ends_map S T F G f g (ends.Other cloud found) x = (x.0, f cloud.0 (errors.OtherStore found x.0) x.1)
-ends_map S T F G f g (ends.Rooms cloud room limit) x = (x.0, f cloud.0 (errors.RoomsTooSmall room limit x.0) x.1)
+ends_map S T F G f g (ends.Other cloud found) x = (x.0, x.1, f cloud.0 (errors.OtherStore found x.0 x.1) x.2)
 ends_map S T F G f g (ends.ShelfFault cloud) x = (f cloud.0 errors.Fault x.0, g cloud.0 x.0 x.1)
 ends_map S T F G f g ends.NoMemory x = tt
 ends_map S T F G f g ends.Done x = absurd x
@@ -91,8 +89,9 @@ module _ {V : Type 0} (clouds : V → ℕ → Cloud) where
       → server_at new.servers number ≡ server_at mid.servers number → BecomesOpen clouds old mid number → BecomesOpen clouds old new number
   becomes_later old mid new number shape cloud server is = record {
     opened = is.opened;
-    loaded = λ told list stands. stands_later number mid.servers.shape new.servers.shape (clouds mid.shelf.now number) (clouds new.shelf.now number)
-        (server_at mid.servers number) (server_at new.servers number) list shape cloud server (is.loaded told list stands);
+    rooms = ap rooms_of server ∙ is.rooms;
+    loaded = λ told list stands within. stands_later number mid.servers.shape new.servers.shape (clouds mid.shelf.now number) (clouds new.shelf.now number)
+        (server_at mid.servers number) (server_at new.servers number) list shape cloud server (is.loaded told list stands within);
     faults = ap (λ (k : Cloud). k.faults) cloud ∙ is.faults;
   }
 
@@ -107,7 +106,7 @@ module _ {V : Type 0} (clouds : V → ℕ → Cloud) where
     others = λ cloud not. refl;
     leaves = record {
       spared = λ cloud told. spared_still (clouds old.shelf.now cloud) (clouds old.shelf.now cloud) refl (reads_image cloud told);
-      images = λ cloud told lists images. left_alone (clouds old.shelf.now cloud) (clouds old.shelf.now cloud) (StandsForSome (header_of old.servers.shape cloud) (Contains lists)) refl images;
+      images = λ cloud told lists images. left_alone (clouds old.shelf.now cloud) (clouds old.shelf.now cloud) (StandsForSome (usual_header old.servers.shape cloud) (Contains lists)) refl images;
       shape = refl;
       told = λ cloud. refl;
     };
@@ -129,7 +128,7 @@ module _ {V : Type 0} (clouds : V → ℕ → Cloud) where
   pub all_kept : (named : List ℕ) (before now : ℕ) (old mid : LocalLink V) → SoFar clouds named [] before now old mid
       → KeepsDisks old.servers.shape named (clouds old.shelf.now) (clouds mid.shelf.now)
   all_kept named before now old mid so = record {
-    chosen = λ cloud lists has told images. so.leaves.images cloud told lists images;
+    chosen = λ cloud lists has told within images. so.leaves.images cloud told lists images;
     others = λ cloud not. so.others cloud (λ has. not (subst (λ (l : List ℕ). Contains l cloud) (sym (so.place ∙ append-nil so.front)) has));
   }
 
@@ -161,9 +160,9 @@ module _ {V : Type 0} (clouds : V → ℕ → Cloud) where
         | inr ne ↦ subst (λ (k : Cloud). IsSpared (clouds old.shelf.now cloud) k) (sym (rest.clouds_stay cloud ne)) (so.leaves.spared cloud told)
       ];
       images = λ cloud told lists images. elim (cases_eq cloud number) [
-        | inl e ↦ subst (λ (c : ℕ). IsTrue (clouds old.shelf.now c).told → ImagesNow (clouds old.shelf.now c) (header_of old.servers.shape c) (Contains lists)
-            → ImagesSince (clouds old.shelf.now c) (clouds new.shelf.now c) (header_of old.servers.shape c) (Contains lists)) (sym e) (λ t i. here.images t lists i) told images
-        | inr ne ↦ subst (λ (k : Cloud). ImagesSince (clouds old.shelf.now cloud) k (header_of old.servers.shape cloud) (Contains lists)) (sym (rest.clouds_stay cloud ne))
+        | inl e ↦ subst (λ (c : ℕ). IsTrue (clouds old.shelf.now c).told → ImagesNow (clouds old.shelf.now c) (usual_header old.servers.shape c) (Contains lists)
+            → ImagesSince (clouds old.shelf.now c) (clouds new.shelf.now c) (usual_header old.servers.shape c) (Contains lists)) (sym e) (λ t i. here.images t lists i) told images
+        | inr ne ↦ subst (λ (k : Cloud). ImagesSince (clouds old.shelf.now cloud) k (usual_header old.servers.shape cloud) (Contains lists)) (sym (rest.clouds_stay cloud ne))
             (so.leaves.images cloud told lists images)
       ];
       shape = rest.shape_stays ∙ so.leaves.shape;
@@ -175,7 +174,7 @@ module _ {V : Type 0} (clouds : V → ℕ → Cloud) where
 
     pub kept_next : KeepsDisks old.servers.shape named (clouds old.shelf.now) (clouds new.shelf.now)
     kept_next = record {
-      chosen = λ cloud lists has told images. leaves_next.images cloud told lists images;
+      chosen = λ cloud lists has told within images. leaves_next.images cloud told lists images;
       others = λ cloud not. others_next cloud (λ e. not (subst (Contains named) (sym e) (is_named named number more before between old mid so)))
           (λ has. not (subst (λ (l : List ℕ). Contains l cloud) (sym so.place) (Contains-append_left so.front (number ∷ more) cloud has)));
     }
@@ -184,7 +183,7 @@ module _ {V : Type 0} (clouds : V → ℕ → Cloud) where
     pub one_more : (u : Unit {0}) → result ≡ Ok u → new.fate ≡ mid.fate → new.shelf.ghost_name ≡ mid.shelf.ghost_name → SoFar clouds named more before now old new
     one_more u ok fate same =
         let h = subst (Opening clouds old.servers.shape (clouds old.shelf.now number) before new now number) ok here in
-        let becomes : BecomesOpen clouds old new number = record { opened = h.opened; loaded = h.loaded; faults = h.counts.cloud } in
+        let becomes : BecomesOpen clouds old new number = record { opened = h.opened; rooms = h.rooms; loaded = h.loaded; faults = h.counts.cloud } in
         record {
           front = so.front ++ number ∷ [];
           place = so.place ∙ sym (append_assoc so.front (number ∷ []) more);
@@ -206,7 +205,7 @@ module _ {V : Type 0} (clouds : V → ℕ → Cloud) where
     stops_here end err =
         let h = subst (Opening clouds old.servers.shape (clouds old.shelf.now number) before new now number) err here in
         ends_map
-        (λ c e. (c ≡ number) × (IsTrue (clouds old.shelf.now number).told → IsUnopened (header_of old.servers.shape number) (clouds old.shelf.now number) (clouds new.shelf.now number) e))
+        (λ c e. (c ≡ number) × (IsTrue (clouds old.shelf.now number).told → IsUnopened (usual_header old.servers.shape number) (clouds old.shelf.now number) (clouds new.shelf.now number) e))
         (StopsAt old.servers.shape named (clouds old.shelf.now) (clouds new.shelf.now))
         (λ c. HasFailed (clouds old.shelf.now number) (clouds new.shelf.now number) before now)
         (λ c. HasFailed (clouds old.shelf.now c) (clouds new.shelf.now c) before now)

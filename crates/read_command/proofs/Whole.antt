@@ -4,7 +4,7 @@ use Rattle.std.specs.Prelude.{Option, Some, None, Result, Ok, Err}
 use Rattle.std.specs.Io.KnownBytes.{Appends}
 use Rattle.std.specs.List.{Contains}
 use Rattle.std.proofs.lemmas.List.Elements.{Contains-append_right}
-use Rattle.commit_journal.specs.declared.errors.OpenErr.TheVariants as errors
+use Rattle.half_journal.specs.declared.errors.OpenErr.TheVariants as errors
 use Rattle.user_dedup.proofs.Owned.{contains_here}
 use Rattle.user_dedup.specs.declared.command.Command.{Command}
 use Rattle.restore_job.specs.declared.error.RestoreErr.{RestoreErr}
@@ -51,7 +51,6 @@ reads_whole c r came file old new ends.NoMemory is w = ([], w, (refl, tt), λ li
 reads_whole c r came file old new (ends.NotBegun cloud len) is w = absurd w
 reads_whole c r came file old new (ends.Damaged cloud at byte) is w = absurd w
 reads_whole c r came file old new (ends.Other cloud found) is w = absurd w
-reads_whole c r came file old new (ends.Rooms cloud room limit) is w = absurd w
 reads_whole c r came file old new (ends.ShelfFault cloud) is w = absurd w
 
 -- the openings ended it
@@ -60,7 +59,6 @@ pub reads_stopped : (c : Outside) (r : Wanted) (w : Option (List ℕ)) (end : Re
 reads_stopped c r w (ends.NotBegun cloud len) stops free = ([], nothing_more w, (refl, stops), λ lists are. free lists are)
 reads_stopped c r w (ends.Damaged cloud at byte) stops free = ([], nothing_more w, (refl, stops), λ lists are. free lists are)
 reads_stopped c r w (ends.Other cloud found) stops free = ([], nothing_more w, (refl, stops), λ lists are. free lists are)
-reads_stopped c r w (ends.Rooms cloud room limit) stops free = ([], nothing_more w, (refl, stops), λ lists are. free lists are)
 reads_stopped c r w (ends.ShelfFault cloud) stops free = ([], nothing_more w, (refl, stops), λ lists are. in_place cloud.0 stops.0)
   where
     in_place : (number : ℕ) → StopsAt r.shape r.clouds.now c.old c.new number errors.Fault → Contains r.clouds.now number

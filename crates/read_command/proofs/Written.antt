@@ -23,5 +23,4 @@ not_whole came file text old new before now ends.Refused is w = absurd w
 not_whole came file text old new before now (ends.NotBegun cloud len) is w = absurd w
 not_whole came file text old new before now (ends.Damaged cloud at byte) is w = absurd w
 not_whole came file text old new before now (ends.Other cloud found) is w = absurd w
-not_whole came file text old new before now (ends.Rooms cloud room limit) is w = absurd w
 not_whole came file text old new before now (ends.ShelfFault cloud) is w = absurd w

@@ -1,45 +1,48 @@
 -- What the disks of the chosen clouds are, and what an opening finds and leaves there.
-use Rattle.std.specs.Prelude.{◌≡◌, ℕ, true, false, IsTrue, List, ◌∷◌, ◌++◌, Result, Ok, Err}
+use Rattle.std.specs.Prelude.{◌≡◌, ℕ, false, IsTrue, List, ◌∷◌, ◌++◌, Result, Ok, Err}
 use Rattle.std.specs.List.{Contains}
-use Rattle.cd_base.specs.Limits.{greatest_rooms}
 use Rattle.cd_base.specs.declared.shape.Shape.{Shape}
 use Rattle.cd_edges.specs.declared.area.Area.TheVariants.{Journal}
 use Rattle.cd_edges.specs.Disk.{Cloud, Image, IsImage, LeavesOnly, reads}
-use Rattle.commit_journal.specs.declared.errors.OpenErr.{OpenErr}
-use Rattle.commit_journal.specs.declared.header.Header.{Header}
-use Rattle.commit_journal.specs.Openings.{OnFault}
-use Rattle.commit_journal.specs.Records.{is_begun}
+use Rattle.half_journal.specs.declared.errors.OpenErr.{OpenErr}
+use Rattle.journal_start.specs.declared.start.Header.{Header}
+use Rattle.half_journal.specs.Openings.{OnFault}
+use Rattle.journal_halves.specs.Beginnings.{IsUnbegun}
+use Rattle.journal_start.specs.Ranges.{usual_rooms}
 use Rattle.user_dedup.specs.declared.command.Command.{Command}
-use Rattle.cloud_opening.specs.Exact.{Opens}
-use Rattle.cloud_opening.specs.Replied.{HasNoOther, NotBegunIs, OtherStoreIs}
-use Rattle.cloud_store.specs.Space.{IsWithin}
-use Rattle.cloud_store.specs.Standing.{ImagesNow, ImagesSince}
-use Rattle.cloud_store.specs.Store.{StandsFor}
+use Rattle.cloud_server.specs.Openings.{HasNoOther, NotBegunIs, OpensTo, OtherStoreIs}
+use Rattle.user_dedup.specs.Spending.{IsWithin}
+use Rattle.cloud_areas.specs.Peers.{ImagesNow, ImagesSince}
+use Rattle.cloud_areas.specs.Standing.{StandsFor}
 use Rattle.local_link.specs.Calls.{header_of}
 
--- The cloud is told, its store is begun, and what it reads stands for the list, which is within the greatest rooms.
+-- the header of a cloud of a store of this shape, in the usual rooms
+abbrev pub usual_header : Shape → ℕ → Header
+usual_header shape cloud = header_of shape usual_rooms cloud
+
+-- The cloud is told, its store is begun, and what it reads stands for the list, which is within the header's rooms.
 pub record IsReadable (header : Header) (cloud : Cloud) (list : List Command) : Type 0 where
   pub told : IsTrue cloud.told
-  pub begun : is_begun (reads cloud.now Journal) ≡ true
+  pub begun : ¬ IsUnbegun (reads cloud.now Journal)
   pub stands : StandsFor (reads cloud.now) header list
-  pub within : IsWithin greatest_rooms list
+  pub within : IsWithin header.shape header.rooms list
 
--- so of each named cloud of a store of this shape
+-- so of each named cloud of a store of this shape, in the usual rooms
 abbrev pub AreReadable : Shape → List ℕ → (ℕ → Cloud) → (ℕ → List Command) → Type 0
 AreReadable shape named clouds lists =
-    (cloud : ℕ) → Contains named cloud → IsReadable (header_of shape cloud) (clouds cloud) (lists cloud)
+    (cloud : ℕ) → Contains named cloud → IsReadable (usual_header shape cloud) (clouds cloud) (lists cloud)
 
--- What the areas read opens in the greatest rooms: a store that is begun, and has no other header.
+-- What the areas read opens: a store that is begun, and has no other header.
 pub record IsOpened (header : Header) (cloud : Cloud) : Type 0 where
   pub commands : ℕ
-  pub opens : Opens header greatest_rooms false (reads cloud.now) (Ok commands)
-  pub begun : is_begun (reads cloud.now Journal) ≡ true
+  pub opens : OpensTo header false (reads cloud.now) (Ok commands)
+  pub begun : ¬ IsUnbegun (reads cloud.now Journal)
   pub own : HasNoOther (reads cloud.now Journal) header
 
 -- What the areas read doesn't open: it comes to this error, unless the error is that a device call failed.
 pub record IsUnopened (header : Header) (old new : Cloud) (error : OpenErr) : Type 0 where
   pub exact : let answer : Result ℕ OpenErr = Err error in
-      OnFault answer (Unit {0}) (Opens header greatest_rooms false (reads old.now) answer)
+      OnFault answer (Unit {0}) (OpensTo header false (reads old.now) answer)
   pub not_begun : let answer : Result ℕ OpenErr = Err error in NotBegunIs old new false answer
   pub other_store : let answer : Result ℕ OpenErr = Err error in OtherStoreIs (reads old.now Journal) header answer
 
@@ -54,13 +57,14 @@ pub record StopsAt (shape : Shape) (named : List ℕ) (old new : ℕ → Cloud) 
   pub rest : List ℕ
   pub place : named ≡ front ++ cloud ∷ rest
   pub opened : (before : ℕ) → Contains front before → IsTrue (old before).told
-      → IsOpened (header_of shape before) (old before)
-  pub stops : IsTrue (old cloud).told → IsUnopened (header_of shape cloud) (old cloud) (new cloud) error
+      → IsOpened (usual_header shape before) (old before)
+  pub stops : IsTrue (old cloud).told → IsUnopened (usual_header shape cloud) (old cloud) (new cloud) error
 
--- Each image since then of a named cloud that is told stands for one of the lists that its images stood for; the other
--- clouds are as they were.
+-- Each image since then of a named cloud that is told stands for one of the lists that its images stood for, where these
+-- are within the usual rooms; the other clouds are as they were.
 pub record KeepsDisks (shape : Shape) (named : List ℕ) (old new : ℕ → Cloud) : Type 0 where
   pub chosen : (cloud : ℕ) (lists : List (List Command)) → Contains named cloud → IsTrue (old cloud).told
-      → ImagesNow (old cloud) (header_of shape cloud) (Contains lists)
-      → ImagesSince (old cloud) (new cloud) (header_of shape cloud) (Contains lists)
+      → ((list : List Command) → Contains lists list → IsWithin shape usual_rooms list)
+      → ImagesNow (old cloud) (usual_header shape cloud) (Contains lists)
+      → ImagesSince (old cloud) (new cloud) (usual_header shape cloud) (Contains lists)
   pub others : (cloud : ℕ) → (Contains named cloud → ⊥) → new cloud ≡ old cloud

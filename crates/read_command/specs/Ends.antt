@@ -9,9 +9,10 @@ use Rattle.cd_base.specs.declared.shape.Shape.{Shape}
 use Rattle.cd_edges.specs.Causes.{Rose}
 use Rattle.cd_edges.specs.Disk.{Cloud, reads}
 use Rattle.user_dedup.specs.declared.command.Command.{Command}
-use Rattle.cloud_store.specs.Store.{StandsFor}
+use Rattle.user_dedup.specs.Spending.{IsWithin}
+use Rattle.cloud_areas.specs.Standing.{StandsFor}
+use Rattle.journal_start.specs.Ranges.{usual_rooms}
 use Rattle.kept_files.specs.Kept.{key_of}
-use Rattle.local_link.specs.Calls.{header_of}
 use Rattle.restore_job.specs.Asking.{is_lost}
 use Rattle.restore_job.specs.Brought.{Brought}
 use Rattle.restore_job.specs.Refusals.{Names}
@@ -26,7 +27,7 @@ use Rattle.subset_restore.specs.Subsets.{subsets}
 use Rattle.read_command.specs.declared.wanted.Wanted.{Wanted}
 use Rattle.read_command.specs.declared.end.ReadEnd.{ReadEnd}
 use Rattle.read_command.specs.declared.end.ReadEnd.TheVariants as ends
-use Rattle.read_command.specs.Disks.{AreReadable, IsOpened}
+use Rattle.read_command.specs.Disks.{AreReadable, IsOpened, usual_header}
 use Rattle.read_command.specs.Opening.{EndsOpening}
 use Rattle.read_command.specs.Refusals.{cloud_no, reason_of}
 
@@ -59,7 +60,7 @@ given_of r lists = due_of r.shape r.user (key_of r.shape r.path.now r.version) r
 -- each named cloud that is told opened
 abbrev pub AllOpened : Outside → Shape → List ℕ → Type 0
 AllOpened c shape named =
-    (cloud : ℕ) → Contains named cloud → IsTrue (c.old cloud).told → IsOpened (header_of shape cloud) (c.old cloud)
+    (cloud : ℕ) → Contains named cloud → IsTrue (c.old cloud).told → IsOpened (usual_header shape cloud) (c.old cloud)
 
 -- where a cloud's device failed its count rose
 abbrev pub RoseBy : Outside → RestoreErr → Type 0
@@ -105,10 +106,11 @@ pub record IsRefusalDue (c : Outside) (named : List ℕ) (due : Due) (text : Lis
   pub line : IsLineOf (due.given first) text ⊎ IsFaultLine c first text
   pub exact : (HoldsFailed c named → ⊥) → IsLineOf due.whole text
 
--- These lists stand at the named clouds that are told.
+-- These lists stand at the named clouds that are told, within the usual rooms.
 abbrev pub HaveLists : Outside → Shape → List ℕ → (ℕ → List Command) → Type 0
 HaveLists c shape named lists = (cloud : ℕ) → Contains named cloud → IsTrue (c.old cloud).told
-    → StandsFor (reads (c.old cloud).now) (header_of shape cloud) (lists cloud)
+    → StandsFor (reads (c.old cloud).now) (usual_header shape cloud) (lists cloud)
+    × IsWithin shape usual_rooms (lists cloud)
 
 -- A refusal names no other clouds than the named ones, and is no lost ask. Where lists stand at all that are told, a
 -- device failed only where its count rose.
@@ -201,7 +203,6 @@ Gives c named due ends.NoMemory text = Unit {0}
 Gives c named due (ends.NotBegun cloud len) text = ⊥
 Gives c named due (ends.Damaged cloud at byte) text = ⊥
 Gives c named due (ends.Other cloud found) text = ⊥
-Gives c named due (ends.Rooms cloud room limit) text = ⊥
 
 -- A read ended so, over what was written before and what is written now.
 abbrev pub Reads : Outside → Wanted → ReadEnd → Option (List ℕ) → Option (List ℕ) → Type 0

@@ -5,36 +5,35 @@ use Rattle.cd_base.specs.declared.ids.CloudNo.{CloudNo}
 use Rattle.cd_base.specs.declared.shape.Shape.{Shape}
 use Rattle.cd_edges.specs.Disk.{Cloud, reads}
 use Rattle.cd_edges.specs.Shelf.{HasFailed, KeepsCounts}
-use Rattle.commit_journal.specs.declared.errors.OpenErr.{OpenErr}
-use Rattle.commit_journal.specs.declared.errors.OpenErr.TheVariants as errors
-use Rattle.commit_journal.specs.declared.header.Header.{Header}
+use Rattle.half_journal.specs.declared.errors.OpenErr.{OpenErr}
+use Rattle.half_journal.specs.declared.errors.OpenErr.TheVariants as errors
+use Rattle.journal_start.specs.declared.start.Header.{Header}
+use Rattle.journal_start.specs.Ranges.{usual_rooms}
 use Rattle.user_dedup.specs.declared.command.Command.{Command}
-use Rattle.cloud_store.specs.Standing.{ImagesNow, ImagesSince}
-use Rattle.cloud_store.specs.Store.{StandsFor}
-use Rattle.share_server.specs.Serving.{settled_with}
+use Rattle.user_dedup.specs.Spending.{IsWithin}
+use Rattle.cloud_areas.specs.Peers.{ImagesNow, ImagesSince}
+use Rattle.cloud_areas.specs.Standing.{StandsFor}
+use Rattle.cloud_server.specs.Serving.{settled_with}
 use Rattle.local_link.specs.declared.link.LocalLink.{LocalLink}
-use Rattle.local_link.specs.Calls.{header_of}
-use Rattle.local_link.specs.Tells.{StandsAt}
+use Rattle.local_link.specs.Tells.{StandsAt, rooms_at}
 use Rattle.read_command.specs.declared.end.ReadEnd.{ReadEnd}
 use Rattle.read_command.specs.declared.end.ReadEnd.TheVariants as ends
-use Rattle.read_command.specs.Disks.{IsReadable, IsOpened, IsUnopened, IsSpared, StopsAt}
+use Rattle.read_command.specs.Disks.{IsReadable, IsOpened, IsUnopened, IsSpared, StopsAt, usual_header}
 
 -- the end of a read whose opening of the cloud answered this error
 abbrev pub end_by : CloudNo → OpenErr → ReadEnd
 end_by cloud errors.Fault = ends.ShelfFault cloud
 end_by cloud (errors.NotBegun len) = ends.NotBegun cloud len
 end_by cloud (errors.Damaged at byte) = ends.Damaged cloud at byte
-end_by cloud (errors.OtherStore found asked) = ends.Other cloud found
-end_by cloud (errors.RoomsTooSmall room limit at) = ends.Rooms cloud room limit
-end_by cloud errors.NoMemory = ends.NoMemory
+end_by cloud (errors.OtherStore found asked at) = ends.Other cloud found
 
 -- The end that an opening's error gives, of which this is said, with this beside it where a device failed; or want of
 -- memory.
 abbrev pub EndsBy : (ℕ → OpenErr → Type 0) → (ℕ → Type 0) → ReadEnd → Type 0
 EndsBy Stops Failed (ends.NotBegun cloud len) = Stops cloud.0 (errors.NotBegun len)
 EndsBy Stops Failed (ends.Damaged cloud at byte) = Stops cloud.0 (errors.Damaged at byte)
-EndsBy Stops Failed (ends.Other cloud found) = (asked : Header) × Stops cloud.0 (errors.OtherStore found asked)
-EndsBy Stops Failed (ends.Rooms cloud room limit) = (at : ℕ) × Stops cloud.0 (errors.RoomsTooSmall room limit at)
+EndsBy Stops Failed (ends.Other cloud found) =
+    (asked : Header) × (at : ℕ) × Stops cloud.0 (errors.OtherStore found asked at)
 EndsBy Stops Failed (ends.ShelfFault cloud) = Stops cloud.0 errors.Fault × Failed cloud.0
 EndsBy Stops Failed ends.NoMemory = Unit {0}
 EndsBy Stops Failed ends.Done = ⊥
@@ -57,34 +56,38 @@ abbrev pub IsFree : ReadEnd → Type 0
 IsFree (ends.NotBegun cloud len) = ⊥
 IsFree (ends.Damaged cloud at byte) = ⊥
 IsFree (ends.Other cloud found) = ⊥
-IsFree (ends.Rooms cloud room limit) = ⊥
 IsFree (ends.ShelfFault cloud) = Unit {0}
 IsFree ends.NoMemory = Unit {0}
 IsFree ends.Done = Unit {0}
 IsFree ends.Refused = Unit {0}
 IsFree ends.SinkFault = Unit {0}
 
--- A cloud that was so was to be opened. Where it opens it stands for the list that its areas read as, if there is one,
--- and nothing failed. Whatever comes it is spared, and each image since then stands for one of the lists that its images
+-- A cloud that was so was to be opened. Where it opens, its server has the usual rooms, and it stands for the list that its
+-- areas read as, if there is one within these, and nothing failed. Whatever comes it is spared, and each image since then stands for one of the lists that its images
 -- stood for.
 pub record Opening {V : Type 0} (clouds : V → ℕ → Cloud) (shape : Shape) (old : Cloud) (before : ℕ)
     (new : LocalLink V) (now cloud : ℕ) (result : Result (Unit {0}) ReadEnd) : Type 0 where
-  pub opened : IsTrue old.told → OnOk result (IsOpened (header_of shape cloud) old)
-  pub loaded : IsTrue old.told → (list : List Command) → StandsFor (reads old.now) (header_of shape cloud) list
+  pub opened : IsTrue old.told → OnOk result (IsOpened (usual_header shape cloud) old)
+  pub rooms : OnOk result (rooms_at new.servers cloud ≡ usual_rooms)
+  pub loaded : IsTrue old.told → (list : List Command) → StandsFor (reads old.now) (usual_header shape cloud) list
+      → IsWithin shape usual_rooms list
       → OnOk result (StandsAt clouds new cloud (settled_with list (clouds new.shelf.now cloud)))
   pub counts : OnOk result (KeepsCounts old (clouds new.shelf.now cloud) before now)
-  pub readable : (list : List Command) → IsReadable (header_of shape cloud) old list → IfErr result IsFree
-  pub end : IfErr result (EndsOne (header_of shape cloud) old (clouds new.shelf.now cloud) before now cloud)
+  pub readable : (list : List Command) → IsReadable (usual_header shape cloud) old list → IfErr result IsFree
+  pub end : IfErr result (EndsOne (usual_header shape cloud) old (clouds new.shelf.now cloud) before now cloud)
   pub spared : IsTrue old.told → IsSpared old (clouds new.shelf.now cloud)
-  pub images : IsTrue old.told → (lists : List (List Command)) → ImagesNow old (header_of shape cloud) (Contains lists)
-      → ImagesSince old (clouds new.shelf.now cloud) (header_of shape cloud) (Contains lists)
+  pub images : IsTrue old.told → (lists : List (List Command)) → ImagesNow old (usual_header shape cloud) (Contains lists)
+      → ImagesSince old (clouds new.shelf.now cloud) (usual_header shape cloud) (Contains lists)
 
--- A cloud of a link was opened. It stands for the list that its areas read as, if there is one.
+-- A cloud of a link was opened, in the usual rooms. It stands for the list that its areas read as, if there is one within
+-- these.
 pub record BecomesOpen {V : Type 0} (clouds : V → ℕ → Cloud) (old new : LocalLink V) (cloud : ℕ) : Type 0 where
   pub opened : IsTrue (clouds old.shelf.now cloud).told
-      → IsOpened (header_of old.servers.shape cloud) (clouds old.shelf.now cloud)
+      → IsOpened (usual_header old.servers.shape cloud) (clouds old.shelf.now cloud)
+  pub rooms : rooms_at new.servers cloud ≡ usual_rooms
   pub loaded : IsTrue (clouds old.shelf.now cloud).told → (list : List Command)
-      → StandsFor (reads (clouds old.shelf.now cloud).now) (header_of old.servers.shape cloud) list
+      → StandsFor (reads (clouds old.shelf.now cloud).now) (usual_header old.servers.shape cloud) list
+      → IsWithin old.servers.shape usual_rooms list
       → StandsAt clouds new cloud (settled_with list (clouds new.shelf.now cloud))
   pub faults : (clouds new.shelf.now cloud).faults ≡ (clouds old.shelf.now cloud).faults
 

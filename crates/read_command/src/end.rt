@@ -3,8 +3,9 @@
 ghost use Rattle.std.specs.Prelude.{◌≡◌};
 ghost use Rattle.read_command.specs.Opening.{end_by};
 
-use cd_base::{CloudNo, Room};
-use commit_journal::{Header, OpenErr};
+use cd_base::CloudNo;
+use half_journal::OpenErr;
+use journal_start::Header;
 
 /// How a read ends.
 #[derive(Clone, Copy, Debug, PartialEq, Eq)]
@@ -14,31 +15,13 @@ pub enum ReadEnd {
     /// The clouds gave no file. The line that says why was written, and nothing else.
     Refused,
     /// At the cloud no store is begun: its journal has so many bytes.
-    NotBegun {
-        cloud: CloudNo,
-        len: u64,
-    },
+    NotBegun { cloud: CloudNo, len: u64 },
     /// The cloud's journal is damaged: the place that is wrong, and its byte.
-    Damaged {
-        cloud: CloudNo,
-        at: u64,
-        byte: u8,
-    },
-    /// The cloud's journal is that of another store or cloud, with this header.
-    Other {
-        cloud: CloudNo,
-        found: Header,
-    },
-    /// The cloud has more than the greatest of this room, which is the limit.
-    Rooms {
-        cloud: CloudNo,
-        room: Room,
-        limit: u64,
-    },
+    Damaged { cloud: CloudNo, at: u64, byte: u8 },
+    /// The cloud's journal is that of another store or cloud, or of other rooms, with this header.
+    Other { cloud: CloudNo, found: Header },
     /// The cloud's device failed as it was opened.
-    ShelfFault {
-        cloud: CloudNo,
-    },
+    ShelfFault { cloud: CloudNo },
     /// The sink failed. A front of what was due was written.
     SinkFault,
     /// Memory ran out. Nothing was written.
@@ -54,7 +37,5 @@ pub fn end_of(cloud: CloudNo, error: OpenErr) -> ReadEnd
         OpenErr::NotBegun { len } => ReadEnd::NotBegun { cloud, len },
         OpenErr::Damaged { at, byte } => ReadEnd::Damaged { cloud, at, byte },
         OpenErr::OtherStore { found, .. } => ReadEnd::Other { cloud, found },
-        OpenErr::RoomsTooSmall { room, limit, .. } => ReadEnd::Rooms { cloud, room, limit },
-        OpenErr::NoMemory => ReadEnd::NoMemory,
     }
 }

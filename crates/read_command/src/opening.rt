@@ -10,11 +10,12 @@ ghost use Rattle.read_command.specs.Opening.{Opening, EndsOpening, IsFree, AreOp
 
 use crate::ReadEnd;
 use crate::end::end_of;
-use cd_base::{CloudNo, NoMemory, Rooms};
+use cd_base::{CloudNo, NoMemory};
 use cd_edges::Shelf;
+use journal_start::Rooms;
 use local_link::LocalLink;
 
-// Opens a cloud in the greatest rooms, and begins nothing.
+// Opens a cloud in the usual rooms, and begins nothing.
 fn open_cloud<V: Shelf>(link: &mut LocalLink<'_, V>, cloud: CloudNo) -> Result<(), ReadEnd>
     requires reached { cloud.0 < link.old.servers.shape.n }
     ensures opens { Opening V.cloud_at link.old.servers.shape (V.cloud_at link.old.shelf.now cloud.0)
@@ -23,7 +24,7 @@ fn open_cloud<V: Shelf>(link: &mut LocalLink<'_, V>, cloud: CloudNo) -> Result<(
     ensures fate { link.new.fate ≡ link.old.fate }
     ensures same_reference { link.new.shelf.ghost_name ≡ link.old.shelf.ghost_name }
 {
-    match link.set_rooms(cloud, Rooms::greatest()) {
+    match link.set_rooms(cloud, Rooms::usual()) {
         Ok(()) => {}
         Err(NoMemory) => return Err(ReadEnd::NoMemory),
     }
@@ -43,7 +44,7 @@ fn next_cloud(clouds: &[CloudNo]) -> Option<(CloudNo, &[CloudNo])>
     }
 }
 
-/// Opens rising clouds in order, each in the greatest rooms, and begins nothing. It ends at the first that doesn't
+/// Opens rising clouds in order, each in the usual rooms, and begins nothing. It ends at the first that doesn't
 /// open.
 pub fn open_clouds<V: Shelf>(link: &mut LocalLink<'_, V>, clouds: &[CloudNo]) -> Result<(), ReadEnd>
     requires rising { IsStrictlyIncreasing (numbers_of clouds.now) }

@@ -3,7 +3,6 @@
 ghost use Rattle.std.specs.Prelude.{◌≡◌, ◌<◌, ◌≤◌, ℕ, List, [], length, All, IsTrue, IfOk, IfErr};
 ghost use Rattle.cd_base.specs.Limits.{IsPath};
 ghost use Rattle.user_dedup.specs.declared.command.Command.{Command};
-ghost use Rattle.cloud_state.specs.State.{AreRooms};
 ghost use Rattle.local_link.specs.declared.fate.Fate.TheVariants.{Deliver};
 ghost use Rattle.read_command.specs.Disks.{AreReadable, IsSpared, KeepsDisks};
 ghost use Rattle.read_command.specs.Opening.{EndsOpening, IsFree};
@@ -12,26 +11,13 @@ ghost use Rattle.read_command.specs.Ends.{CountsSink, IsOfOpening, Reads, Restor
 use crate::opening::open_clouds;
 use crate::writing::write_came;
 use crate::{ReadEnd, Wanted};
-use cd_base::{Bytes, Rooms};
+use cd_base::Bytes;
 use cd_edges::{Shelf, Sink};
-use local_link::{LocalLink, Servers};
+use journal_start::Rooms;
+use local_link::{LocalLink, Servers, law_of_readings};
 use restore_job::RestoreErr;
 use std::alloc::Global;
 use subset_restore::restore_any;
-
-// The least rooms, which take no tables: those of the clouds that aren't read.
-fn least_rooms() -> Rooms
-    ensures { AreRooms result }
-{
-    Rooms {
-        shares: 0,
-        recipes: 0,
-        journal: 0,
-        fps: 0,
-        owners: 0,
-        files: 0,
-    }
-}
 
 // Opens the named clouds, and restores from them.
 fn restore_opened<V: Shelf>(
@@ -64,6 +50,7 @@ fn restore_opened<V: Shelf>(
     ensures same_reference { link.new.shelf.ghost_name ≡ link.old.shelf.ghost_name }
 {
     wanted.clouds.rises();
+    law_of_readings::<V>();
     match open_clouds(link, wanted.clouds.as_slice()) {
         Ok(()) => {}
         Err(end) => return Err(end),
@@ -82,11 +69,11 @@ fn restore_opened<V: Shelf>(
 
 /// Reads a version of a file from the named clouds' disks, whatever was remembered before, and writes its bytes.
 ///
-/// The clouds are opened in order, each in the greatest rooms, and nothing is begun; then the version is restored from
+/// The clouds are opened in order, each in the usual rooms, and nothing is begun; then the version is restored from
 /// any k of them, as `subset_restore::restore_any` does it. No other cloud is touched.
 ///
 /// Done: the sink has the file's bytes. Refused: the sink has the line that says why there is no file. NotBegun,
-/// Damaged, Other and Rooms: so it is at the cloud, the first in order that doesn't open; nothing was written.
+/// Damaged and Other: so it is at the cloud, the first in order that doesn't open; nothing was written.
 /// ShelfFault: the cloud's device failed as it was opened, and its count rose; nothing was written. SinkFault: the
 /// sink's count rose; it has a front of what was due. NoMemory: nothing was written.
 pub fn read_file<K: Sink, V: Shelf>(
@@ -100,7 +87,7 @@ pub fn read_file<K: Sink, V: Shelf>(
     requires within { All (λ cloud. cloud < wanted.now.shape.n) wanted.now.clouds.now }
 
     // What was written belongs to the end. Over named clouds that are told, begun, and stand for lists within the
-    // greatest rooms it is the file that any k of these lists give, or their refusal, or the failed device of one of
+    // usual rooms it is the file that any k of these lists give, or their refusal, or the failed device of one of
     // the first k; or a front of these.
     ensures reads { Reads (record {
       total_before = V.faults shelf.old;
@@ -110,15 +97,15 @@ pub fn read_file<K: Sink, V: Shelf>(
     }) wanted.now result (K.written sink.old) (K.written sink.new) }
     ensures counts { CountsSink (K.faults sink.old) (K.faults sink.new) result }
 
-    // Each image since then of a named cloud stands for one of the lists that its images stood for; the others are as
-    // they were.
+    // Each image since then of a named cloud stands for one of the lists that its images stood for, where these are
+    // within the usual rooms; the others are as they were.
     ensures kept { KeepsDisks wanted.now.shape wanted.now.clouds.now (V.cloud_at shelf.old) (V.cloud_at shelf.new) }
 
     // Where the openings end the read, each told cloud is spared, whatever its areas hold.
     ensures areas { IsOfOpening result → (cloud : ℕ) → IsTrue (V.cloud_at shelf.old cloud).told
         → IsSpared (V.cloud_at shelf.old cloud) (V.cloud_at shelf.new cloud) }
 {
-    let Ok(servers) = Servers::make(alloc, wanted.shape, least_rooms()) else {
+    let Ok(servers) = Servers::make(alloc, wanted.shape, Rooms::least()) else {
         return ReadEnd::NoMemory;
     };
     let mut file = Bytes::new(alloc);

@@ -30,7 +30,8 @@ impl Tally {
 
     /// A call on the cloud failed.
     pub fn count_fault(&mut self, cloud: CloudNo)
-        ensures here { slice_index self.new.faults cloud.0 ≡ min (slice_index self.old.faults cloud.0 + 1) (2 ^ 64 - 1) }
+        ensures here { slice_index self.new.faults cloud.0
+            ≡ min (slice_index self.old.faults cloud.0 + 1) (2 ^ 64 - 1) }
         ensures others { (other : ℕ) → other ≢ cloud.0
             → slice_index self.new.faults other ≡ slice_index self.old.faults other }
         ensures later { slice_index self.old.faults cloud.0 ≤ slice_index self.new.faults cloud.0 }

@@ -14,6 +14,7 @@ pub fn spelling_laws()
     // no other one has it
     ensures one { (shape : Shape) (q r : Recipe) → Fits shape q → Fits shape r → spelling q ≡ spelling r → q ≡ r }
     // how long it is, and the most
-    ensures len { (shape : Shape) (r : Recipe) → Fits shape r → length (spelling r) ≡ 14 + length r.name_share + 36 * length r.items }
+    ensures len { (shape : Shape) (r : Recipe) → Fits shape r
+        → length (spelling r) ≡ 14 + length r.name_share + 36 * length r.items }
     ensures longest { (shape : Shape) (r : Recipe) → Fits shape r → length (spelling r) ≤ recipe_limit }
 {}

@@ -75,7 +75,8 @@ impl<'a> PutItems<'a> {
     /// The next item with the places of its fields, which lie in the body, or None behind the last one. The walk then stands
     /// behind the item. An item has 33 bytes, or 45 with a place.
     pub fn next(&mut self) -> Option<FoundItem>
-        ensures { MatchOption result ((self.old.items ≡ []) × (self.new ≡ self.old)) (λ found. StepsOver self.old found self.new) }
+        ensures { MatchOption result ((self.old.items ≡ [])
+            × (self.new ≡ self.old)) (λ found. StepsOver self.old found self.new) }
     {
         if self.count == 0 {
             return None;

@@ -18,16 +18,19 @@ pub fn reading_laws()
     // no two bodies have one spelling
     ensures one { (a b : Body) → FitsBody a → FitsBody b → body_bytes a ≡ body_bytes b → a ≡ b }
     // bytes behind a body are refused at the first of them
-    ensures extra { (b : Body) (x : ℕ) (rest : List ℕ) → FitsBody b → body_at (body_bytes b ++ x ∷ rest) ≡ Err (Extra (length (body_bytes b))) }
+    ensures extra { (b : Body) (x : ℕ) (rest : List ℕ) → FitsBody b
+        → body_at (body_bytes b ++ x ∷ rest) ≡ Err (Extra (length (body_bytes b))) }
     // each proper beginning of a body is too short
-    ensures short { (b : Body) (front : List ℕ) (x : ℕ) (rest : List ℕ) → FitsBody b → body_bytes b ≡ front ++ x ∷ rest → body_at front ≡ Err Short }
+    ensures short { (b : Body) (front : List ℕ) (x : ℕ) (rest : List ℕ) → FitsBody b → body_bytes b ≡ front ++ x ∷ rest
+        → body_at front ≡ Err Short }
 {}
 
 /// How long a body is.
 pub fn length_laws()
     // a Put has 7 bytes, 33 for each item, and 12 more for each place
     ensures put { (user : UserId) (items : List PutItem) → All FitsItem items
-        → length (body_bytes (Put user items)) ≡ 7 + 33 * length items + 12 * count_by (λ item. is_some item.place) items }
+        → length (body_bytes (Put user items))
+        ≡ 7 + 33 * length items + 12 * count_by (λ item. is_some item.place) items }
     ensures commit { (commit : CommitBody) → FitsCommit commit → length (body_bytes (Commit commit)) ≡ 89 }
     // the longest body
     ensures longest { (b : Body) → FitsBody b → length (body_bytes b) ≤ 11527 }
@@ -36,7 +39,8 @@ pub fn length_laws()
 /// What `RecordBuf` holds after a Put is begun and its items are appended.
 pub fn written_laws()
     // with as many items as were named, it is the Put's body
-    ensures whole { (user : UserId) (items : List PutItem) → put_front user (length items) ++ flat_map item_bytes items ≡ body_bytes (Put user items) }
+    ensures whole { (user : UserId) (items : List PutItem)
+        → put_front user (length items) ++ flat_map item_bytes items ≡ body_bytes (Put user items) }
     // before each of up to 256 items there is room for one more
     ensures room { (user : UserId) (count : ℕ) (items : List PutItem) → All FitsItem items → length items < 256
         → length (put_front user count ++ flat_map item_bytes items) + 45 ≤ 65535 }

@@ -73,7 +73,8 @@ fn interpolate(points: &[u8], values: &[u8], width: usize, at: u8, target: &mut 
 
 // Where `at` stands among the points.
 pub(crate) fn place_of(points: &[u8], at: u8) -> Option<usize>
-    ensures { MatchOption result ((t : ℕ) → t < length points.now → slice_index points.now t ≢ at) (λ t. (t < length points.now) × (slice_index points.now t ≡ at)) }
+    ensures { MatchOption result ((t : ℕ) → t < length points.now
+        → slice_index points.now t ≢ at) (λ t. (t < length points.now) × (slice_index points.now t ≡ at)) }
 {
     for t in 0..points.len() {
         if points[t] == at {
@@ -103,7 +104,8 @@ pub(crate) fn evaluate_rows(points: &[u8], values: &[u8], width: usize, rows: u8
     requires whole { length values.now ≡ length points.now * width }
     requires room { length target.old ≡ rows * width }
     requires apart { ArePoints (length points.now) (λ t. slice_index points.now t) }
-    ensures { (j c : ℕ) → j < rows → c < width → slice_index target.new (j * width + c) ≡ column_value points.now values.now width j c }
+    ensures { (j c : ℕ) → j < rows → c < width
+        → slice_index target.new (j * width + c) ≡ column_value points.now values.now width j c }
 {
     for j in 0..rows {
         let start = j as usize * width;

@@ -38,7 +38,8 @@ impl Coder {
         requires whole { length given.now ≡ self.now.shape.k * (length given.now / self.now.shape.k) }
         requires room { length shares.old ≡ self.now.shape.n * (length given.now / self.now.shape.k) }
         ensures dispersed { Dispersed self.now.shape given.now shares.new }
-        ensures rows { (j : ℕ) → j < self.now.shape.n → row (length given.now / self.now.shape.k) j shares.new ≡ share_of self.now.shape given.now j }
+        ensures rows { (j : ℕ) → j < self.now.shape.n
+            → row (length given.now / self.now.shape.k) j shares.new ≡ share_of self.now.shape given.now j }
     {
         let width = given.len() / self.shape.k as usize;
         let points = NUMBERS;
@@ -59,9 +60,12 @@ impl Coder {
         requires whole { length pieces.now ≡ self.now.shape.k * (length pieces.now / self.now.shape.k) }
         requires room { length out.old ≡ length pieces.now }
         // of a dispersal's shares the pieces
-        ensures recovers { (original shares : List ℕ) → Dispersed self.now.shape original shares → AreSharesAt self.now.shape shares points.now pieces.now → out.new ≡ original }
+        ensures recovers { (original shares : List ℕ) → Dispersed self.now.shape original shares
+            → AreSharesAt self.now.shape shares points.now pieces.now → out.new ≡ original }
         // of any bytes the pieces that have them for shares
-        ensures shares { (t : ℕ) → t < self.now.shape.k → share_of self.now.shape out.new (slice_index points.now t) ≡ row (length pieces.now / self.now.shape.k) t pieces.now }
+        ensures shares { (t : ℕ) → t < self.now.shape.k
+            → share_of self.now.shape out.new (slice_index points.now t)
+            ≡ row (length pieces.now / self.now.shape.k) t pieces.now }
     {
         let width = pieces.len() / self.shape.k as usize;
         evaluate_rows(points, pieces, width, self.shape.k, out);
@@ -89,15 +93,24 @@ pub fn are_choice(shape: Shape, points: &[u8]) -> bool
 /// The laws of the code. It does nothing: its clauses are theorems on the definitions.
 pub fn code_laws()
     // two polynomials of degree below k with equal values at k points have the same coefficients
-    ensures same_polynomial { (f g : List ℕ) (p : ℕ → ℕ) → length f ≡ length g → length f ≤ 256 → All (λ b. b < 256) f → All (λ b. b < 256) g → ArePoints (length f) p → ((i : ℕ) → i < length f → value_at f (p i) ≡ value_at g (p i)) → f ≡ g }
+    ensures same_polynomial { (f g : List ℕ) (p : ℕ → ℕ) → length f ≡ length g → length f ≤ 256 → All (λ b. b < 256) f
+        → All (λ b. b < 256) g → ArePoints (length f) p
+        → ((i : ℕ) → i < length f → value_at f (p i) ≡ value_at g (p i)) → f ≡ g }
     // the pieces determine the shares
     ensures only_shares { (s : Shape) (pieces a b : List ℕ) → Dispersed s pieces a → Dispersed s pieces b → a ≡ b }
     // any k shares determine the pieces
-    ensures any_shares { (s : Shape) (points p q : List ℕ) → AreChoice s points → length p ≡ length q → length p ≡ s.k * (length p / s.k) → All (λ b. b < 256) p → All (λ b. b < 256) q → ((t : ℕ) → t < s.k → share_of s p (slice_index points t) ≡ share_of s q (slice_index points t)) → p ≡ q }
+    ensures any_shares { (s : Shape) (points p q : List ℕ) → AreChoice s points → length p ≡ length q
+        → length p ≡ s.k * (length p / s.k) → All (λ b. b < 256) p → All (λ b. b < 256) q
+        → ((t : ℕ) → t < s.k → share_of s p (slice_index points t) ≡ share_of s q (slice_index points t)) → p ≡ q }
     // the rows of a dispersal are the shares of its pieces
-    ensures rows { (s : Shape) (pieces shares : List ℕ) (j : ℕ) → Dispersed s pieces shares → j < s.n → share_of s pieces j ≡ row (length pieces / s.k) j shares }
+    ensures rows { (s : Shape) (pieces shares : List ℕ) (j : ℕ) → Dispersed s pieces shares → j < s.n
+        → share_of s pieces j ≡ row (length pieces / s.k) j shares }
     // the shares below k are the pieces
-    ensures systematic { (s : Shape) (pieces : List ℕ) (j : ℕ) → All (λ b. b < 256) pieces → length pieces ≡ s.k * (length pieces / s.k) → j < s.k → share_of s pieces j ≡ row (length pieces / s.k) j pieces }
+    ensures systematic { (s : Shape) (pieces : List ℕ) (j : ℕ) → All (λ b. b < 256) pieces
+        → length pieces ≡ s.k * (length pieces / s.k) → j < s.k
+        → share_of s pieces j ≡ row (length pieces / s.k) j pieces }
     // of three pieces the next share is the sum
-    ensures sum_of_three { (s : Shape) (pieces : List ℕ) (c : ℕ) → s.k ≡ 3 → All (λ b. b < 256) pieces → share_byte s pieces 3 c ≡ bit_xor (bit_xor (share_byte s pieces 0 c) (share_byte s pieces 1 c)) (share_byte s pieces 2 c) }
+    ensures sum_of_three { (s : Shape) (pieces : List ℕ) (c : ℕ) → s.k ≡ 3 → All (λ b. b < 256) pieces
+        → share_byte s pieces 3 c ≡ bit_xor (bit_xor (share_byte s pieces 0 c) (share_byte s pieces 1 c))
+        (share_byte s pieces 2 c) }
 {}

@@ -3,21 +3,22 @@ use Rattle.std.proofs.Common.{◌≡◌, ℕ, ◌<◌, ◌≤◌, true, false, L
 use Rattle.std.specs.Prelude.{Option, Some, None, Result, Ok, Err, IfSome, IsTrue}
 use Rattle.std.specs.Io.KnownBytes.{Appends}
 use Rattle.std.proofs.lemmas.Bool.{cases_lt}
-use Rattle.cd_base.specs.declared.rooms.Rooms.{Rooms}
+use Rattle.journal_start.specs.declared.rooms.Rooms.{Rooms}
 use Rattle.cd_base.specs.declared.shape.Shape.{Shape}
-use Rattle.cd_base.specs.Limits.{greatest_rooms}
+use Rattle.journal_start.specs.Ranges.{usual_rooms}
+use Rattle.journal_start.specs.declared.start.Header.{Header}
 use Rattle.cd_edges.specs.Causes.{Rose}
 use Rattle.cd_edges.specs.Disk.{Cloud, IsImage, reads}
 use Rattle.cd_edges.proofs.Moments.{weaker, at_end, each_since}
-use Rattle.cloud_store.specs.Standing.{StandsForSome}
+use Rattle.cloud_areas.specs.Peers.{StandsForSome}
 use Rattle.local_link.specs.declared.link.LocalLink.{LocalLink}
-use Rattle.local_link.specs.Calls.{header_of, no_commands}
-use Rattle.cloud_store.specs.Space.{full_for}
-use Rattle.share_server.specs.declared.server.Server.{Server}
+use Rattle.local_link.specs.Calls.{no_commands}
+use Rattle.cloud_server.specs.declared.server.Server.{Server}
 use Rattle.local_link.specs.declared.fate.Fate.TheVariants.{Deliver}
 use Rattle.local_link.specs.declared.servers.Servers.{Servers}
 use Rattle.local_link.specs.Steps.{IsClosedIn}
-use Rattle.local_link.specs.Tells.{server_at, full_by, StandsAt}
+use Rattle.local_link.specs.Tells as tells
+use Rattle.local_link.specs.Tells.{server_at, rooms_of, StandsAt}
 use Rattle.local_link.proofs.Standing.{some_server}
 use Rattle.session.specs.Fault.{Fault}
 use Rattle.session.specs.Lines.{Lines, next_line}
@@ -30,13 +31,15 @@ use Rattle.session_model.specs.Vault.{Setting, opening}
 use Rattle.session_model.specs.Run.{IsListIn}
 use Rattle.session_model.specs.Headline.{Session, IsRun}
 use Rattle.session_model.proofs.Faults.{faults_rose}
+use Rattle.script_lines.specs.At.{header_in}
+use Rattle.script_lines.proofs.Going.{header_is}
 use Rattle.replay_core.specs.declared.end.ReplayEnd.{ReplayEnd}
 use Rattle.replay_core.specs.declared.end.ReplayEnd.TheVariants as ends
 use Rattle.replay_core.specs.Endings.{HasReadSome, HasHeader, IsDue}
 use Rattle.replay_core.specs.Replayed.{Replayed, Replays, status_of, ending_of, IsPrinted}
 use Rattle.replay_core.specs.Opening.{IsThere, IsHead, Prepares, PreparesAll, EndsFirst, EndsUnopened, OpensTo}
 use Rattle.replay_core.specs.Going.{Start, call_of, IsReady, HasCome, EndsWriting}
-use Rattle.replay_core.proofs.Clouds.{all_same}
+use Rattle.replay_core.proofs.Clouds.{EmptyStands, all_same}
 use Rattle.replay_core.proofs.Firsts.{map_told}
 use Rattle.replay_core.proofs.Sessions.{appends_none, grown, appends_grown, holds_between}
 use Rattle.replay_core.proofs.Whole.{Laws, session_of, CausedBy, cause_of, read_some, header_read, apart, ends_so, cut_lines, cut_none}
@@ -47,7 +50,7 @@ unopened_of s old =
     record { setting = s; opened = false; history = []; between = opening old; begun = None; last = λ cloud. no_commands (old cloud) }
 
 pub replayed_unopened : Laws → (status : ℕ) (start : Start) (s : Setting) (new : ℕ → Cloud) → (status ≡ 0 → ⊥) → ((cloud : ℕ) → s.told cloud ≡ (start.old cloud).told)
-    → PreparesAll s.shape start.old new → Replayed status start.old new (unopened_of s start.old)
+    → PreparesAll (header_in s) s.shape start.old new → Replayed status start.old new (unopened_of s start.old)
 replayed_unopened laws status start s new some told prepares = record {
   told_so = told;
   carried = run;
@@ -59,8 +62,8 @@ replayed_unopened laws status start s new some told prepares = record {
   disks = λ empty cloud lt t.
       let since = (prepares.each cloud lt).images (sym (told cloud) ∙ t) (λ image area is. empty cloud image area (sym (told cloud) ∙ t) is) in
       record {
-        now = λ image is. let x = at_end (start.old cloud) (new cloud) (StandsForSome (header_of s.shape cloud) (λ list. list ≡ [])) since image is in (x.0, inl x.1, x.2);
-        each = λ image is. let x = each_since (start.old cloud) (new cloud) (StandsForSome (header_of s.shape cloud) (λ list. list ≡ [])) since image is in (x.0, inl (inl x.1), x.2);
+        now = λ image is. let x = at_end (start.old cloud) (new cloud) (StandsForSome (header_in s cloud) (λ list. list ≡ [])) since image is in (x.0, inl x.1, x.2);
+        each = λ image is. let x = each_since (start.old cloud) (new cloud) (StandsForSome (header_in s cloud) (λ list. list ≡ [])) since image is in (x.0, inl (inl x.1), x.2);
       };
   reads_so = λ e. absurd (some e);
   private = laws.private start.old (unopened_of s start.old) run;
@@ -72,7 +75,7 @@ replayed_unopened laws status start s new some told prepares = record {
 
 -- the promise of such an end, which isn't Done
 unopened_so : (end : ReplayEnd) → Laws → (start : Start) (s : Setting) (left : Option (List ℕ)) (source sink total : ℕ) (new : ℕ → Cloud) (now : Option (List ℕ))
-    → (status_of end ≡ 0 → ⊥) → ((cloud : ℕ) → s.told cloud ≡ (start.old cloud).told) → PreparesAll s.shape start.old new
+    → (status_of end ≡ 0 → ⊥) → ((cloud : ℕ) → s.told cloud ≡ (start.old cloud).told) → PreparesAll (header_in s) s.shape start.old new
     → HasHeader (call_of start left source sink total new) (unopened_of s start.old)
     → IsDue (call_of start left source sink total new) (unopened_of s start.old) (ending_of end)
     → CausedBy (call_of start left source sink total new) (unopened_of s start.old) end
@@ -92,16 +95,16 @@ three = record { n = 3; k = 2; several = omega arith; spare = omega arith; few =
 
 abbrev pub by_header : Result (Shape × Rooms) Fault → Shape × Rooms
 by_header (Ok header) = header
-by_header (Err fault) = (three, greatest_rooms)
+by_header (Err fault) = (three, usual_rooms)
 
 abbrev pub by_first : Result (Option (List ℕ)) Fault → Shape × Rooms
 by_first (Ok (Some line)) = by_header (header_at line)
-by_first (Ok None) = (three, greatest_rooms)
-by_first (Err fault) = (three, greatest_rooms)
+by_first (Ok None) = (three, usual_rooms)
+by_first (Err fault) = (three, usual_rooms)
 
 -- what the first line says, where there is one
 abbrev pub by_script : Option (List ℕ) → Shape × Rooms
-by_script None = (three, greatest_rooms)
+by_script None = (three, usual_rooms)
 by_script (Some script) = by_first (next_line 0 script)
 
 abbrev pub setting_of : Start → Setting
@@ -119,31 +122,31 @@ wrong_first : (script : Option (List ℕ)) (P : List ℕ → Type 0) (fault : Fa
 wrong_first None P fault x = tt
 wrong_first (Some bytes) P fault x = inl (refl, x)
 
-pub ends_first : (end : ReplayEnd) → Laws → (start : Start) (left : Option (List ℕ)) (source sink total : ℕ) (new : ℕ → Cloud) (now : Option (List ℕ))
+pub ends_first : EmptyStands → (end : ReplayEnd) → Laws → (start : Start) (left : Option (List ℕ)) (source sink total : ℕ) (new : ℕ → Cloud) (now : Option (List ℕ))
     → ((cloud : ℕ) → new cloud ≡ start.old cloud) → now ≡ start.written → sink ≡ start.sink → EndsFirst start.script start.source source end
     → Replays end (call_of start left source sink total new) start.written now
-ends_first (ends.Script line at found) laws start left source sink total new now same still sank x =
+ends_first law (ends.Script line at found) laws start left source sink total new now same still sank x =
     unopened_so (ends.Script line at found) laws start (setting_of start) left source sink total new now (λ e. apart 2 0 refl e) (λ cloud. refl)
-    (all_same (setting_of start).shape start.old new same) (says_header start.script)
+    (all_same law (header_in (setting_of start)) (setting_of start).shape start.old new same) (says_header start.script)
     (refl, x.0, wrong_first start.script _ (record { at = at; found = found }) x.1) sank (appends_none start.written now still)
-ends_first ends.SourceFault laws start left source sink total new now same still sank x =
+ends_first law ends.SourceFault laws start left source sink total new now same still sank x =
     unopened_so ends.SourceFault laws start (setting_of start) left source sink total new now (λ e. apart 3 0 refl e) (λ cloud. refl)
-    (all_same (setting_of start).shape start.old new same) (says_header start.script) tt (refl, x, sank) (appends_none start.written now still)
-ends_first ends.NoMemory laws start left source sink total new now same still sank x =
+    (all_same law (header_in (setting_of start)) (setting_of start).shape start.old new same) (says_header start.script) tt (refl, x, sank) (appends_none start.written now still)
+ends_first law ends.NoMemory laws start left source sink total new now same still sank x =
     unopened_so ends.NoMemory laws start (setting_of start) left source sink total new now (λ e. apart 6 0 refl e) (λ cloud. refl)
-    (all_same (setting_of start).shape start.old new same) (says_header start.script) tt tt
+    (all_same law (header_in (setting_of start)) (setting_of start).shape start.old new same) (says_header start.script) tt tt
     (cut_none (call_of start left source sink total new) (unopened_of (setting_of start) start.old) start.written now (appends_none start.written now still))
-ends_first (ends.Done events) laws start left source sink total new now same still sank x = absurd x
-ends_first ends.SinkFault laws start left source sink total new now same still sank x = absurd x
-ends_first (ends.ShelfFault cloud) laws start left source sink total new now same still sank x = absurd x
-ends_first (ends.NotEmpty cloud area len) laws start left source sink total new now same still sank x = absurd x
-ends_first (ends.Damaged cloud at byte) laws start left source sink total new now same still sank x = absurd x
+ends_first law (ends.Done events) laws start left source sink total new now same still sank x = absurd x
+ends_first law ends.SinkFault laws start left source sink total new now same still sank x = absurd x
+ends_first law (ends.ShelfFault cloud) laws start left source sink total new now same still sank x = absurd x
+ends_first law (ends.NotEmpty cloud area len) laws start left source sink total new now same still sank x = absurd x
+ends_first law (ends.Damaged cloud at byte) laws start left source sink total new now same still sank x = absurd x
 
 -- ---- behind the first line
 
 module _ (laws : Laws) (start : Start) (s : Setting) (reader : Lines) (left : Option (List ℕ)) (source sink total : ℕ) (new : ℕ → Cloud) (now : Option (List ℕ))
     (told : (cloud : ℕ) → s.told cloud ≡ (start.old cloud).told) (head : IsHead start.script s.shape s.rooms reader left)
-    (prepares : PreparesAll s.shape start.old new) (still : now ≡ start.written) (sank : sink ≡ start.sink) where
+    (prepares : PreparesAll (header_in s) s.shape start.old new) (still : now ≡ start.written) (sank : sink ≡ start.sink) where
   reached : IfSome start.script (λ script. (place : Place) × Reaches script s.shape s.rooms [] place)
   reached = map_told start.script (λ (script : List ℕ). (place : Place) × Begins script s.shape s.rooms place × IsThere reader left 0 place)
       (λ (script : List ℕ). (place : Place) × Reaches script s.shape s.rooms [] place) (λ script x. (x.0, (x.0, x.1, refl))) head
@@ -187,8 +190,7 @@ ready_by {V} clouds start s link servers shelf reader left source written sink t
   rooms = λ cloud lt.
       let here = some_server servers cloud (subst (λ (sh : Shape). cloud < sh.n) (sym shape) lt) in
       let rooms = (closed cloud here.0 here.1).rooms_are in
-      let by_rooms : full_by (Some here.0) ≡ full_for s.rooms = λ i list command. full_for (rooms i) list command in
-      ap (λ (sv : Servers). full_by (server_at sv cloud)) of ∙ ap full_by here.1 ∙ by_rooms;
+      ap (λ (sv : Servers). rooms_of (server_at sv cloud)) of ∙ ap rooms_of here.1 ∙ rooms;
   fate = fate;
   same = λ cloud. ap (λ (sh : V). clouds sh cloud) shelf_is ∙ same cloud;
   read = head;
@@ -202,30 +204,43 @@ module _ {V : Type 0} (clouds : V → ℕ → Cloud) (laws : Laws) (start : Star
   pub same_all : clouds old.shelf.now ≡ start.old
   same_all = λ i cloud. ready.same cloud i
 
-  pub ends_ready : (end : ReplayEnd) (new : LocalLink V) (total : ℕ) → PreparesAll old.servers.shape (clouds old.shelf.now) (clouds new.shelf.now)
+  pub header_ready : (cloud : ℕ) → cloud < s.shape.n → tells.header_at old.servers cloud ≡ header_in s cloud
+  header_ready cloud lt = header_is old.servers s cloud ready.shape (ready.rooms cloud lt)
+
+  pub below : (cloud : ℕ) → cloud < s.shape.n → cloud < old.servers.shape.n
+  below cloud lt = subst (λ (sh : Shape). cloud < sh.n) (sym ready.shape) lt
+
+  past : (cloud : ℕ) → s.shape.n ≤ cloud → old.servers.shape.n ≤ cloud
+  past cloud le = subst (λ (sh : Shape). sh.n ≤ cloud) (sym ready.shape) le
+
+  prepares_ready : (new : ℕ → Cloud) (cloud : ℕ) → cloud < s.shape.n → Prepares (tells.header_at old.servers cloud) (clouds old.shelf.now cloud) (new cloud)
+      → Prepares (header_in s cloud) (start.old cloud) (new cloud)
+  prepares_ready new cloud lt is =
+      subst (λ (c : Cloud). Prepares (header_in s cloud) c (new cloud)) (ready.same cloud)
+      (subst (λ (h : Header). Prepares h (clouds old.shelf.now cloud) (new cloud)) (header_ready cloud lt) is)
+
+  pub all_ready : (new : ℕ → Cloud) → PreparesAll (tells.header_at old.servers) old.servers.shape (clouds old.shelf.now) new → PreparesAll (header_in s) s.shape start.old new
+  all_ready new prepares = record {
+    each = λ cloud lt. prepares_ready new cloud lt (prepares.each cloud (below cloud lt));
+    others = λ cloud le. prepares.others cloud (past cloud le) ∙ ready.same cloud;
+  }
+
+  pub ends_ready : (end : ReplayEnd) (new : LocalLink V) (total : ℕ) → PreparesAll (tells.header_at old.servers) old.servers.shape (clouds old.shelf.now) (clouds new.shelf.now)
       → EndsUnopened old.servers.shape (clouds old.shelf.now) (clouds new.shelf.now) end
       → Replays end (call_of start left source sink total (clouds new.shelf.now)) start.written written
   ends_ready end new total prepares x =
       ends_closed laws start s reader left source sink total (clouds new.shelf.now) written ready.told ready.read
-      (subst (λ (sh : Shape). PreparesAll sh start.old (clouds new.shelf.now)) ready.shape (subst (λ (f : ℕ → Cloud). PreparesAll old.servers.shape f (clouds new.shelf.now)) same_all prepares))
+      (all_ready (clouds new.shelf.now) prepares)
       ready.written_is ready.sink_is end
       (subst (λ (sh : Shape). EndsUnopened sh start.old (clouds new.shelf.now) end) ready.shape (subst (λ (f : ℕ → Cloud). EndsUnopened old.servers.shape f (clouds new.shelf.now) end) same_all x))
 
-  pub ends_unready : (total : ℕ) → Replays ends.NoMemory (call_of start left source sink total (clouds old.shelf.now)) start.written written
-  ends_unready total =
-      ends_unmade laws start s reader left source sink total (clouds old.shelf.now) written ready.told ready.read (all_same s.shape start.old (clouds old.shelf.now) ready.same) ready.written_is ready.sink_is
+  pub ends_unready : EmptyStands → (total : ℕ) → Replays ends.NoMemory (call_of start left source sink total (clouds old.shelf.now)) start.written written
+  ends_unready law total =
+      ends_unmade laws start s reader left source sink total (clouds old.shelf.now) written ready.told ready.read (all_same law (header_in s) s.shape start.old (clouds old.shelf.now) ready.same) ready.written_is ready.sink_is
 
   module _ (new : LocalLink V) (to : OpensTo clouds old new old.servers.shape.n) where
-    pub below : (cloud : ℕ) → cloud < s.shape.n → cloud < old.servers.shape.n
-    below cloud lt = subst (λ (sh : Shape). cloud < sh.n) (sym ready.shape) lt
-
-    pub past : (cloud : ℕ) → s.shape.n ≤ cloud → old.servers.shape.n ≤ cloud
-    past cloud le = subst (λ (sh : Shape). sh.n ≤ cloud) (sym ready.shape) le
-
-    pub prepares_at : (cloud : ℕ) → cloud < s.shape.n → Prepares (header_of s.shape cloud) (start.old cloud) (clouds new.shelf.now cloud)
-    prepares_at cloud lt =
-        subst (λ (c : Cloud). Prepares (header_of s.shape cloud) c (clouds new.shelf.now cloud)) (ready.same cloud)
-        (subst (λ (sh : Shape). Prepares (header_of sh cloud) (clouds old.shelf.now cloud) (clouds new.shelf.now cloud)) ready.shape (to.prepares cloud (below cloud lt)))
+    pub prepares_at : (cloud : ℕ) → cloud < s.shape.n → Prepares (header_in s cloud) (start.old cloud) (clouds new.shelf.now cloud)
+    prepares_at cloud lt = prepares_ready (clouds new.shelf.now) cloud lt (to.prepares cloud (below cloud lt))
 
     pub waits_at : (cloud : ℕ) → s.shape.n ≤ cloud → clouds new.shelf.now cloud ≡ start.old cloud
     waits_at cloud le = to.clouds_wait cloud (past cloud le) ∙ ready.same cloud
@@ -246,7 +261,7 @@ module _ {V : Type 0} (clouds : V → ℕ → Cloud) (laws : Laws) (start : Star
         link_at = record {
           shape = to.shape ∙ ready.shape;
           told = λ cloud. told_at cloud (cases_lt cloud s.shape.n) ∙ sym (ready.told cloud);
-          rooms = λ cloud lt. to.full cloud ∙ ready.rooms cloud lt;
+          rooms = λ cloud lt. to.rooms cloud ∙ ready.rooms cloud lt;
           fate = to.fate ∙ ready.fate;
           stands = λ cloud lt. subst (λ (c : Cloud). StandsAt clouds new cloud (no_commands c)) (ready.same cloud) (to.stands cloud (below cloud lt));
         };
@@ -256,8 +271,8 @@ module _ {V : Type 0} (clouds : V → ℕ → Cloud) (laws : Laws) (start : Star
       are_lines = tt;
       uploads = refl;
       images = λ empty cloud lt told.
-          weaker (start.old cloud) (clouds new.shelf.now cloud) (StandsForSome (header_of s.shape cloud) (λ list. list ≡ []))
-          (StandsForSome (header_of s.shape cloud) (IsListIn s cloud [] (opening start.old).peers))
+          weaker (start.old cloud) (clouds new.shelf.now cloud) (StandsForSome (header_in s cloud) (λ list. list ≡ []))
+          (StandsForSome (header_in s cloud) (IsListIn s cloud [] (opening start.old).peers))
           ((prepares_at cloud lt).images (sym (ready.told cloud) ∙ told) (λ image area is. empty cloud image area (sym (ready.told cloud) ∙ told) is))
           (λ image x. (x.0, inl (inl x.1), x.2));
       others = waits_at;

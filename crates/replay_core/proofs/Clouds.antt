@@ -5,26 +5,35 @@ use Rattle.std.proofs.lemmas.Bool.{cases_eq}
 use Rattle.cd_base.specs.declared.ids.CloudNo.{CloudNo}
 use Rattle.cd_base.specs.declared.shape.Shape.{Shape}
 use Rattle.cd_edges.specs.Causes.{Rose}
+use Rattle.cd_edges.specs.declared.area.Area.{Area}
 use Rattle.cd_edges.specs.Disk.{Cloud, Image, IsImage}
 use Rattle.cd_edges.specs.Shelf.{IsCall, Stays, HasFailed, KeepsCounts}
 use Rattle.cd_edges.proofs.Moments.{stayed, left_alone}
-use Rattle.commit_journal.specs.declared.errors.OpenErr.{OpenErr}
-use Rattle.commit_journal.specs.declared.errors.OpenErr.TheVariants as errors
-use Rattle.commit_journal.specs.declared.header.Header.{Header}
-use Rattle.commit_journal.specs.Openings.{OnFault}
-use Rattle.cloud_opening.specs.Replied.{IsOkOrFault}
-use Rattle.cloud_store.specs.Standing.{StandsForSome}
-use Rattle.share_server.proofs.NoCommands.{empty_stands}
-use Rattle.local_link.specs.Calls.{header_of}
-use Rattle.share_server.specs.Damage.{IsDamage}
+use Rattle.half_journal.specs.declared.errors.OpenErr.{OpenErr}
+use Rattle.half_journal.specs.declared.errors.OpenErr.TheVariants as errors
+use Rattle.journal_start.specs.declared.start.Header.{Header}
+use Rattle.half_journal.specs.Openings.{OnFault}
+use Rattle.store_opening.specs.Spared.{IsOkOrFault}
+use Rattle.cloud_areas.specs.Peers.{StandsForSome}
+use Rattle.cloud_areas.specs.Standing.{StandsFor}
+use Rattle.cloud_server.specs.Names.{HasNoJournal}
+use Rattle.cloud_server.specs.Refusals.{IsDamage}
 use Rattle.replay_core.specs.declared.end.ReplayEnd.{ReplayEnd}
 use Rattle.replay_core.specs.declared.end.ReplayEnd.TheVariants as ends
 use Rattle.replay_core.specs.Endings.{IsFirstFilled}
 use Rattle.replay_core.specs.Opening.{IsBlank, Prepares, PreparesAll, AreSame, IsEmpty, EndsEmpty, EndsOpening, EndsUnopened, IsEndOf}
 
-pub blank_stands : (header : Header) (cloud : Cloud) → IsBlank cloud → (image : Image) → IsImage cloud.now image
+-- areas that are all empty stand for no commands
+abbrev pub EmptyStands : Type 0
+EmptyStands = (image : Image) (header : Header) → ((area : Area) → image area ≡ []) → StandsFor image header []
+
+pub empty_stands : ((image : Image) → ((area : Area) → image area ≡ []) → HasNoJournal image)
+    → ((image : Image) (header : Header) → HasNoJournal image → StandsFor image header []) → EmptyStands
+empty_stands unbegun stands image header empty = stands image header (unbegun image empty)
+
+pub blank_stands : EmptyStands → (header : Header) (cloud : Cloud) → IsBlank cloud → (image : Image) → IsImage cloud.now image
     → StandsForSome header (λ list. list ≡ []) image
-blank_stands header cloud blank image is = ([], refl, empty_stands image header (λ area. blank image area is))
+blank_stands law header cloud blank image is = ([], refl, law image header (λ area. blank image area is))
 
 -- ---- an answer of Err
 
@@ -37,21 +46,21 @@ if_err result end P same p = subst (λ (r : Result (Unit {0}) ReplayEnd). IfErr 
 -- ---- one cloud
 
 -- of a call that leaves all but the counts
-pub prepares_still : (header : Header) (old new : ℕ → Cloud) (number before now : ℕ) → IsCall old new number before now
+pub prepares_still : EmptyStands → (header : Header) (old new : ℕ → Cloud) (number before now : ℕ) → IsCall old new number before now
     → Stays (old number) (new number) → Prepares header (old number) (new number)
-prepares_still header old new number before now call stays = record {
+prepares_still law header old new number before now call stays = record {
   told = call.told;
   later = call.later;
   armings = call.armings;
-  images = λ told blank. stayed (old number) (new number) (StandsForSome header (λ list. list ≡ [])) stays (blank_stands header (old number) blank);
+  images = λ told blank. stayed (old number) (new number) (StandsForSome header (λ list. list ≡ [])) stays (blank_stands law header (old number) blank);
 }
 
-pub prepares_same : (header : Header) (old new : Cloud) → new ≡ old → Prepares header old new
-prepares_same header old new same = record {
+pub prepares_same : EmptyStands → (header : Header) (old new : Cloud) → new ≡ old → Prepares header old new
+prepares_same law header old new same = record {
   told = ap (λ (c : Cloud). c.told) same;
   later = (let e : new.faults ≡ old.faults = ap (λ (c : Cloud). c.faults) same in omega arith);
   armings = ap (λ (c : Cloud). c.armings) same;
-  images = λ told blank. left_alone old new (StandsForSome header (λ list. list ≡ [])) same (blank_stands header old blank);
+  images = λ told blank. left_alone old new (StandsForSome header (λ list. list ≡ [])) same (blank_stands law header old blank);
 }
 
 pub prepares_from : (header : Header) (old mid new : Cloud) → mid ≡ old → Prepares header mid new → Prepares header old new
@@ -60,14 +69,14 @@ prepares_from header old mid new same is = subst (λ (c : Cloud). Prepares heade
 -- ---- clouds that are to be empty
 
 -- a call on one cloud behind calls that changed nothing
-pub prepares_one : (shape : Shape) (old mid new : ℕ → Cloud) (number : ℕ) → AreSame old mid
+pub prepares_one : EmptyStands → (headers : ℕ → Header) (shape : Shape) (old mid new : ℕ → Cloud) (number : ℕ) → AreSame old mid
     → ((header : Header) → Prepares header (mid number) (new number)) → number < shape.n
-    → ((other : ℕ) → other ≢ number → new other ≡ mid other) → PreparesAll shape old new
-prepares_one shape old mid new number same here below others = record {
+    → ((other : ℕ) → other ≢ number → new other ≡ mid other) → PreparesAll headers shape old new
+prepares_one law headers shape old mid new number same here below others = record {
   each = λ cloud lt. elim (cases_eq cloud number) [
-    | inl e ↦ subst (λ (n : ℕ). Prepares (header_of shape n) (old n) (new n)) (sym e)
-        (prepares_from (header_of shape number) (old number) (mid number) (new number) (same number) (here (header_of shape number)))
-    | inr ne ↦ prepares_same (header_of shape cloud) (old cloud) (new cloud) (others cloud ne ∙ same cloud)
+    | inl e ↦ subst (λ (n : ℕ). Prepares (headers n) (old n) (new n)) (sym e)
+        (prepares_from (headers number) (old number) (mid number) (new number) (same number) (here (headers number)))
+    | inr ne ↦ prepares_same law (headers cloud) (old cloud) (new cloud) (others cloud ne ∙ same cloud)
   ];
   others = λ cloud le. others cloud (λ e. absurd (past cloud e le)) ∙ same cloud;
 }
@@ -75,9 +84,9 @@ prepares_one shape old mid new number same here below others = record {
     past : (cloud : ℕ) → cloud ≡ number → shape.n ≤ cloud → ⊥
     past cloud e le = omega arith
 
-pub all_same : (shape : Shape) (old new : ℕ → Cloud) → AreSame old new → PreparesAll shape old new
-all_same shape old new same = record {
-  each = λ cloud lt. prepares_same (header_of shape cloud) (old cloud) (new cloud) (same cloud);
+pub all_same : EmptyStands → (headers : ℕ → Header) (shape : Shape) (old new : ℕ → Cloud) → AreSame old new → PreparesAll headers shape old new
+all_same law headers shape old new same = record {
+  each = λ cloud lt. prepares_same law (headers cloud) (old cloud) (new cloud) (same cloud);
   others = λ cloud le. same cloud;
 }
 
@@ -123,9 +132,7 @@ pub damaged_end : (cloud : CloudNo) (error : OpenErr) (at byte : ℕ) → error 
 damaged_end cloud errors.Fault at byte ne is = absurd (ne refl)
 damaged_end cloud (errors.NotBegun len) at byte ne is = (at, byte, is, refl)
 damaged_end cloud (errors.Damaged place found) at byte ne is = (at, byte, is, refl)
-damaged_end cloud (errors.OtherStore found asked) at byte ne is = (at, byte, is, refl)
-damaged_end cloud (errors.RoomsTooSmall room limit gate) at byte ne is = (at, byte, is, refl)
-damaged_end cloud errors.NoMemory at byte ne is = (at, byte, is, refl)
+damaged_end cloud (errors.OtherStore found asked start) at byte ne is = (at, byte, is, refl)
 
 -- an opening that ended with this error
 abbrev pub failed_by : OpenErr → Result ℕ OpenErr
@@ -137,9 +144,7 @@ pub ends_opening : (cloud : CloudNo) (old new : Cloud) (before now : ℕ) (error
 ends_opening cloud old new before now errors.Fault end e counts may = subst (EndsOpening cloud.0 old new) (sym e) (refl, counts.cloud)
 ends_opening cloud old new before now (errors.NotBegun len) end e counts may = subst (EndsOpening cloud.0 old new) (sym e.3) (refl, not_told old.told may)
 ends_opening cloud old new before now (errors.Damaged place found) end e counts may = subst (EndsOpening cloud.0 old new) (sym e.3) (refl, not_told old.told may)
-ends_opening cloud old new before now (errors.OtherStore found asked) end e counts may = subst (EndsOpening cloud.0 old new) (sym e.3) (refl, not_told old.told may)
-ends_opening cloud old new before now (errors.RoomsTooSmall room limit gate) end e counts may = subst (EndsOpening cloud.0 old new) (sym e.3) (refl, not_told old.told may)
-ends_opening cloud old new before now errors.NoMemory end e counts may = subst (EndsOpening cloud.0 old new) (sym e.3) (refl, not_told old.told may)
+ends_opening cloud old new before now (errors.OtherStore found asked start) end e counts may = subst (EndsOpening cloud.0 old new) (sym e.3) (refl, not_told old.told may)
 
 -- at one of the clouds
 pub ends_unopened : (shape : Shape) (old mid new : ℕ → Cloud) (number : ℕ) → number < shape.n → mid number ≡ old number

@@ -1,17 +1,12 @@
 -- The first line.
 use Rattle.std.proofs.Common.{◌≡◌, ℕ, ◌+◌, ◌≤◌, Bool, true, false, List, [], length, refl, sym, ap, ◌∙◌, subst, inl, inr, arith}
 use Rattle.std.specs.Prelude.{Option, Some, None, Result, Ok, Err, IfSome, IfOk, IfErr, nat_lt, ◌==◌, if◌then◌else◌, take}
-use Rattle.cd_base.specs.declared.rooms.Rooms.{Rooms}
+use Rattle.journal_start.specs.declared.rooms.Rooms.{Rooms}
 use Rattle.cd_base.specs.declared.shape.Shape.{Shape}
-use Rattle.cd_base.specs.Limits.{greatest_rooms}
 use Rattle.cd_edges.specs.Causes.{Rose}
-use Rattle.cloud_state.specs.State.{AreRooms}
-use Rattle.cloud_store.specs.Space.{IsWithin}
-use Rattle.share_server.proofs.NoCommands.{none_within}
 use Rattle.session.specs.Fault.{Fault}
 use Rattle.session.specs.Lines.{Lines, NextLine, TakesLine, next_line, after_line, line_length, room_after, script_limit, fault_at}
 use Rattle.session.specs.Reading.{header_at}
-use Rattle.session.specs.Spelling.{IsHeader}
 use Rattle.session.specs.declared.lines.LineErr.{LineErr}
 use Rattle.session.specs.declared.lines.LineErr.TheVariants as line_errors
 use Rattle.session.specs.Scripts.{Place, Begins, FailsFirst, IsWrongFirst}
@@ -26,17 +21,6 @@ if_told (Some bytes) P f = f bytes refl
 pub map_told : (o : Option (List ℕ)) (P Q : List ℕ → Type 0) → ((bytes : List ℕ) → P bytes → Q bytes) → IfSome o P → IfSome o Q
 map_told None P Q f p = tt
 map_told (Some bytes) P Q f p = f bytes p
-
--- the rooms of a first line hold a store's header
-pub header_rooms : (line : List ℕ) (shape : Shape) (rooms : Rooms) → IsHeader line (shape, rooms) → AreRooms rooms × IsWithin rooms []
-header_rooms line shape rooms (inl x) =
-    subst (λ (r : Rooms). AreRooms r × IsWithin r []) (sym x.1)
-    (record { shares = same_le greatest_rooms.shares; recipes = same_le greatest_rooms.recipes; journal = same_le greatest_rooms.journal }, none_within greatest_rooms (omega arith))
-  where
-    same_le : (n : ℕ) → n ≤ n
-    same_le n = omega arith
-header_rooms line shape rooms (inr x) =
-    (record { shares = x.1.shares; recipes = x.1.recipes; journal = x.1.journal }, none_within rooms x.1.least)
 
 -- what was read of the first line
 pub head_here : (script : Option (List ℕ)) (old new : Lines) (left : Option (List ℕ)) (more : Bool) (line : List ℕ) (result : Result (Shape × Rooms) ReplayEnd)

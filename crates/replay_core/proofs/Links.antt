@@ -1,6 +1,6 @@
 -- The link at the first openings.
 use Rattle.std.proofs.Common.{◌≡◌, ℕ, ◌+◌, ◌<◌, ◌≤◌, true, List, [], ◌∷◌, refl, sym, ◌∙◌, subst, inl, inr, ◌⊎◌, arith}
-use Rattle.std.specs.Prelude.{◌≢◌, IsTrue, Option, Some, None, Result, IsSomeAnd}
+use Rattle.std.specs.Prelude.{◌≢◌, IsTrue, Option, None, Result}
 use Rattle.std.specs.List.{Contains}
 use Rattle.std.proofs.lemmas.Bool.{cases_eq, cases_lt}
 use Rattle.cd_base.specs.declared.shape.Shape.{Shape}
@@ -8,46 +8,41 @@ use Rattle.cd_edges.specs.declared.area.Area.TheVariants.{Journal}
 use Rattle.cd_edges.specs.Disk.{Cloud, reads}
 use Rattle.cd_edges.specs.Shelf.{IsCall}
 use Rattle.cd_edges.proofs.Moments.{weaker}
-use Rattle.commit_journal.specs.declared.errors.OpenErr.{OpenErr}
-use Rattle.commit_journal.specs.declared.header.Header.{Header}
-use Rattle.cloud_opening.specs.Replied.{IsOkOrFault, MayBegin}
-use Rattle.cloud_store.specs.Space.{IsWithin}
-use Rattle.cloud_store.specs.Standing.{StandsForSome, ImagesNow, ImagesSince}
-use Rattle.cloud_store.specs.Store.{StandsFor}
-use Rattle.share_server.specs.declared.server.Server.{Server}
-use Rattle.share_server.specs.Serving.{settled_with}
-use Rattle.share_server.proofs.NoCommands.{empty_stands}
+use Rattle.half_journal.specs.declared.errors.OpenErr.{OpenErr}
+use Rattle.journal_start.specs.declared.start.Header.{Header}
+use Rattle.store_opening.specs.Spared.{IsOkOrFault, MayBegin}
+use Rattle.journal_start.specs.declared.rooms.Rooms.{Rooms}
+use Rattle.user_dedup.specs.Spending.{IsWithin}
+use Rattle.cloud_areas.specs.Peers.{StandsForSome, ImagesNow, ImagesSince}
+use Rattle.cloud_areas.specs.Standing.{StandsFor}
+use Rattle.cloud_server.specs.declared.server.Server.{Server}
+use Rattle.cloud_server.specs.Names.{header_of}
+use Rattle.cloud_server.specs.Serving.{settled_with}
 use Rattle.user_dedup.specs.declared.command.Command.{Command}
 use Rattle.user_dedup.proofs.Owned.{contains_here, contains_cases, contains_nothing}
-use Rattle.local_link.specs.declared.servers.Servers.{Servers}
 use Rattle.local_link.specs.declared.link.LocalLink.{LocalLink}
-use Rattle.local_link.specs.Calls.{header_of, no_commands}
-use Rattle.local_link.specs.Tells.{server_at, full_by, IsPeer, StandsAt, LeavesRest}
-use Rattle.local_link.proofs.Standing.{some_server, known_of, header_same, peer_moves}
+use Rattle.local_link.specs.Calls.{no_commands}
+use Rattle.local_link.specs.Tells.{server_at, rooms_at, header_at, IsPeer, StandsAt, LeavesRest}
+use Rattle.local_link.proofs.Standing.{peer_moves}
+use Rattle.script_lines.proofs.Going.{rooms_kept}
 use Rattle.replay_core.specs.Opening.{Prepares, PreparesAll, IsEmpty, OpensTo}
-use Rattle.replay_core.proofs.Clouds.{prepares_same, prepares_from}
+use Rattle.replay_core.proofs.Clouds.{EmptyStands, prepares_same, prepares_from}
 
 -- the one list of none
 only_none : (list : List Command) → Contains ([] ∷ []) list → list ≡ []
 only_none list has = elim (contains_cases [] [] list has) [ inl e ↦ sym e | inr none ↦ absurd (contains_nothing list none) ]
 
-pub prepares_opened : (servers : Servers) (old new : ℕ → Cloud) (cloud before now : ℕ) → cloud < servers.shape.n → IsCall old new cloud before now
-    → (IsTrue (old cloud).told → (lists : List (List Command)) → IsSomeAnd (server_at servers cloud) (λ (server : Server).
-    ImagesNow (old cloud) server.state.header (Contains lists) → ImagesSince (old cloud) (new cloud) server.state.header (Contains lists)))
-    → Prepares (header_of servers.shape cloud) (old cloud) (new cloud)
-prepares_opened servers old new cloud before now lt call images = record {
+pub prepares_opened : EmptyStands → (header : Header) (old new : ℕ → Cloud) (cloud before now : ℕ) → IsCall old new cloud before now
+    → (IsTrue (old cloud).told → (lists : List (List Command)) → ImagesNow (old cloud) header (Contains lists) → ImagesSince (old cloud) (new cloud) header (Contains lists))
+    → Prepares header (old cloud) (new cloud)
+prepares_opened law header old new cloud before now call images = record {
   told = call.told;
   later = call.later;
   armings = call.armings;
   images = λ told blank.
-      let here = some_server servers cloud lt in
-      let go = known_of (server_at servers cloud) here.0 (λ (server : Server). ImagesNow (old cloud) server.state.header (Contains ([] ∷ []))
-      → ImagesSince (old cloud) (new cloud) server.state.header (Contains ([] ∷ []))) here.1 (images told ([] ∷ [])) in
-      let header = header_same servers.shape cloud here.0 (servers.are_servers.each cloud here.0 here.1) in
-      subst (λ (h : Header). ImagesSince (old cloud) (new cloud) h (λ list. list ≡ [])) header
-      (weaker (old cloud) (new cloud) (StandsForSome here.0.state.header (Contains ([] ∷ []))) (StandsForSome here.0.state.header (λ list. list ≡ []))
-      (go (λ image is. ([], contains_here [] [], empty_stands image here.0.state.header (λ area. blank image area is))))
-      (λ image x. (x.0, only_none x.0 x.1, x.2)));
+      weaker (old cloud) (new cloud) (StandsForSome header (Contains ([] ∷ []))) (StandsForSome header (λ list. list ≡ []))
+      (images told ([] ∷ []) (λ image is. ([], contains_here [] [], law image header (λ area. blank image area is))))
+      (λ image x. (x.0, only_none x.0 x.1, x.2));
 }
 
 pub opened_peer : (shape : Shape) (number : ℕ) (old new : Cloud) (server : Option Server) → new.told ≡ old.told → new.faults ≡ old.faults
@@ -65,35 +60,22 @@ opened_peer shape number old new server told faults armings loaded = record {
     at_old : IsTrue new.told → IsPeer shape number new server (no_commands old)
     at_old t = subst (IsPeer shape number new server) same_peer (loaded (sym told ∙ t))
 
--- a server that holds the header
-pub has_room : (o : Option Server) (P : Server → Type 0) (Q : Server → Type 0) → IsSomeAnd o P → IsSomeAnd o (λ (s : Server). P s → Q s) → IsSomeAnd o Q
-has_room None P Q p f = p
-has_room (Some server) P Q p f = f p
-
-some_of_any : (o : Option Server) (A : Type 0) → IsSomeAnd o (λ (s : Server). A) → A
-some_of_any None A x = absurd x
-some_of_any (Some server) A x = x
-
 -- a told cloud that reads as nothing is opened, unless its device failed
-pub may_fail_only : (servers : Servers) (cloud : ℕ) (old : Cloud) (shape : Shape) (result : Result ℕ OpenErr) → IsEmpty old
-    → IsSomeAnd (server_at servers cloud) (λ (server : Server). IsWithin server.state.rooms [])
-    → (IsTrue old.told → (list : List Command) → StandsFor (reads old.now) (header_of shape cloud) list
-    → IsSomeAnd (server_at servers cloud) (λ (server : Server). IsWithin server.state.rooms list → MayBegin (old.now Journal).read true → IsOkOrFault result))
+pub may_fail_only : EmptyStands → ((shape : Shape) (rooms : Rooms) → IsWithin shape rooms []) → (header : Header) (shape : Shape) (rooms : Rooms) (old : Cloud) (result : Result ℕ OpenErr)
+    → IsEmpty old → (IsTrue old.told → (list : List Command) → StandsFor (reads old.now) header list → IsWithin shape rooms list
+    → MayBegin (old.now Journal).read true → IsOkOrFault result)
     → IsTrue old.told → IsOkOrFault result
-may_fail_only servers cloud old shape result empty room whole told =
-    some_of_any (server_at servers cloud) (MayBegin (old.now Journal).read true → IsOkOrFault result)
-    (has_room (server_at servers cloud) (λ (server : Server). IsWithin server.state.rooms [])
-    (λ (server : Server). MayBegin (old.now Journal).read true → IsOkOrFault result) room
-    (whole told [] (empty_stands (reads old.now) (header_of shape cloud) (empty told)))) (inr refl)
+may_fail_only law within header shape rooms old result empty whole told =
+    whole told [] (law (reads old.now) header (empty told)) (within shape rooms) (λ unbegun. refl)
 
 -- ---- one after another
 
-module _ {V : Type 0} (clouds : V → ℕ → Cloud) where
+module _ {V : Type 0} (clouds : V → ℕ → Cloud) (law : EmptyStands) where
   pub none_opened : (link : LocalLink V) → OpensTo clouds link link 0
   none_opened link = record {
     shape = refl;
     fate = refl;
-    full = λ cloud. refl;
+    rooms = λ cloud. refl;
     stands = λ cloud lt. absurd (let l : cloud < 0 = lt in omega arith);
     prepares = λ cloud lt. absurd (let l : cloud < 0 = lt in omega arith);
     clouds_wait = λ cloud le. refl;
@@ -101,28 +83,31 @@ module _ {V : Type 0} (clouds : V → ℕ → Cloud) where
   }
 
   module _ (old mid new : LocalLink V) (number : ℕ) (to : OpensTo clouds old mid number) (rest : LeavesRest clouds number mid new) where
-    prepares_here : Prepares (header_of mid.servers.shape number) (clouds mid.shelf.now number) (clouds new.shelf.now number)
-        → Prepares (header_of old.servers.shape number) (clouds old.shelf.now number) (clouds new.shelf.now number)
-    prepares_here is = subst (λ (s : Shape). Prepares (header_of s number) (clouds old.shelf.now number) (clouds new.shelf.now number)) to.shape
-        (prepares_from (header_of mid.servers.shape number) (clouds old.shelf.now number) (clouds mid.shelf.now number) (clouds new.shelf.now number) (to.clouds_wait number (same_le number)) is)
+    header_waits : (cloud : ℕ) → header_at mid.servers cloud ≡ header_at old.servers cloud
+    header_waits cloud = λ i. header_of (to.shape i) (to.rooms cloud i) cloud
+
+    prepares_here : Prepares (header_at mid.servers number) (clouds mid.shelf.now number) (clouds new.shelf.now number)
+        → Prepares (header_at old.servers number) (clouds old.shelf.now number) (clouds new.shelf.now number)
+    prepares_here is = subst (λ (h : Header). Prepares h (clouds old.shelf.now number) (clouds new.shelf.now number)) (header_waits number)
+        (prepares_from (header_at mid.servers number) (clouds old.shelf.now number) (clouds mid.shelf.now number) (clouds new.shelf.now number) (to.clouds_wait number (same_le number)) is)
       where
         same_le : (n : ℕ) → n ≤ n
         same_le n = omega arith
 
-    before_it : (cloud : ℕ) → cloud < number → Prepares (header_of old.servers.shape cloud) (clouds old.shelf.now cloud) (clouds new.shelf.now cloud)
-    before_it cloud lt = subst (λ (c : Cloud). Prepares (header_of old.servers.shape cloud) (clouds old.shelf.now cloud) c) (sym (rest.clouds_stay cloud (other cloud lt))) (to.prepares cloud lt)
+    before_it : (cloud : ℕ) → cloud < number → Prepares (header_at old.servers cloud) (clouds old.shelf.now cloud) (clouds new.shelf.now cloud)
+    before_it cloud lt = subst (λ (c : Cloud). Prepares (header_at old.servers cloud) (clouds old.shelf.now cloud) c) (sym (rest.clouds_stay cloud (other cloud lt))) (to.prepares cloud lt)
       where
         other : (cloud : ℕ) → cloud < number → cloud ≢ number
         other cloud lt e = omega arith
 
-    pub one_opened : Prepares (header_of mid.servers.shape number) (clouds mid.shelf.now number) (clouds new.shelf.now number)
+    pub one_opened : Prepares (header_at mid.servers number) (clouds mid.shelf.now number) (clouds new.shelf.now number)
         → StandsAt clouds new number (no_commands (clouds mid.shelf.now number))
-        → ((cloud : ℕ) → full_by (server_at new.servers cloud) ≡ full_by (server_at mid.servers cloud)) → new.fate ≡ mid.fate
+        → rooms_at new.servers number ≡ rooms_at mid.servers number → new.fate ≡ mid.fate
         → OpensTo clouds old new (number + 1)
-    one_opened is stands full fate = record {
+    one_opened is stands rooms fate = record {
       shape = rest.shape_stays ∙ to.shape;
       fate = fate ∙ to.fate;
-      full = λ cloud. full cloud ∙ to.full cloud;
+      rooms = λ cloud. rooms_kept clouds mid new number cloud rest rooms ∙ to.rooms cloud;
       stands = λ cloud lt. elim (cases_eq cloud number) [
         | inl e ↦ subst (λ (n : ℕ). StandsAt clouds new n (no_commands (clouds old.shelf.now n))) (sym e)
             (subst (λ (c : Cloud). StandsAt clouds new number (no_commands c)) (to.clouds_wait number (omega arith)) stands)
@@ -131,7 +116,7 @@ module _ {V : Type 0} (clouds : V → ℕ → Cloud) where
             (no_commands (clouds old.shelf.now cloud)) (rest.clouds_stay cloud ne) (rest.servers_stay cloud ne) (to.stands cloud (omega arith)))
       ];
       prepares = λ cloud lt. elim (cases_eq cloud number) [
-        | inl e ↦ subst (λ (n : ℕ). Prepares (header_of old.servers.shape n) (clouds old.shelf.now n) (clouds new.shelf.now n)) (sym e) (prepares_here is)
+        | inl e ↦ subst (λ (n : ℕ). Prepares (header_at old.servers n) (clouds old.shelf.now n) (clouds new.shelf.now n)) (sym e) (prepares_here is)
         | inr ne ↦ before_it cloud (omega arith)
       ];
       clouds_wait = λ cloud le. rest.clouds_stay cloud (past cloud le) ∙ to.clouds_wait cloud (omega arith);
@@ -141,11 +126,11 @@ module _ {V : Type 0} (clouds : V → ℕ → Cloud) where
         past : (cloud : ℕ) → number + 1 ≤ cloud → cloud ≢ number
         past cloud le e = omega arith
 
-    pub stops_opening : number < old.servers.shape.n → Prepares (header_of mid.servers.shape number) (clouds mid.shelf.now number) (clouds new.shelf.now number)
-        → PreparesAll old.servers.shape (clouds old.shelf.now) (clouds new.shelf.now)
+    pub stops_opening : number < old.servers.shape.n → Prepares (header_at mid.servers number) (clouds mid.shelf.now number) (clouds new.shelf.now number)
+        → PreparesAll (header_at old.servers) old.servers.shape (clouds old.shelf.now) (clouds new.shelf.now)
     stops_opening below is = record {
       each = λ cloud lt. elim (cases_eq cloud number) [
-        | inl e ↦ subst (λ (n : ℕ). Prepares (header_of old.servers.shape n) (clouds old.shelf.now n) (clouds new.shelf.now n)) (sym e) (prepares_here is)
+        | inl e ↦ subst (λ (n : ℕ). Prepares (header_at old.servers n) (clouds old.shelf.now n) (clouds new.shelf.now n)) (sym e) (prepares_here is)
         | inr ne ↦ by_place cloud ne (where_is cloud)
       ];
       others = λ cloud le. rest.clouds_stay cloud (past cloud le) ∙ to.clouds_wait cloud (later cloud le);
@@ -161,6 +146,6 @@ module _ {V : Type 0} (clouds : V → ℕ → Cloud) where
         where_is cloud = cases_lt cloud number
 
         by_place : (cloud : ℕ) → cloud ≢ number → (cloud < number) ⊎ (number ≤ cloud)
-            → Prepares (header_of old.servers.shape cloud) (clouds old.shelf.now cloud) (clouds new.shelf.now cloud)
+            → Prepares (header_at old.servers cloud) (clouds old.shelf.now cloud) (clouds new.shelf.now cloud)
         by_place cloud ne (inl lt) = before_it cloud lt
-        by_place cloud ne (inr le) = prepares_same (header_of old.servers.shape cloud) (clouds old.shelf.now cloud) (clouds new.shelf.now cloud) (rest.clouds_stay cloud ne ∙ to.clouds_wait cloud le)
+        by_place cloud ne (inr le) = prepares_same law (header_at old.servers cloud) (clouds old.shelf.now cloud) (clouds new.shelf.now cloud) (rest.clouds_stay cloud ne ∙ to.clouds_wait cloud le)

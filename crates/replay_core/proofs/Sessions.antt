@@ -6,17 +6,11 @@ use Rattle.std.proofs.lemmas.List.Concat.{flat_map-append}
 use Rattle.cd_base.specs.declared.shape.Shape.{Shape}
 use Rattle.cd_edges.specs.Disk.{Cloud}
 use Rattle.cd_edges.proofs.Moments.{joined, weaker}
-use Rattle.cloud_store.specs.Standing.{StandsForSome, ImagesNow, ImagesSince}
+use Rattle.cloud_areas.specs.Peers.{StandsForSome, ImagesNow, ImagesSince}
 use Rattle.user_dedup.specs.declared.command.Command.{Command}
 use Rattle.user_dedup.specs.Exec.{Peer, MaySettleAs}
 use Rattle.upload_job.specs.Lanes.{LaneView}
 use Rattle.local_link.specs.declared.link.LocalLink.{LocalLink}
-use Rattle.local_link.specs.Calls.{header_of}
-use Rattle.local_link.specs.Tells.{server_at}
-use Rattle.local_link.proofs.Standing.{some_server, known_of, header_same}
-use Rattle.commit_journal.specs.declared.header.Header.{Header}
-use Rattle.share_server.specs.declared.server.Server.{Server}
-use Rattle.share_server.specs.Serving.{IsServing}
 use Rattle.session.specs.Lines.{Lines}
 use Rattle.session.specs.Spelling.{Fits, IsTyped}
 use Rattle.session.specs.declared.event.Event.{Event}
@@ -29,8 +23,9 @@ use Rattle.session_model.specs.Vault.{Setting, Vault, opening}
 use Rattle.session_model.specs.Steps.{Moment, VStep}
 use Rattle.session_model.specs.Run.{Answered, Turns, script_of, moments_of, answers_of, IsListIn}
 use Rattle.session_model.specs.Headline.{Begun, IsPartOf, event_of, moments_begun}
-use Rattle.script_lines.specs.At.{LinkAt, Leaves}
-use Rattle.script_lines.specs.Does.{Goes, IsLeft, Cut}
+use Rattle.script_lines.specs.At.{header_in, Leaves}
+use Rattle.script_lines.specs.Does.{Goes, Cut}
+use Rattle.script_lines.proofs.Going.{left_at}
 use Rattle.replay_core.specs.Replayed.{BeginsEmpty}
 use Rattle.replay_core.specs.Opening.{IsThere}
 use Rattle.replay_core.specs.Going.{Start, HasCome, SaysNext, CanBe}
@@ -101,26 +96,6 @@ pub appends_grown : (old : Option (List ℕ)) (bytes : List ℕ) → Appends old
 appends_grown None bytes = tt
 appends_grown (Some a) bytes = refl
 
--- ---- what a link at a vault leaves
-
-module _ {V : Type 0} (clouds : V → ℕ → Cloud) (s : Setting) (link : LocalLink V) (peers : ℕ → Peer) (is : LinkAt clouds s link peers) where
-  pub images_at : (cloud : ℕ) → cloud < s.shape.n → IsTrue (s.told cloud)
-      → ImagesNow (clouds link.shelf.now cloud) (header_of s.shape cloud) (MaySettleAs (peers cloud))
-  images_at cloud lt told =
-      let here = some_server link.servers cloud (subst (λ (sh : Shape). cloud < sh.n) (sym is.shape) lt) in
-      let serving = known_of (server_at link.servers cloud) here.0 (λ (server : Server). IsServing server (clouds link.shelf.now cloud) (peers cloud)) here.1
-      ((is.stands cloud lt).serving (is.told cloud ∙ told)) in
-      let header = header_same link.servers.shape cloud here.0 (link.servers.are_servers.each cloud here.0 here.1) in
-      subst (λ (sh : Shape). ImagesNow (clouds link.shelf.now cloud) (header_of sh cloud) (MaySettleAs (peers cloud))) is.shape
-      (subst (λ (h : Header). ImagesNow (clouds link.shelf.now cloud) h (MaySettleAs (peers cloud))) header serving.stands.images)
-
-  pub is_left : IsLeft clouds s link peers
-  is_left = record {
-    faults = λ cloud lt. let e = (is.stands cloud lt).faults in omega arith;
-    armings = λ cloud lt. (is.stands cloud lt).armings;
-    images = images_at;
-  }
-
 -- ---- what holds of a session behind its openings
 
 pub record Holds (start : Start) (s : Setting) (new : ℕ → Cloud) (history : List Answered) (at : Vault) (begun : Option Begun) (last : ℕ → Peer) : Type 0 where
@@ -130,9 +105,9 @@ pub record Holds (start : Start) (s : Setting) (new : ℕ → Cloud) (history : 
   pub begun_is : MatchOption begun (last ≡ at.peers) (λ b. IsPartOf s at b last)
   pub faults : (cloud : ℕ) → cloud < s.shape.n → (last cloud).faults ≤ (new cloud).faults
   pub armings : (cloud : ℕ) → cloud < s.shape.n → (last cloud).armings ≡ (new cloud).armings
-  pub now : (cloud : ℕ) → cloud < s.shape.n → IsTrue (s.told cloud) → ImagesNow (new cloud) (header_of s.shape cloud) (MaySettleAs (last cloud))
+  pub now : (cloud : ℕ) → cloud < s.shape.n → IsTrue (s.told cloud) → ImagesNow (new cloud) (header_in s cloud) (MaySettleAs (last cloud))
   pub images : BeginsEmpty start.old → (cloud : ℕ) → cloud < s.shape.n → IsTrue (s.told cloud)
-      → ImagesSince (start.old cloud) (new cloud) (header_of s.shape cloud) (IsListIn s cloud (moments_of history ++ moments_begun begun) last)
+      → ImagesSince (start.old cloud) (new cloud) (header_in s cloud) (IsListIn s cloud (moments_of history ++ moments_begun begun) last)
   pub others : (cloud : ℕ) → s.shape.n ≤ cloud → new cloud ≡ start.old cloud
   pub read : IfSome start.script (λ script. (place : Place) × Reaches script s.shape s.rooms (script_of history ++ event_of begun) place)
 
@@ -156,7 +131,7 @@ module _ {V : Type 0} (clouds : V → ℕ → Cloud) (start : Start) (s : Settin
   -- between two lines
   pub holds_between : Holds start s (clouds link.shelf.now) come.history come.at None come.at.peers
   holds_between =
-      let l = is_left clouds s link come.at.peers come.is_at.link_at in
+      let l = left_at clouds s link come.at.peers come.is_at.link_at in
       record {
         told = come.told;
         turns = come.turns;
@@ -166,7 +141,7 @@ module _ {V : Type 0} (clouds : V → ℕ → Cloud) (start : Start) (s : Settin
         armings = l.armings;
         now = l.images;
         images = λ empty cloud lt told.
-            subst (λ (m : List Moment). ImagesSince (start.old cloud) (clouds link.shelf.now cloud) (header_of s.shape cloud) (IsListIn s cloud m come.at.peers))
+            subst (λ (m : List Moment). ImagesSince (start.old cloud) (clouds link.shelf.now cloud) (header_in s cloud) (IsListIn s cloud m come.at.peers))
             (sym (append-nil (moments_of come.history))) (come.images empty cloud lt told);
         others = come.others;
         read = subst (λ (l : List Event). IfSome start.script (λ script. (place : Place) × Reaches script s.shape s.rooms l place)) (sym (append-nil (script_of come.history)))
@@ -200,12 +175,12 @@ module _ {V : Type 0} (clouds : V → ℕ → Cloud) (start : Start) (s : Settin
       armings = cut.left.armings;
       now = cut.left.images;
       images = λ empty cloud lt told.
-          joined (start.old cloud) (clouds link.shelf.now cloud) (clouds new.shelf.now cloud) (StandsForSome (header_of s.shape cloud) (IsListIn s cloud (moments_of come.history ++ cut.moments) cut.last))
-          (weaker (start.old cloud) (clouds link.shelf.now cloud) (StandsForSome (header_of s.shape cloud) (IsListIn s cloud (moments_of come.history) come.at.peers))
-          (StandsForSome (header_of s.shape cloud) (IsListIn s cloud (moments_of come.history ++ cut.moments) cut.last)) (come.images empty cloud lt told)
+          joined (start.old cloud) (clouds link.shelf.now cloud) (clouds new.shelf.now cloud) (StandsForSome (header_in s cloud) (IsListIn s cloud (moments_of come.history ++ cut.moments) cut.last))
+          (weaker (start.old cloud) (clouds link.shelf.now cloud) (StandsForSome (header_in s cloud) (IsListIn s cloud (moments_of come.history) come.at.peers))
+          (StandsForSome (header_in s cloud) (IsListIn s cloud (moments_of come.history ++ cut.moments) cut.last)) (come.images empty cloud lt told)
           (λ image x. (x.0, part s cloud (moments_of come.history) come.at (record { event = event; moments = cut.moments }) cut.last cut.part x.0 x.1, x.2)))
-          (weaker (clouds link.shelf.now cloud) (clouds new.shelf.now cloud) (StandsForSome (header_of s.shape cloud) (IsListIn s cloud cut.moments cut.last))
-          (StandsForSome (header_of s.shape cloud) (IsListIn s cloud (moments_of come.history ++ cut.moments) cut.last)) (cut.images cloud lt told)
+          (weaker (clouds link.shelf.now cloud) (clouds new.shelf.now cloud) (StandsForSome (header_in s cloud) (IsListIn s cloud cut.moments cut.last))
+          (StandsForSome (header_in s cloud) (IsListIn s cloud (moments_of come.history ++ cut.moments) cut.last)) (cut.images cloud lt told)
           (λ image x. (x.0, here s cloud (moments_of come.history) cut.moments cut.last x.0 x.1, x.2)));
       others = others_on;
       read = map_told start.script
@@ -218,15 +193,15 @@ module _ {V : Type 0} (clouds : V → ℕ → Cloud) (start : Start) (s : Settin
       one = answered come.at event answers goes.moments goes.after
 
       pub images_on : BeginsEmpty start.old → (cloud : ℕ) → cloud < s.shape.n → IsTrue (s.told cloud)
-          → ImagesSince (start.old cloud) (clouds new.shelf.now cloud) (header_of s.shape cloud) (IsListIn s cloud (moments_of (come.history ++ one ∷ [])) goes.after.peers)
+          → ImagesSince (start.old cloud) (clouds new.shelf.now cloud) (header_in s cloud) (IsListIn s cloud (moments_of (come.history ++ one ∷ [])) goes.after.peers)
       images_on empty cloud lt told =
-          subst (λ (m : List Moment). ImagesSince (start.old cloud) (clouds new.shelf.now cloud) (header_of s.shape cloud) (IsListIn s cloud m goes.after.peers)) (sym (moments_more come.history one))
-          (joined (start.old cloud) (clouds link.shelf.now cloud) (clouds new.shelf.now cloud) (StandsForSome (header_of s.shape cloud) (IsListIn s cloud (moments_of come.history ++ goes.moments) goes.after.peers))
-          (weaker (start.old cloud) (clouds link.shelf.now cloud) (StandsForSome (header_of s.shape cloud) (IsListIn s cloud (moments_of come.history) come.at.peers))
-          (StandsForSome (header_of s.shape cloud) (IsListIn s cloud (moments_of come.history ++ goes.moments) goes.after.peers)) (come.images empty cloud lt told)
+          subst (λ (m : List Moment). ImagesSince (start.old cloud) (clouds new.shelf.now cloud) (header_in s cloud) (IsListIn s cloud m goes.after.peers)) (sym (moments_more come.history one))
+          (joined (start.old cloud) (clouds link.shelf.now cloud) (clouds new.shelf.now cloud) (StandsForSome (header_in s cloud) (IsListIn s cloud (moments_of come.history ++ goes.moments) goes.after.peers))
+          (weaker (start.old cloud) (clouds link.shelf.now cloud) (StandsForSome (header_in s cloud) (IsListIn s cloud (moments_of come.history) come.at.peers))
+          (StandsForSome (header_in s cloud) (IsListIn s cloud (moments_of come.history ++ goes.moments) goes.after.peers)) (come.images empty cloud lt told)
           (λ image x. (x.0, later s cloud (moments_of come.history) come.at event answers goes.moments goes.after goes.step x.0 x.1, x.2)))
-          (weaker (clouds link.shelf.now cloud) (clouds new.shelf.now cloud) (StandsForSome (header_of s.shape cloud) (IsListIn s cloud goes.moments goes.after.peers))
-          (StandsForSome (header_of s.shape cloud) (IsListIn s cloud (moments_of come.history ++ goes.moments) goes.after.peers)) (goes.images cloud lt told)
+          (weaker (clouds link.shelf.now cloud) (clouds new.shelf.now cloud) (StandsForSome (header_in s cloud) (IsListIn s cloud goes.moments goes.after.peers))
+          (StandsForSome (header_in s cloud) (IsListIn s cloud (moments_of come.history ++ goes.moments) goes.after.peers)) (goes.images cloud lt told)
           (λ image x. (x.0, here s cloud (moments_of come.history) goes.moments goes.after.peers x.0 x.1, x.2))))
 
       -- a line that was answered, so far as it was written
@@ -254,7 +229,7 @@ module _ {V : Type 0} (clouds : V → ℕ → Cloud) (start : Start) (s : Settin
 
       pub holds_answered : Holds start s (clouds new.shelf.now) (come.history ++ one ∷ []) goes.after None goes.after.peers
       holds_answered =
-          let l = is_left clouds s new goes.after.peers goes.is_at.link_at in
+          let l = left_at clouds s new goes.after.peers goes.is_at.link_at in
           record {
             told = come.told;
             turns = turns_more s (opening start.old) come.at goes.after come.history event answers goes.moments come.turns goes.step;
@@ -264,7 +239,7 @@ module _ {V : Type 0} (clouds : V → ℕ → Cloud) (start : Start) (s : Settin
             armings = l.armings;
             now = l.images;
             images = λ empty cloud lt told.
-                subst (λ (m : List Moment). ImagesSince (start.old cloud) (clouds new.shelf.now cloud) (header_of s.shape cloud) (IsListIn s cloud m goes.after.peers))
+                subst (λ (m : List Moment). ImagesSince (start.old cloud) (clouds new.shelf.now cloud) (header_in s cloud) (IsListIn s cloud m goes.after.peers))
                 (sym (append-nil (moments_of (come.history ++ one ∷ [])))) (images_on empty cloud lt told);
             others = others_on;
             read = subst (λ (l : List Event). IfSome start.script (λ script. (place : Place) × Reaches script s.shape s.rooms l place)) (sym (append-nil (script_of (come.history ++ one ∷ [])) ∙ script_more come.history one))

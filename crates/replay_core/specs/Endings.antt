@@ -6,7 +6,7 @@ use Rattle.cd_edges.specs.Causes.{Rose}
 use Rattle.cd_edges.specs.Disk.{Cloud, reads}
 use Rattle.session.specs.Fault.{Fault}
 use Rattle.cd_base.specs.declared.shape.Shape.{Shape}
-use Rattle.cd_base.specs.declared.rooms.Rooms.{Rooms}
+use Rattle.journal_start.specs.declared.rooms.Rooms.{Rooms}
 use Rattle.session.specs.declared.event.Event.TheVariants as events
 use Rattle.session.specs.Scripts.{Place, Begins, Reaches, IsEnd, IsWrong, IsWrongFirst}
 use Rattle.session_model.specs.Steps.{cloud_no}

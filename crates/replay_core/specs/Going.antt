@@ -4,13 +4,11 @@ use Rattle.std.specs.Io.KnownBytes.{Appends}
 use Rattle.cd_base.specs.declared.shape.Shape.{Shape}
 use Rattle.cd_edges.specs.Causes.{Rose}
 use Rattle.cd_edges.specs.Disk.{Cloud}
-use Rattle.cloud_store.specs.Space.{full_for}
-use Rattle.cloud_store.specs.Standing.{ImagesSince}
+use Rattle.cloud_areas.specs.Peers.{ImagesSince}
 use Rattle.upload_job.specs.Lanes.{LaneView}
 use Rattle.local_link.specs.declared.fate.Fate.TheVariants.{Deliver}
 use Rattle.local_link.specs.declared.link.LocalLink.{LocalLink}
-use Rattle.local_link.specs.Calls.{header_of}
-use Rattle.local_link.specs.Tells.{server_at, full_by}
+use Rattle.local_link.specs.Tells.{rooms_at}
 use Rattle.session.specs.Fault.{Fault}
 use Rattle.session.specs.Lines.{Lines}
 use Rattle.session.specs.declared.reading.ScriptErr.{ScriptErr}
@@ -25,7 +23,7 @@ use Rattle.session_model.specs.Vault.{Setting, Vault, opening}
 use Rattle.session_model.specs.Run.{Answered, Turns, script_of, moments_of, answers_of, IsListIn}
 use Rattle.script_lines.specs.declared.error.CarryErr.{CarryErr}
 use Rattle.script_lines.specs.declared.error.CarryErr.TheVariants as carry_errors
-use Rattle.script_lines.specs.At.{IsAt}
+use Rattle.script_lines.specs.At.{header_in, IsAt}
 use Rattle.script_lines.specs.Does.{Goes, IsCutOff}
 use Rattle.script_lines.specs.Replacing.{IsShelfFault}
 use Rattle.replay_core.specs.declared.end.ReplayEnd.{ReplayEnd}
@@ -65,7 +63,7 @@ pub record IsReady {V : Type 0} (clouds : V → ℕ → Cloud) (start : Start) (
     (reader : Lines) (left : Option (List ℕ)) (source : ℕ) (written : Option (List ℕ)) (sink : ℕ) : Type 0 where
   pub told : (cloud : ℕ) → s.told cloud ≡ (start.old cloud).told
   pub shape : link.servers.shape ≡ s.shape
-  pub rooms : (cloud : ℕ) → cloud < s.shape.n → full_by (server_at link.servers cloud) ≡ full_for s.rooms
+  pub rooms : (cloud : ℕ) → cloud < s.shape.n → rooms_at link.servers cloud ≡ s.rooms
   pub fate : link.fate ≡ Deliver
   pub same : (cloud : ℕ) → clouds link.shelf.now cloud ≡ start.old cloud
   pub read : IsHead start.script s.shape s.rooms reader left
@@ -86,7 +84,7 @@ pub record HasCome {V : Type 0} (clouds : V → ℕ → Cloud) (start : Start) (
   pub are_lines : AreLines s.shape 0 (script_of history)
   pub uploads : jobs_of 0 (script_of history) ≡ length jobs
   pub images : BeginsEmpty start.old → (cloud : ℕ) → cloud < s.shape.n → IsTrue (s.told cloud)
-      → ImagesSince (start.old cloud) (clouds link.shelf.now cloud) (header_of s.shape cloud)
+      → ImagesSince (start.old cloud) (clouds link.shelf.now cloud) (header_in s cloud)
       (IsListIn s cloud (moments_of history) at.peers)
   pub others : (cloud : ℕ) → s.shape.n ≤ cloud → clouds link.shelf.now cloud ≡ start.old cloud
   pub read : IfSome start.script (λ script. (place : Place)

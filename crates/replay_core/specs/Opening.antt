@@ -1,18 +1,18 @@
 -- What the first steps of a replay come to: its first line, the areas that are to be empty, and the first openings.
 use Rattle.std.specs.Prelude.{◌≡◌, ◌≢◌, ℕ, ◌<◌, ◌≤◌, ◌++◌, false, IsTrue, List, [], length, Option, Some, Result, Ok, Err, IfSome}
 use Rattle.cd_base.specs.declared.ids.CloudNo.{CloudNo}
-use Rattle.cd_base.specs.declared.rooms.Rooms.{Rooms}
+use Rattle.journal_start.specs.declared.rooms.Rooms.{Rooms}
 use Rattle.cd_base.specs.declared.shape.Shape.{Shape}
 use Rattle.cd_edges.specs.declared.area.Area.{Area}
 use Rattle.cd_edges.specs.Causes.{Rose}
 use Rattle.cd_edges.specs.Disk.{Cloud, Image, IsImage, reads}
-use Rattle.commit_journal.specs.declared.header.Header.{Header}
-use Rattle.commit_journal.specs.declared.errors.OpenErr.{OpenErr}
-use Rattle.commit_journal.specs.declared.errors.OpenErr.TheVariants as open_errors
-use Rattle.cloud_store.specs.Standing.{ImagesSince}
+use Rattle.journal_start.specs.declared.start.Header.{Header}
+use Rattle.half_journal.specs.declared.errors.OpenErr.{OpenErr}
+use Rattle.half_journal.specs.declared.errors.OpenErr.TheVariants as open_errors
+use Rattle.cloud_areas.specs.Peers.{ImagesSince}
 use Rattle.local_link.specs.declared.link.LocalLink.{LocalLink}
-use Rattle.local_link.specs.Calls.{header_of, no_commands}
-use Rattle.local_link.specs.Tells.{server_at, full_by, StandsAt}
+use Rattle.local_link.specs.Calls.{no_commands}
+use Rattle.local_link.specs.Tells.{server_at, rooms_at, header_at, StandsAt}
 use Rattle.session.specs.Fault.{Fault}
 use Rattle.session.specs.Lines.{Lines}
 use Rattle.session.specs.declared.lines.LineErr.{LineErr}
@@ -20,7 +20,7 @@ use Rattle.session.specs.declared.lines.LineErr.TheVariants as line_errors
 use Rattle.session.specs.declared.reading.ScriptErr.{ScriptErr}
 use Rattle.session.specs.declared.reading.ScriptErr.TheVariants as script_errors
 use Rattle.session.specs.Scripts.{Place, Begins, IsWrongFirst}
-use Rattle.share_server.specs.Damage.{IsDamage}
+use Rattle.cloud_server.specs.Refusals.{IsDamage}
 use Rattle.replay_core.specs.declared.end.ReplayEnd.{ReplayEnd}
 use Rattle.replay_core.specs.declared.end.ReplayEnd.TheVariants as ends
 use Rattle.replay_core.specs.Endings.{IsEmptyAt, AreEmptyBefore, IsFirstFilled}
@@ -85,9 +85,9 @@ pub record Prepares (header : Header) (old new : Cloud) : Type 0 where
   pub armings : new.armings ≡ old.armings
   pub images : IsTrue old.told → IsBlank old → ImagesSince old new header (λ list. list ≡ [])
 
--- so each cloud of the store, and the others are as they were
-pub record PreparesAll (shape : Shape) (old new : ℕ → Cloud) : Type 0 where
-  pub each : (cloud : ℕ) → cloud < shape.n → Prepares (header_of shape cloud) (old cloud) (new cloud)
+-- so each cloud of the store, by its header, and the others are as they were
+pub record PreparesAll (headers : ℕ → Header) (shape : Shape) (old new : ℕ → Cloud) : Type 0 where
+  pub each : (cloud : ℕ) → cloud < shape.n → Prepares (headers cloud) (old cloud) (new cloud)
   pub others : (cloud : ℕ) → shape.n ≤ cloud → new cloud ≡ old cloud
 
 -- all is as it was
@@ -130,9 +130,9 @@ EndsUnopened shape old new end = ⊥
 pub record OpensTo {V : Type 0} (clouds : V → ℕ → Cloud) (old new : LocalLink V) (count : ℕ) : Type 0 where
   pub shape : new.servers.shape ≡ old.servers.shape
   pub fate : new.fate ≡ old.fate
-  pub full : (cloud : ℕ) → full_by (server_at new.servers cloud) ≡ full_by (server_at old.servers cloud)
+  pub rooms : (cloud : ℕ) → rooms_at new.servers cloud ≡ rooms_at old.servers cloud
   pub stands : (cloud : ℕ) → cloud < count → StandsAt clouds new cloud (no_commands (clouds old.shelf.now cloud))
   pub prepares : (cloud : ℕ) → cloud < count
-      → Prepares (header_of old.servers.shape cloud) (clouds old.shelf.now cloud) (clouds new.shelf.now cloud)
+      → Prepares (header_at old.servers cloud) (clouds old.shelf.now cloud) (clouds new.shelf.now cloud)
   pub clouds_wait : (cloud : ℕ) → count ≤ cloud → clouds new.shelf.now cloud ≡ clouds old.shelf.now cloud
   pub servers_wait : (cloud : ℕ) → count ≤ cloud → server_at new.servers cloud ≡ server_at old.servers cloud

@@ -5,8 +5,7 @@ use Rattle.cd_edges.specs.declared.area.Area.{Area}
 use Rattle.cd_edges.specs.Disk.{Cloud, Image, IsImage, reads}
 use Rattle.user_dedup.specs.declared.command.Command.{Command}
 use Rattle.user_dedup.specs.Exec.{MaySettleAs}
-use Rattle.cloud_store.specs.Store.{StandsFor}
-use Rattle.local_link.specs.Calls.{header_of}
+use Rattle.cloud_areas.specs.Standing.{StandsFor}
 use Rattle.transcript.specs.declared.line.Line.TheVariants as lines
 use Rattle.session.specs.Texts.{text_of}
 use Rattle.transcript.specs.Transcript.{line_text}
@@ -14,6 +13,7 @@ use Rattle.replay_core.specs.declared.end.ReplayEnd.{ReplayEnd}
 use Rattle.replay_core.specs.declared.end.ReplayEnd.TheVariants as ends
 use Rattle.session_model.specs.Headline.{Session, IsRun, due, GivesAcknowledged, GivesFromMore, DisksKeep, DisksStand, AnswersPrivately}
 use Rattle.session_model.specs.Faults.{FaultsRose}
+use Rattle.script_lines.specs.At.{header_in}
 use Rattle.replay_core.specs.Endings.{Call, EndingLine, NoEnding, DoneEnding, ScriptEnding, ShelfEnding, StoreEnding, DamagedEnding, IsDue, HasCause}
 
 -- No count of a cloud is above the shelf's, its armings are the shelf's, and with status 0 its faults too.
@@ -45,7 +45,7 @@ pub record Replayed (status : ℕ) (old new : ℕ → Cloud) (run : Session) : T
   -- what a told cloud reads in the end stands for its list
   pub reads_so : status ≡ 0 → (cloud : ℕ) → cloud < run.setting.shape.n → IsTrue (old cloud).told →
       (list : List Command) × MaySettleAs (run.last cloud) list
-      × StandsFor (reads (new cloud).now) (header_of run.setting.shape cloud) list
+      × StandsFor (reads (new cloud).now) (header_in run.setting cloud) list
   -- each reply to an upload follows from that user's own commands
   pub private : AnswersPrivately run
   -- an answer says `fault` only of a cloud whose count rose, so where none rises no answer says it

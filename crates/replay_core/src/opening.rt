@@ -1,31 +1,30 @@
 //! The first steps of a replay: its first line, the clouds' areas, which are to be empty, and the first openings.
 
-ghost use Rattle.std.specs.Prelude.{◌≡◌, ◌≢◌, ◌<◌, ◌≤◌, ℕ, Ok, IsTrue, IsSomeAnd, IfOk, IfErr, OnOk, OnErr, Some, []};
+ghost use Rattle.std.specs.Prelude.{◌≡◌, ◌≢◌, ◌<◌, ◌≤◌, ℕ, Ok, IsTrue, IfOk, IfErr, OnOk, OnErr};
 ghost use Rattle.cd_edges.specs.declared.area.Area.{Area};
-ghost use Rattle.commit_journal.specs.declared.header.Header.{Header};
-ghost use Rattle.cloud_state.specs.State.{AreRooms};
-ghost use Rattle.cloud_store.specs.Space.{IsWithin, full_for};
-ghost use Rattle.share_server.specs.declared.server.Server.{Server};
-ghost use Rattle.session.specs.Reading.{header_at};
+ghost use Rattle.journal_start.specs.declared.start.Header.{Header};
+ghost use Rattle.journal_start.specs.Ranges.{AreRooms};
+ghost use Rattle.session.specs.Reading as reading;
 ghost use Rattle.session.specs.Lines.{script_limit};
-ghost use Rattle.local_link.specs.Calls.{header_of, no_commands};
-ghost use Rattle.local_link.specs.Tells.{server_at, full_by, StandsAt, LeavesRest};
+ghost use Rattle.local_link.specs.Calls.{no_commands};
+ghost use Rattle.local_link.specs.Tells.{rooms_at, header_at, StandsAt, LeavesRest};
 ghost use Rattle.replay_core.specs.Endings.{IsEmptyAt, AreEmptyBefore};
 ghost use Rattle.replay_core.specs.Opening.{before_first, IsHead, EndsFirst, Prepares, PreparesAll, AreSame, IsEmpty, EndsEmpty, EndsOpening, EndsUnopened, OpensTo, SaysHeader, IsEndOf};
 
 use crate::ReplayEnd;
 use crate::lines::{end_of_line, end_of_reader};
-use cd_base::{CloudNo, Rooms, Shape};
+use cd_base::{CloudNo, Shape};
 use cd_edges::{Area, Failed, Shelf, Source};
-use commit_journal::OpenErr;
+use cloud_server::laws::law_of_no_commands;
+use cloud_server::{OpenErr, damage_of};
+use journal_start::Rooms;
 use local_link::LocalLink;
 use session::LineReader;
-use share_server::damage_of;
 
 // What the first line says, or how the replay ends there.
 fn header_of_line(reader: &LineReader) -> Result<(Shape, Rooms), ReplayEnd>
-    ensures says { SaysHeader (header_at reader.now.line) result }
-    ensures rooms { IfOk result (λ header. AreRooms header.1 × IsWithin header.1 []) }
+    ensures says { SaysHeader (reading.header_at reader.now.line) result }
+    ensures rooms { IfOk result (λ header. AreRooms header.1) }
 {
     match reader.read_header() {
         Ok(header) => Ok(header),
@@ -41,7 +40,7 @@ pub fn first_line<S: Source>(
     requires { reader.old ≡ before_first }
     ensures header { IfOk result (λ header. IsHead (S.left source.old) header.0 header.1
         reader.new (S.left source.new)) }
-    ensures rooms { IfOk result (λ header. AreRooms header.1 × IsWithin header.1 []) }
+    ensures rooms { IfOk result (λ header. AreRooms header.1) }
     ensures limited { reader.new.taken ≤ script_limit }
     ensures still { OnOk result (S.faults source.new ≡ S.faults source.old) }
     ensures end { IfErr result (EndsFirst (S.left source.old) (S.faults source.old) (S.faults source.new)) }
@@ -68,6 +67,7 @@ fn empty_area<V: Shelf>(shelf: &mut V, cloud: CloudNo, area: Area) -> Result<(),
     ensures others { (other : ℕ) → other ≢ cloud.0 → V.cloud_at shelf.new other ≡ V.cloud_at shelf.old other }
     ensures end { IfErr result (EndsEmpty cloud.0 (V.cloud_at shelf.old cloud.0) (V.cloud_at shelf.new cloud.0)) }
 {
+    law_of_no_commands();
     match shelf.len(cloud, area) {
         Ok(0) => Ok(()),
         Ok(len) => Err(ReplayEnd::NotEmpty { cloud, area, len }),
@@ -93,9 +93,11 @@ fn empty_cloud<V: Shelf>(shelf: &mut V, cloud: CloudNo) -> Result<(), ReplayEnd>
 pub fn empty_clouds<V: Shelf>(shelf: &mut V, shape: Shape) -> Result<(), ReplayEnd>
     ensures same { OnOk result (AreSame (V.cloud_at shelf.old) (V.cloud_at shelf.new)) }
     ensures empty { OnOk result ((cloud : ℕ) → cloud < shape.n → IsEmpty (V.cloud_at shelf.old cloud)) }
-    ensures prepares { OnErr result (PreparesAll shape (V.cloud_at shelf.old) (V.cloud_at shelf.new)) }
+    ensures prepares { OnErr result ((headers : ℕ → Header)
+        → PreparesAll headers shape (V.cloud_at shelf.old) (V.cloud_at shelf.new)) }
     ensures end { IfErr result (EndsUnopened shape (V.cloud_at shelf.old) (V.cloud_at shelf.new)) }
 {
+    law_of_no_commands();
     for number in 0..shape.n {
         empty_cloud(shelf, CloudNo(number))?;
     }
@@ -119,19 +121,18 @@ fn end_of(cloud: CloudNo, error: OpenErr) -> ReplayEnd
 fn open_cloud<V: Shelf>(link: &mut LocalLink<'_, V>, cloud: CloudNo) -> Result<(), ReplayEnd>
     requires below { cloud.0 < link.old.servers.shape.n }
     requires empty { IsEmpty (V.cloud_at link.old.shelf.now cloud.0) }
-    requires room { IsSomeAnd (server_at link.old.servers cloud.0) (λ server. IsWithin server.state.rooms []) }
     ensures opens { OnOk result (StandsAt V.cloud_at link.new cloud.0
         (no_commands (V.cloud_at link.old.shelf.now cloud.0))) }
-    ensures prepares { Prepares (header_of link.old.servers.shape cloud.0)
+    ensures prepares { Prepares (header_at link.old.servers cloud.0)
         (V.cloud_at link.old.shelf.now cloud.0) (V.cloud_at link.new.shelf.now cloud.0) }
     ensures rest { LeavesRest V.cloud_at cloud.0 link.old link.new }
-    ensures full { (number : ℕ)
-        → full_by (server_at link.new.servers number) ≡ full_by (server_at link.old.servers number) }
+    ensures rooms { rooms_at link.new.servers cloud.0 ≡ rooms_at link.old.servers cloud.0 }
     ensures fate { link.new.fate ≡ link.old.fate }
     ensures same_reference { link.new.shelf.ghost_name ≡ link.old.shelf.ghost_name }
     ensures end { IfErr result (EndsOpening cloud.0
         (V.cloud_at link.old.shelf.now cloud.0) (V.cloud_at link.new.shelf.now cloud.0)) }
 {
+    law_of_no_commands();
     match link.reopen(cloud, true) {
         Ok(_) => Ok(()),
         Err(error) => Err(end_of(cloud, error)),
@@ -141,15 +142,14 @@ fn open_cloud<V: Shelf>(link: &mut LocalLink<'_, V>, cloud: CloudNo) -> Result<(
 /// Opens all clouds in order, each of which reads as nothing.
 pub fn open_clouds<V: Shelf>(link: &mut LocalLink<'_, V>) -> Result<(), ReplayEnd>
     requires empty { (cloud : ℕ) → cloud < link.old.servers.shape.n → IsEmpty (V.cloud_at link.old.shelf.now cloud) }
-    requires room { (cloud : ℕ) (server : Server) → server_at link.old.servers cloud ≡ Some server
-        → IsWithin server.state.rooms [] }
     ensures opens { OnOk result (OpensTo V.cloud_at link.old link.new link.old.servers.shape.n) }
-    ensures prepares { OnErr result (PreparesAll link.old.servers.shape
+    ensures prepares { OnErr result (PreparesAll (header_at link.old.servers) link.old.servers.shape
         (V.cloud_at link.old.shelf.now) (V.cloud_at link.new.shelf.now)) }
     ensures end { IfErr result (EndsUnopened link.old.servers.shape
         (V.cloud_at link.old.shelf.now) (V.cloud_at link.new.shelf.now)) }
     ensures same_reference { link.new.shelf.ghost_name ≡ link.old.shelf.ghost_name }
 {
+    law_of_no_commands();
     let shape = link.shape();
     for number in 0..shape.n {
         open_cloud(link, CloudNo(number))?;

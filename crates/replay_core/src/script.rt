@@ -1,10 +1,7 @@
 //! A session from its script's first byte to its end.
 
-ghost use Rattle.std.specs.Prelude.{◌≡◌, ◌<◌, ◌≤◌, ℕ, [], IsTrue, Some, length};
+ghost use Rattle.std.specs.Prelude.{◌≡◌, ◌<◌, ◌≤◌, ℕ, [], IsTrue, length};
 ghost use Rattle.cd_base.specs.declared.shape.Shape.{Shape};
-ghost use Rattle.cloud_store.specs.Space.{IsWithin};
-ghost use Rattle.share_server.specs.declared.server.Server.{Server};
-ghost use Rattle.local_link.specs.Tells.{server_at};
 ghost use Rattle.session.specs.Lines.{script_limit};
 ghost use Rattle.session_model.specs.Vault.{Setting};
 ghost use Rattle.script_lines.specs.Jobs.{AreReached};
@@ -18,6 +15,7 @@ use crate::lines::{answer_line, next_event};
 use crate::opening::{empty_clouds, first_line, open_clouds};
 use crate::writing::write_one;
 use cd_edges::{Shelf, Sink, Source};
+use cloud_server::laws::law_of_no_commands;
 use local_link::{LocalLink, Servers};
 use script_lines::{Buffers, Jobs};
 use session::LineReader;
@@ -83,8 +81,6 @@ fn carry_script<S: Source, K: Sink, V: Shelf>(
 ) -> ReplayEnd
     requires limited { reader.old.taken ≤ script_limit }
     requires empty { (cloud : ℕ) → cloud < link.old.servers.shape.n → IsEmpty (V.cloud_at link.old.shelf.now cloud) }
-    requires room { (cloud : ℕ) (server : Server) → server_at link.old.servers cloud ≡ Some server
-        → IsWithin server.state.rooms [] }
     ensures replays { (start : Start) (s : Setting)
         → IsReady V.cloud_at start s link.old reader.old (S.left source.old) (S.faults source.old)
         (K.written sink.old) (K.faults sink.old)
@@ -95,6 +91,7 @@ fn carry_script<S: Source, K: Sink, V: Shelf>(
 {
     law_of_acknowledged();
     law_of_own_replies();
+    law_of_no_commands();
     let mut text = Answer::new(alloc);
     let Ok(mut buffers) = Buffers::make(alloc) else {
         return ReplayEnd::NoMemory;
@@ -140,6 +137,7 @@ pub fn replay<S: Source, K: Sink, V: Shelf>(
 {
     law_of_acknowledged();
     law_of_own_replies();
+    law_of_no_commands();
     let Ok(mut reader) = LineReader::make(alloc) else {
         return ReplayEnd::NoMemory;
     };

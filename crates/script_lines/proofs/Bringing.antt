@@ -6,7 +6,7 @@ use Rattle.std.proofs.lemmas.List.{map-append}
 use Rattle.std.proofs.lemmas.List.Elements.{Contains-append_left, Contains-append_right}
 use Rattle.cd_edges.specs.Disk.{Cloud}
 use Rattle.cd_edges.proofs.Moments.{joined}
-use Rattle.cloud_store.specs.Standing.{StandsForSome}
+use Rattle.cloud_areas.specs.Peers.{StandsForSome}
 use Rattle.messages.specs.declared.request.Request.{Request}
 use Rattle.messages.specs.declared.reply.Reply.{Reply}
 use Rattle.user_dedup.specs.declared.command.Command.{Command}
@@ -22,7 +22,6 @@ use Rattle.lane_steps.specs.declared.error.StepErr.TheVariants as step_errors
 use Rattle.lane_steps.specs.Steps.{Heard, Untaken, LaneSteps, Finishes, IsFound}
 use Rattle.local_link.specs.declared.link.LocalLink.{LocalLink}
 use Rattle.local_link.specs.Tells.{telling}
-use Rattle.local_link.specs.Calls.{header_of}
 use Rattle.session.specs.Spelling.{IsJob}
 use Rattle.session.specs.declared.event.Event.TheVariants as events
 use Rattle.transcript.specs.declared.line.Line.{Line}
@@ -33,7 +32,7 @@ use Rattle.session_model.specs.Run.{IsListIn}
 use Rattle.session_model.specs.Headline.{IsPartOf}
 use Rattle.session_model.specs.Cut.{FinishCut}
 use Rattle.session.specs.Texts.{text_of}
-use Rattle.script_lines.specs.At.{LinkAt, IsAt, Leaves}
+use Rattle.script_lines.specs.At.{LinkAt, IsAt, Leaves, header_in}
 use Rattle.script_lines.specs.Does.{Images, Does, Cut}
 use Rattle.script_lines.specs.Jobs.{job_lanes, with_job}
 use Rattle.script_lines.specs.Stepping.{stored_if}
@@ -146,7 +145,7 @@ module _ {V : Type 0} (clouds : V → ℕ → Cloud) (s : Setting) (job : ℕ) w
   pub images_later : (old mid new : LocalLink V) (before behind : List Moment) (between last : ℕ → Peer) → First between behind last → Images clouds s old mid before between → Images clouds s mid new behind last
       → Images clouds s old new (before ++ behind) last
   images_later old mid new before behind between last first one two cloud lt told =
-      joined (clouds old.shelf.now cloud) (clouds mid.shelf.now cloud) (clouds new.shelf.now cloud) (StandsForSome (header_of s.shape cloud) (IsListIn s cloud (before ++ behind) last))
+      joined (clouds old.shelf.now cloud) (clouds mid.shelf.now cloud) (clouds new.shelf.now cloud) (StandsForSome (header_in s cloud) (IsListIn s cloud (before ++ behind) last))
       (images_weaker clouds s old mid cloud (IsListIn s cloud before between) (IsListIn s cloud (before ++ behind) last) (λ list has. early cloud list has) (one cloud lt told))
       (images_weaker clouds s mid new cloud (IsListIn s cloud behind last) (IsListIn s cloud (before ++ behind) last) (λ list has. late cloud list has) (two cloud lt told))
     where

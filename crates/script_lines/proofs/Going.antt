@@ -5,19 +5,22 @@ use Rattle.std.proofs.lemmas.Bool.{cases_eq, ne_eqb}
 use Rattle.cd_base.specs.declared.shape.Shape.{Shape}
 use Rattle.cd_edges.specs.Disk.{Cloud}
 use Rattle.cd_edges.proofs.Moments.{weaker, left_alone, started, at_end}
+use Rattle.journal_start.specs.declared.start.Header.{Header}
+use Rattle.cloud_server.specs.Names.{header_of}
 use Rattle.messages.specs.declared.request.Request.{Request}
 use Rattle.messages.specs.declared.reply.Reply.{Reply}
 use Rattle.user_dedup.specs.declared.command.Command.{Command}
-use Rattle.user_dedup.specs.Dedup.{FullRoom}
+use Rattle.user_dedup.specs.Dedup.{FullRoom, Outcome}
 use Rattle.user_dedup.specs.Exec.{Peer, MaySettleAs, Exec, served}
-use Rattle.user_dedup.specs.Link.{LeavesOthers}
+use Rattle.user_dedup.specs.Spending.{full_for}
+use Rattle.user_dedup.specs.Link.{LeavesOthers, Exchange, Passes}
 use Rattle.user_dedup.proofs.Owned.{contains_here}
-use Rattle.cloud_store.specs.Standing.{StandsForSome, ImagesNow, ImagesSince, MayBecome}
+use Rattle.cloud_areas.specs.Peers.{StandsForSome, ImagesNow, ImagesSince, MayBecome}
 use Rattle.upload_job.specs.Lanes.{LaneView}
 use Rattle.local_link.specs.declared.fate.Fate.TheVariants.{Deliver}
 use Rattle.local_link.specs.declared.link.LocalLink.{LocalLink}
-use Rattle.local_link.specs.Tells.{server_at, full_by, telling, serving_at, StandsAt, LeavesRest}
-use Rattle.local_link.specs.Calls.{header_of}
+use Rattle.local_link.specs.declared.servers.Servers.{Servers}
+use Rattle.local_link.specs.Tells.{rooms_of, rooms_at, header_at, full_at, telling, serving_at, StandsAt, LeavesRest}
 use Rattle.local_link.proofs.Passing.{read_images}
 use Rattle.session.specs.declared.event.Event.{Event}
 use Rattle.transcript.specs.declared.line.Line.{Line}
@@ -25,7 +28,7 @@ use Rattle.session_model.specs.Vault.{Setting, Vault, Executes, served_at}
 use Rattle.session_model.specs.Steps.{Moment, VStep}
 use Rattle.session_model.specs.Run.{IsListIn}
 use Rattle.session_model.specs.Headline.{IsPartOf}
-use Rattle.script_lines.specs.At.{LinkAt, IsAt, Leaves}
+use Rattle.script_lines.specs.At.{header_in, LinkAt, IsAt, Leaves}
 use Rattle.script_lines.specs.Does.{Images, Goes, IsLeft, Cut}
 
 -- ---- clouds by number, one of which goes on
@@ -45,7 +48,35 @@ put_other peers cloud p x ne = ap (λ (b : Bool). cond b p (peers x)) (ne_eqb x 
 abbrev pub before_exec : (ℕ → Peer) → ℕ → Request → Reply → Moment
 before_exec peers cloud request reply = record { peers = peers; event = Some (record { cloud = cloud; request = request; reply = reply }) }
 
+-- ---- the rooms and the headers
+
+pub header_is : (servers : Servers) (s : Setting) (cloud : ℕ) → servers.shape ≡ s.shape → rooms_at servers cloud ≡ s.rooms → header_at servers cloud ≡ header_in s cloud
+header_is servers s cloud shape rooms = λ i. header_of (shape i) (rooms i) cloud
+
+pub full_is : (servers : Servers) (s : Setting) (cloud : ℕ) → servers.shape ≡ s.shape → rooms_at servers cloud ≡ s.rooms → full_at servers cloud ≡ full_for s.shape s.rooms
+full_is servers s cloud shape rooms = λ i. full_for (shape i) (rooms i)
+
+pub serves_is : {V : Type 0} (link : LocalLink V) (s : Setting) (cloud : ℕ) → link.servers.shape ≡ s.shape → rooms_at link.servers cloud ≡ s.rooms → serving_at link cloud ≡ served_at s cloud
+serves_is link s cloud shape rooms = λ i. served (shape i) cloud (full_for (shape i) (rooms i))
+
 module _ {V : Type 0} (clouds : V → ℕ → Cloud) where
+  -- each cloud keeps its rooms where the one does that was called
+  pub rooms_kept : (old new : LocalLink V) (cloud c : ℕ) → LeavesRest clouds cloud old new → rooms_at new.servers cloud ≡ rooms_at old.servers cloud → rooms_at new.servers c ≡ rooms_at old.servers c
+  rooms_kept old new cloud c rest same = elim (cases_eq c cloud) [
+    | inl e ↦ subst (λ (n : ℕ). rooms_at new.servers n ≡ rooms_at old.servers n) (sym e) same
+    | inr ne ↦ ap rooms_of (rest.servers_stay c ne)
+  ]
+
+  pub header_kept : (old new : LocalLink V) (cloud c : ℕ) → LeavesRest clouds cloud old new → rooms_at new.servers cloud ≡ rooms_at old.servers cloud → header_at new.servers c ≡ header_at old.servers c
+  header_kept old new cloud c rest same =
+      let rooms : rooms_at new.servers c ≡ rooms_at old.servers c = rooms_kept old new cloud c rest same in
+      λ i. header_of (rest.shape_stays i) (rooms i) c
+
+  -- no ask changes the rooms of any cloud
+  pub asks_rooms : (Is : Exchange → Type 0) (asks : List Exchange) (old new : LocalLink V) → Passes (telling clouds) Is old asks new → (c : ℕ) → rooms_at new.servers c ≡ rooms_at old.servers c
+  asks_rooms Is [] old new same c = ap (λ (l : LocalLink V). rooms_at l.servers c) same
+  asks_rooms Is (e ∷ es) old new chain c = asks_rooms Is es chain.1.0 new chain.1.2 c ∙ rooms_kept old chain.1.0 e.cloud c chain.1.1.rest chain.1.1.rooms
+
   pub leaves_rest : (old new : LocalLink V) (cloud : ℕ) → cloud < old.servers.shape.n → LeavesRest clouds cloud old new → Leaves clouds old new
   leaves_rest old new cloud below rest = record {
     shape = rest.shape_stays;
@@ -73,10 +104,10 @@ module _ {V : Type 0} (clouds : V → ℕ → Cloud) where
 module _ {V : Type 0} (clouds : V → ℕ → Cloud) (s : Setting) where
   -- each image now stands for a list that the peer may settle as
   pub now_by : (link : LocalLink V) (peers : ℕ → Peer) → LinkAt clouds s link peers → (cloud : ℕ) → cloud < s.shape.n → IsTrue (s.told cloud)
-      → ImagesNow (clouds link.shelf.now cloud) (header_of s.shape cloud) (MaySettleAs (peers cloud))
+      → ImagesNow (clouds link.shelf.now cloud) (header_in s cloud) (MaySettleAs (peers cloud))
   now_by link peers is cloud lt told =
-      subst (λ (sh : Shape). ImagesNow (clouds link.shelf.now cloud) (header_of sh cloud) (MaySettleAs (peers cloud))) is.shape
-      (at_end (clouds link.shelf.now cloud) (clouds link.shelf.now cloud) (StandsForSome (header_of link.servers.shape cloud) (MaySettleAs (peers cloud)))
+      subst (λ (h : Header). ImagesNow (clouds link.shelf.now cloud) h (MaySettleAs (peers cloud))) (header_is link.servers s cloud is.shape (is.rooms cloud lt))
+      (at_end (clouds link.shelf.now cloud) (clouds link.shelf.now cloud) (StandsForSome (header_at link.servers cloud) (MaySettleAs (peers cloud)))
       (read_images clouds [] [] link link cloud (peers cloud) refl (subst (λ (sh : Shape). cloud < sh.n) (sym is.shape) lt) (is.told cloud ∙ told) (is.stands cloud lt)))
 
   -- and so what is left of the clouds
@@ -92,11 +123,11 @@ module _ {V : Type 0} (clouds : V → ℕ → Cloud) (s : Setting) where
 
   -- one cloud goes on, and the others stay
   pub moves : (old new : LocalLink V) (peers : ℕ → Peer) (cloud : ℕ) (q : Peer) → LinkAt clouds s old peers → LeavesOthers (telling clouds) cloud old new
-      → LeavesRest clouds cloud old new → new.fate ≡ Deliver → StandsAt clouds new cloud q → LinkAt clouds s new (put peers cloud q)
-  moves old new peers cloud q is others rest fate stands = record {
+      → LeavesRest clouds cloud old new → rooms_at new.servers cloud ≡ rooms_at old.servers cloud → new.fate ≡ Deliver → StandsAt clouds new cloud q → LinkAt clouds s new (put peers cloud q)
+  moves old new peers cloud q is others rest same_rooms fate stands = record {
     shape = rest.shape_stays ∙ is.shape;
     told = λ c. rest.told_stays c ∙ is.told c;
-    rooms = λ c lt. ap (λ (f : ℕ → List Command → Command → Option FullRoom). f c) others.full ∙ is.rooms c lt;
+    rooms = λ c lt. rooms_kept clouds old new cloud c rest same_rooms ∙ is.rooms c lt;
     fate = fate;
     stands = λ c lt. elim (cases_eq c cloud) [
       | inl same ↦ subst (λ (n : ℕ). StandsAt clouds new n (put peers cloud q n)) (sym same) (subst (StandsAt clouds new cloud) (sym (put_here peers cloud q)) stands)
@@ -114,7 +145,7 @@ module _ {V : Type 0} (clouds : V → ℕ → Cloud) (s : Setting) where
   }
     where
       full : List Command → Command → Option FullRoom
-      full = full_by (server_at old.servers cloud)
+      full = full_at old.servers cloud
 
       by_shape : Exec old.servers.shape (clouds old.shelf.now cloud).told (serving_at old cloud) (peers cloud) request reply q
           → Exec s.shape (clouds old.shelf.now cloud).told (served s.shape cloud full) (peers cloud) request reply q
@@ -124,7 +155,7 @@ module _ {V : Type 0} (clouds : V → ℕ → Cloud) (s : Setting) where
       by_told = subst (λ (b : Bool). Exec s.shape b (served s.shape cloud full) (peers cloud) request reply q) (is.told cloud)
 
       by_rooms : Exec s.shape (s.told cloud) (served s.shape cloud full) (peers cloud) request reply q → Exec s.shape (s.told cloud) (served_at s cloud) (peers cloud) request reply q
-      by_rooms = subst (λ (f : List Command → Command → Option FullRoom). Exec s.shape (s.told cloud) (served s.shape cloud f) (peers cloud) request reply q) (is.rooms cloud lt)
+      by_rooms = subst (λ (f : List Command → Command → Option FullRoom). Exec s.shape (s.told cloud) (served s.shape cloud f) (peers cloud) request reply q) (full_is old.servers s cloud is.shape (is.rooms cloud lt))
 
   -- ---- images
 
@@ -133,53 +164,50 @@ module _ {V : Type 0} (clouds : V → ℕ → Cloud) (s : Setting) where
   listed cloud m rest last list settles = inr (m, contains_here m rest, inl settles)
 
   pub images_weaker : (old new : LocalLink V) (cloud : ℕ) (P Q : List Command → Type 0) → ((list : List Command) → P list → Q list)
-      → ImagesSince (clouds old.shelf.now cloud) (clouds new.shelf.now cloud) (header_of s.shape cloud) P
-      → ImagesSince (clouds old.shelf.now cloud) (clouds new.shelf.now cloud) (header_of s.shape cloud) Q
+      → ImagesSince (clouds old.shelf.now cloud) (clouds new.shelf.now cloud) (header_in s cloud) P
+      → ImagesSince (clouds old.shelf.now cloud) (clouds new.shelf.now cloud) (header_in s cloud) Q
   images_weaker old new cloud P Q less images =
-      weaker (clouds old.shelf.now cloud) (clouds new.shelf.now cloud) (StandsForSome (header_of s.shape cloud) P) (StandsForSome (header_of s.shape cloud) Q) images
+      weaker (clouds old.shelf.now cloud) (clouds new.shelf.now cloud) (StandsForSome (header_in s cloud) P) (StandsForSome (header_in s cloud) Q) images
       (λ image some. (some.0, less some.0 some.1, some.2))
 
   -- nothing moved
   pub images_still : (old new : LocalLink V) (peers : ℕ → Peer) (moments : List Moment) → LinkAt clouds s old peers → new ≡ old → Images clouds s old new moments peers
   images_still old new peers moments is same cloud lt told =
-      subst (λ (l : LocalLink V). ImagesSince (clouds old.shelf.now cloud) (clouds l.shelf.now cloud) (header_of s.shape cloud) (IsListIn s cloud moments peers)) (sym same)
+      subst (λ (l : LocalLink V). ImagesSince (clouds old.shelf.now cloud) (clouds l.shelf.now cloud) (header_in s cloud) (IsListIn s cloud moments peers)) (sym same)
       (images_weaker old old cloud (MaySettleAs (peers cloud)) (IsListIn s cloud moments peers) (λ list settles. inl settles)
-      (started (clouds old.shelf.now cloud) (StandsForSome (header_of s.shape cloud) (MaySettleAs (peers cloud))) (now_by old peers is cloud lt told)))
+      (started (clouds old.shelf.now cloud) (StandsForSome (header_in s cloud) (MaySettleAs (peers cloud))) (now_by old peers is cloud lt told)))
 
   -- one cloud moved, at the one moment of a line
   pub images_one : (old new : LocalLink V) (peers : ℕ → Peer) (moved : ℕ) (m : Moment) (last : ℕ → Peer) → LinkAt clouds s old peers → m.peers ≡ peers → LeavesRest clouds moved old new
-      → (moved < s.shape.n → IsTrue (s.told moved) → ImagesSince (clouds old.shelf.now moved) (clouds new.shelf.now moved) (header_of s.shape moved) (IsListIn s moved (m ∷ []) last))
+      → (moved < s.shape.n → IsTrue (s.told moved) → ImagesSince (clouds old.shelf.now moved) (clouds new.shelf.now moved) (header_in s moved) (IsListIn s moved (m ∷ []) last))
       → Images clouds s old new (m ∷ []) last
   images_one old new peers moved m last is same rest here cloud lt told = elim (cases_eq cloud moved) [
-    | inl e ↦ subst (λ (n : ℕ). ImagesSince (clouds old.shelf.now n) (clouds new.shelf.now n) (header_of s.shape n) (IsListIn s n (m ∷ []) last)) (sym e)
+    | inl e ↦ subst (λ (n : ℕ). ImagesSince (clouds old.shelf.now n) (clouds new.shelf.now n) (header_in s n) (IsListIn s n (m ∷ []) last)) (sym e)
         (here (subst (λ (n : ℕ). n < s.shape.n) e lt) (subst (λ (n : ℕ). IsTrue (s.told n)) e told))
     | inr ne ↦ images_weaker old new cloud (MaySettleAs (peers cloud)) (IsListIn s cloud (m ∷ []) last)
         (λ list settles. listed cloud m [] last list (subst (λ (f : ℕ → Peer). MaySettleAs (f cloud) list) (sym same) settles))
-        (left_alone (clouds old.shelf.now cloud) (clouds new.shelf.now cloud) (StandsForSome (header_of s.shape cloud) (MaySettleAs (peers cloud))) (rest.clouds_stay cloud ne) (now_by old peers is cloud lt told))
+        (left_alone (clouds old.shelf.now cloud) (clouds new.shelf.now cloud) (StandsForSome (header_in s cloud) (MaySettleAs (peers cloud))) (rest.clouds_stay cloud ne) (now_by old peers is cloud lt told))
   ]
 
   -- one cloud executed a request
   pub images_executed : (old new : LocalLink V) (peers : ℕ → Peer) (cloud : ℕ) (request : Request) (reply : Reply) (last : ℕ → Peer) → LinkAt clouds s old peers → LeavesRest clouds cloud old new
-      → (IsTrue (clouds old.shelf.now cloud).told → ImagesSince (clouds old.shelf.now cloud) (clouds new.shelf.now cloud) (header_of old.servers.shape cloud) (MayBecome (serving_at old cloud) (peers cloud) request))
+      → (IsTrue (clouds old.shelf.now cloud).told → ImagesSince (clouds old.shelf.now cloud) (clouds new.shelf.now cloud) (header_at old.servers cloud) (MayBecome (serving_at old cloud) (peers cloud) request))
       → Images clouds s old new (before_exec peers cloud request reply ∷ []) last
   images_executed old new peers cloud request reply last is rest images =
       images_one old new peers cloud m last is refl rest (λ lt told. images_weaker old new cloud (MayBecome (served_at s cloud) (peers cloud) request) (IsListIn s cloud (m ∷ []) last)
       (λ list become. inr (m, contains_here m [], inr (refl, become)))
-      (by_rooms lt (by_shape (images (subst (λ (b : Bool). IsTrue b) (sym (is.told cloud)) told)))))
+      (by_serving lt (by_header lt (images (subst (λ (b : Bool). IsTrue b) (sym (is.told cloud)) told)))))
     where
       m : Moment
       m = before_exec peers cloud request reply
 
-      full : List Command → Command → Option FullRoom
-      full = full_by (server_at old.servers cloud)
+      by_header : cloud < s.shape.n → ImagesSince (clouds old.shelf.now cloud) (clouds new.shelf.now cloud) (header_at old.servers cloud) (MayBecome (serving_at old cloud) (peers cloud) request)
+          → ImagesSince (clouds old.shelf.now cloud) (clouds new.shelf.now cloud) (header_in s cloud) (MayBecome (serving_at old cloud) (peers cloud) request)
+      by_header lt = subst (λ (h : Header). ImagesSince (clouds old.shelf.now cloud) (clouds new.shelf.now cloud) h (MayBecome (serving_at old cloud) (peers cloud) request)) (header_is old.servers s cloud is.shape (is.rooms cloud lt))
 
-      by_shape : ImagesSince (clouds old.shelf.now cloud) (clouds new.shelf.now cloud) (header_of old.servers.shape cloud) (MayBecome (serving_at old cloud) (peers cloud) request)
-          → ImagesSince (clouds old.shelf.now cloud) (clouds new.shelf.now cloud) (header_of s.shape cloud) (MayBecome (served s.shape cloud full) (peers cloud) request)
-      by_shape = subst (λ (sh : Shape). ImagesSince (clouds old.shelf.now cloud) (clouds new.shelf.now cloud) (header_of sh cloud) (MayBecome (served sh cloud full) (peers cloud) request)) is.shape
-
-      by_rooms : cloud < s.shape.n → ImagesSince (clouds old.shelf.now cloud) (clouds new.shelf.now cloud) (header_of s.shape cloud) (MayBecome (served s.shape cloud full) (peers cloud) request)
-          → ImagesSince (clouds old.shelf.now cloud) (clouds new.shelf.now cloud) (header_of s.shape cloud) (MayBecome (served_at s cloud) (peers cloud) request)
-      by_rooms lt = subst (λ (f : List Command → Command → Option FullRoom). ImagesSince (clouds old.shelf.now cloud) (clouds new.shelf.now cloud) (header_of s.shape cloud) (MayBecome (served s.shape cloud f) (peers cloud) request)) (is.rooms cloud lt)
+      by_serving : cloud < s.shape.n → ImagesSince (clouds old.shelf.now cloud) (clouds new.shelf.now cloud) (header_in s cloud) (MayBecome (serving_at old cloud) (peers cloud) request)
+          → ImagesSince (clouds old.shelf.now cloud) (clouds new.shelf.now cloud) (header_in s cloud) (MayBecome (served_at s cloud) (peers cloud) request)
+      by_serving lt = subst (λ (f : List Command → Request → Outcome). ImagesSince (clouds old.shelf.now cloud) (clouds new.shelf.now cloud) (header_in s cloud) (MayBecome f (peers cloud) request)) (serves_is old s cloud is.shape (is.rooms cloud lt))
 
   -- ---- lines that were cut
 

@@ -13,26 +13,26 @@ use Rattle.cd_edges.specs.Causes.{Rose}
 use Rattle.cd_edges.specs.Disk.{Areas, Cloud, Image, IsImage, LeavesOnly}
 use Rattle.cd_edges.specs.Shelf.{Arms, HasFailed, KeepsCounts}
 use Rattle.cd_edges.proofs.Moments.{at_end}
-use Rattle.commit_journal.specs.declared.errors.OpenErr.{OpenErr}
-use Rattle.commit_journal.specs.declared.errors.OpenErr.TheVariants as errors
-use Rattle.commit_journal.specs.declared.header.Header.{Header}
-use Rattle.commit_journal.specs.Openings.{OnFault}
+use Rattle.half_journal.specs.declared.errors.OpenErr.{OpenErr}
+use Rattle.half_journal.specs.declared.errors.OpenErr.TheVariants as errors
+use Rattle.journal_start.specs.declared.start.Header.{Header}
+use Rattle.half_journal.specs.Openings.{OnFault}
 use Rattle.messages.specs.declared.request.Request.{Request}
 use Rattle.messages.specs.Requests.{request_bytes}
 use Rattle.user_dedup.specs.declared.command.Command.{Command}
 use Rattle.user_dedup.specs.Dedup.{FullRoom}
 use Rattle.user_dedup.specs.Requests.{asked_at}
 use Rattle.user_dedup.specs.Exec.{Peer, MaySettleAs, Stays, CountsOn}
-use Rattle.user_dedup.specs.Link.{LeavesOthers, Talk}
-use Rattle.cloud_store.specs.Standing.{StandsForSome, ImagesNow, ImagesSince}
+use Rattle.user_dedup.specs.Link.{LeavesOthers, Talk, ReadsFrom}
+use Rattle.cloud_areas.specs.Peers.{StandsForSome, ImagesNow, ImagesSince}
 use Rattle.restore_job.specs.Asking.{PeersOf, OnlyRead, Leads, Asked, is_lost, TellsAll}
 use Rattle.restore_job.specs.Refusals.{Names, Causes}
 use Rattle.restore_job.specs.declared.error.RestoreErr.{RestoreErr}
 use Rattle.restore_job.specs.declared.error.RestoreErr.TheVariants as restore_errors
 use Rattle.subset_restore.specs.Ends.{AnyEnds}
 use Rattle.subset_restore.specs.Going.{sought}
-use Rattle.share_server.specs.declared.server.Server.{Server}
-use Rattle.share_server.specs.Serving.{ReopensAs}
+use Rattle.cloud_server.specs.declared.server.Server.{Server}
+use Rattle.cloud_server.specs.Serving.{ReopensAs}
 use Rattle.upload_job.specs.Lanes.{LaneView, lanes_begun, request_at, IsAsked}
 use Rattle.lane_steps.specs.Reached.{IsReached}
 use Rattle.kept_files.specs.Kept.{key_of}
@@ -40,10 +40,10 @@ use Rattle.local_link.specs.declared.fate.Fate.{Fate}
 use Rattle.local_link.specs.declared.fate.Fate.TheVariants as fates
 use Rattle.local_link.specs.declared.fate.Fate.TheVariants.{Deliver}
 use Rattle.local_link.specs.declared.link.LocalLink.{LocalLink}
-use Rattle.local_link.specs.Tells.{server_at, is_delivered, telling, StandsAt, LeavesRest}
-use Rattle.local_link.specs.Calls.{header_of, Armed}
+use Rattle.local_link.specs.declared.servers.Servers.{Servers}
+use Rattle.local_link.specs.Tells.{rooms_at, header_at, is_delivered, telling, StandsAt, LeavesRest}
+use Rattle.local_link.specs.Calls.{Armed}
 use Rattle.local_link.proofs.Passing.{read_images, read_others, read_same}
-use Rattle.local_link.proofs.Standing.{some_server, known_of, header_same}
 use Rattle.session.specs.declared.event.Event.TheVariants as events
 use Rattle.session.specs.Spelling.{AreSources}
 use Rattle.transcript.specs.declared.line.Line.{Line}
@@ -54,15 +54,15 @@ use Rattle.session_model.specs.Steps.{Moment, quiet, cloud_no, version_of, lose_
 use Rattle.session_model.specs.Run.{IsListIn}
 use Rattle.session_model.specs.Headline.{IsPartOf}
 use Rattle.session.specs.Texts.{text_of}
-use Rattle.script_lines.specs.At.{LinkAt, IsAt, Leaves}
+use Rattle.script_lines.specs.At.{LinkAt, IsAt, Leaves, header_in}
 use Rattle.script_lines.specs.Does.{Images, Goes, Cut}
 use Rattle.script_lines.specs.Jobs.{job_lanes}
 use Rattle.script_lines.specs.Dropping.{Executed, Drops}
 use Rattle.script_lines.proofs.Getting.{GetsIf, got_by}
 use Rattle.script_lines.proofs.Walking.{views_are}
-use Rattle.share_server.specs.Damage.{IsDamage}
+use Rattle.cloud_server.specs.Refusals.{IsDamage}
 use Rattle.script_lines.specs.Stepping.{IsOpening}
-use Rattle.script_lines.proofs.Going.{put, put_here, put_other, before_exec, now_by, moves, executes, listed, images_weaker, images_still, images_one, images_executed}
+use Rattle.script_lines.proofs.Going.{put, put_here, put_other, before_exec, now_by, moves, executes, listed, images_weaker, images_still, images_one, images_executed, header_is, asks_rooms}
 
 -- ---- a new job
 
@@ -135,7 +135,7 @@ module _ {V : Type 0} (clouds : V → ℕ → Cloud) (s : Setting) (job cloud : 
       record {
         moments = before_exec v.peers cloud r went.1 ∷ [];
         after = record { peers = put v.peers cloud went.0; jobs = v.jobs };
-        is_at = record { link_at = moves clouds s old new v.peers cloud went.0 is.link_at x.others x.rest x.fate went.2; jobs_are = is.jobs_are };
+        is_at = record { link_at = moves clouds s old new v.peers cloud went.0 is.link_at x.others x.rest x.rooms x.fate went.2; jobs_are = is.jobs_are };
         step = (went.1, executes clouds s old v.peers cloud r went.1 went.0 is.link_at lt went.3, refl, refl, refl);
         images = images_executed clouds s old new v.peers cloud r went.1 (put v.peers cloud went.0) is.link_at x.rest (λ told. x.images r (v.peers cloud) read told (is.link_at.stands cloud lt));
       }
@@ -171,16 +171,16 @@ module _ {V : Type 0} (clouds : V → ℕ → Cloud) (s : Setting) where
   pub arm_goes : (old new : LocalLink V) (cloud : CloudNo) (calls keep : ℕ) (jobs : List (List LaneView)) (v : Vault) → cloud.0 < old.servers.shape.n
       → Arms (clouds old.shelf.now cloud.0) (clouds new.shelf.now cloud.0) calls keep
       → ((p : Peer) → StandsAt clouds old cloud.0 p → (q : Peer) × StandsAt clouds new cloud.0 q × Armed p q)
-      → LeavesOthers (telling clouds) cloud.0 old new → LeavesRest clouds cloud.0 old new → new.fate ≡ old.fate → IsAt clouds s old jobs v
+      → LeavesOthers (telling clouds) cloud.0 old new → LeavesRest clouds cloud.0 old new → new.servers ≡ old.servers → new.fate ≡ old.fate → IsAt clouds s old jobs v
       → Goes clouds s (events.Arm cloud calls keep) old new jobs v (lines.Armed cloud ∷ [])
-  arm_goes old new cloud calls keep jobs v below arms armed others rest fate is =
+  arm_goes old new cloud calls keep jobs v below arms armed others rest servers fate is =
       let lt : cloud.0 < s.shape.n = subst (λ (sh : Shape). cloud.0 < sh.n) is.link_at.shape below in
       let went = armed (v.peers cloud.0) (is.link_at.stands cloud.0 lt) in
       let last = put v.peers cloud.0 went.0 in
       record {
         moments = quiet v.peers;
         after = record { peers = last; jobs = v.jobs };
-        is_at = record { link_at = moves clouds s old new v.peers cloud.0 went.0 is.link_at others rest (fate ∙ is.link_at.fate) went.1; jobs_are = is.jobs_are };
+        is_at = record { link_at = moves clouds s old new v.peers cloud.0 went.0 is.link_at others rest (ap (λ (x : Servers). rooms_at x cloud.0) servers) (fate ∙ is.link_at.fate) went.1; jobs_are = is.jobs_are };
         step = (
           record {
             goes = subst (Armed (v.peers cloud.0)) (sym (put_here v.peers cloud.0 went.0)) went.2;
@@ -203,11 +203,11 @@ module _ {V : Type 0} (clouds : V → ℕ → Cloud) (s : Setting) where
         ];
       }
 
-      still : (c : ℕ) (m : Moment) (last : ℕ → Peer) → Arms (clouds old.shelf.now c) (clouds new.shelf.now c) calls keep → ImagesNow (clouds old.shelf.now c) (header_of s.shape c) (MaySettleAs (v.peers c)) → m.peers ≡ v.peers
-          → ImagesSince (clouds old.shelf.now c) (clouds new.shelf.now c) (header_of s.shape c) (IsListIn s c (m ∷ []) last)
+      still : (c : ℕ) (m : Moment) (last : ℕ → Peer) → Arms (clouds old.shelf.now c) (clouds new.shelf.now c) calls keep → ImagesNow (clouds old.shelf.now c) (header_in s c) (MaySettleAs (v.peers c)) → m.peers ≡ v.peers
+          → ImagesSince (clouds old.shelf.now c) (clouds new.shelf.now c) (header_in s c) (IsListIn s c (m ∷ []) last)
       still c m last a now same = images_weaker clouds s old new c (MaySettleAs (v.peers c)) (IsListIn s c (m ∷ []) last)
           (λ list settles. listed clouds s c m [] last list (subst (λ (f : ℕ → Peer). MaySettleAs (f c) list) (sym same) settles))
-          (armed_only (clouds old.shelf.now c) (clouds new.shelf.now c) (StandsForSome (header_of s.shape c) (MaySettleAs (v.peers c))) a.past a.now now)
+          (armed_only (clouds old.shelf.now c) (clouds new.shelf.now c) (StandsForSome (header_in s c) (MaySettleAs (v.peers c))) a.past a.now now)
 
 -- ---- a cloud is opened again
 
@@ -235,18 +235,14 @@ on_opening cloud (Ok commands) line is = is
 on_opening cloud (Err errors.Fault) line is = is
 on_opening cloud (Err (errors.NotBegun len)) line is = (is.0, is.1, is.2)
 on_opening cloud (Err (errors.Damaged at byte)) line is = (is.0, is.1, is.2)
-on_opening cloud (Err (errors.OtherStore found asked)) line is = (is.0, is.1, is.2)
-on_opening cloud (Err (errors.RoomsTooSmall room limit at)) line is = (is.0, is.1, is.2)
-on_opening cloud (Err errors.NoMemory) line is = (is.0, is.1, is.2)
+on_opening cloud (Err (errors.OtherStore found asked place)) line is = (is.0, is.1, is.2)
 
 -- the line of an opening that failed otherwise
 pub damaged_line : (cloud : ℕ) (error : OpenErr) (at byte : ℕ) → (error ≡ errors.Fault → ⊥) → IsDamage error at byte → IsOpening cloud (Err error) (lines.Damaged (cloud_no cloud) at byte)
 damaged_line cloud errors.Fault at byte other is = absurd (other refl)
 damaged_line cloud (errors.NotBegun len) at byte other is = (at, byte, refl, is)
 damaged_line cloud (errors.Damaged place found) at byte other is = (at, byte, refl, is)
-damaged_line cloud (errors.OtherStore found asked) at byte other is = (at, byte, refl, is)
-damaged_line cloud (errors.RoomsTooSmall room limit gate) at byte other is = (at, byte, refl, is)
-damaged_line cloud errors.NoMemory at byte other is = (at, byte, refl, is)
+damaged_line cloud (errors.OtherStore found asked place) at byte other is = (at, byte, refl, is)
 
 -- a fault comes only where the count rose
 fault_rose : (result : Result ℕ OpenErr) (p q : Peer) (old new : Cloud) (before now : ℕ) → OnFault result (HasFailed old new before now) (KeepsCounts old new before now) → p.faults ≡ old.faults → q.faults ≡ new.faults → IsFault result → Rose p.faults q.faults
@@ -254,9 +250,7 @@ fault_rose (Err errors.Fault) p q old new before now counts e f is = subst (λ (
 fault_rose (Ok commands) p q old new before now counts e f is = absurd is
 fault_rose (Err (errors.NotBegun len)) p q old new before now counts e f is = absurd is
 fault_rose (Err (errors.Damaged at byte)) p q old new before now counts e f is = absurd is
-fault_rose (Err (errors.OtherStore found asked)) p q old new before now counts e f is = absurd is
-fault_rose (Err (errors.RoomsTooSmall room limit at)) p q old new before now counts e f is = absurd is
-fault_rose (Err errors.NoMemory) p q old new before now counts e f is = absurd is
+fault_rose (Err (errors.OtherStore found asked place)) p q old new before now counts e f is = absurd is
 
 module _ {V : Type 0} (clouds : V → ℕ → Cloud) (s : Setting) (old new : LocalLink V) (cloud : ℕ) (result : Result ℕ OpenErr) where
   -- what an opening ensures
@@ -264,8 +258,9 @@ module _ {V : Type 0} (clouds : V → ℕ → Cloud) (s : Setting) (old new : Lo
     pub peer : (p : Peer) → IsTrue (clouds old.shelf.now cloud).told → StandsAt clouds old cloud p → (q : Peer) × StandsAt clouds new cloud q × ReopensAs true p q result
     pub untold : (p : Peer) → (clouds old.shelf.now cloud).told ≡ false → StandsAt clouds old cloud p → (q : Peer) × StandsAt clouds new cloud q × Stays p q × CountsOn p q
     pub counts : OnFault result (HasFailed (clouds old.shelf.now cloud) (clouds new.shelf.now cloud) before now) (KeepsCounts (clouds old.shelf.now cloud) (clouds new.shelf.now cloud) before now)
-    pub images : IsTrue (clouds old.shelf.now cloud).told → (lists : List (List Command)) → IsSomeAnd (server_at old.servers cloud) (λ (server : Server).
-        ImagesNow (clouds old.shelf.now cloud) server.state.header (Contains lists) → ImagesSince (clouds old.shelf.now cloud) (clouds new.shelf.now cloud) server.state.header (Contains lists))
+    pub images : IsTrue (clouds old.shelf.now cloud).told → (lists : List (List Command)) → ImagesNow (clouds old.shelf.now cloud) (header_at old.servers cloud) (Contains lists)
+        → ImagesSince (clouds old.shelf.now cloud) (clouds new.shelf.now cloud) (header_at old.servers cloud) (Contains lists)
+    pub rooms : rooms_at new.servers cloud ≡ rooms_at old.servers cloud
 
   opens_to : (before now : ℕ) (peers : ℕ → Peer) → Opened before now → LinkAt clouds s old peers → cloud < s.shape.n → (line : Line) → IsOpening cloud result line
       → (q : Peer) × StandsAt clouds new cloud q × RestartStep s cloud line (peers cloud) q
@@ -299,7 +294,7 @@ module _ {V : Type 0} (clouds : V → ℕ → Cloud) (s : Setting) (old new : Lo
       record {
         moments = quiet v.peers;
         after = record { peers = last; jobs = v.jobs };
-        is_at = record { link_at = moves clouds s old new v.peers cloud went.0 is.link_at others rest (fate ∙ is.link_at.fate) went.1; jobs_are = is.jobs_are };
+        is_at = record { link_at = moves clouds s old new v.peers cloud went.0 is.link_at others rest o.rooms (fate ∙ is.link_at.fate) went.1; jobs_are = is.jobs_are };
         step = (
           line,
           record {
@@ -313,15 +308,13 @@ module _ {V : Type 0} (clouds : V → ℕ → Cloud) (s : Setting) (old new : Lo
         images = images_one clouds s old new v.peers cloud (record { peers = v.peers; event = None }) last is.link_at refl rest (λ lt told. seen lt told last);
       }
     where
-      seen : cloud < s.shape.n → IsTrue (s.told cloud) → (last : ℕ → Peer) → ImagesSince (clouds old.shelf.now cloud) (clouds new.shelf.now cloud) (header_of s.shape cloud) (IsListIn s cloud (record { peers = v.peers; event = None } ∷ []) last)
+      seen : cloud < s.shape.n → IsTrue (s.told cloud) → (last : ℕ → Peer) → ImagesSince (clouds old.shelf.now cloud) (clouds new.shelf.now cloud) (header_in s cloud) (IsListIn s cloud (record { peers = v.peers; event = None } ∷ []) last)
       seen lt told last =
           let p = v.peers cloud in
-          let here = some_server old.servers cloud below in
-          let header : here.0.state.header ≡ header_of s.shape cloud = header_same old.servers.shape cloud here.0 (old.servers.are_servers.each cloud here.0 here.1) ∙ ap (λ (sh : Shape). header_of sh cloud) is.link_at.shape in
           let lists = lists_for p.list p.pending in
-          let run = known_of (server_at old.servers cloud) here.0 (λ (server : Server). ImagesNow (clouds old.shelf.now cloud) server.state.header (Contains lists) → ImagesSince (clouds old.shelf.now cloud) (clouds new.shelf.now cloud) server.state.header (Contains lists))
-          here.1 (o.images (is.link_at.told cloud ∙ told) lists) in
-          let by_header = subst (λ (h : Header). ImagesNow (clouds old.shelf.now cloud) h (Contains lists) → ImagesSince (clouds old.shelf.now cloud) (clouds new.shelf.now cloud) h (Contains lists)) header run in
+          let run = o.images (is.link_at.told cloud ∙ told) lists in
+          let by_header = subst (λ (h : Header). ImagesNow (clouds old.shelf.now cloud) h (Contains lists) → ImagesSince (clouds old.shelf.now cloud) (clouds new.shelf.now cloud) h (Contains lists))
+          (header_is old.servers s cloud is.link_at.shape (is.link_at.rooms cloud lt)) run in
           images_weaker clouds s old new cloud (Contains lists) (IsListIn s cloud (record { peers = v.peers; event = None } ∷ []) last)
           (λ list has. listed clouds s cloud (record { peers = v.peers; event = None }) [] last list (settles_in p.list p.pending list has))
           (by_header (λ image at. let x = now_by clouds s old v.peers is.link_at cloud lt told image at in (x.0, listed_in p.list p.pending x.0 x.1, x.2)))
@@ -404,9 +397,9 @@ module _ {V : Type 0} (clouds : V → ℕ → Cloud) (s : Setting) (old new : Lo
     shape_is x = subst x is.shape
 
     -- each image since the line began
-    pub read_since : (c : ℕ) → c < s.shape.n → IsTrue (s.told c) → ImagesSince (clouds old.shelf.now c) (clouds new.shelf.now c) (header_of s.shape c) (MaySettleAs (v.peers c))
+    pub read_since : (c : ℕ) → c < s.shape.n → IsTrue (s.told c) → ImagesSince (clouds old.shelf.now c) (clouds new.shelf.now c) (header_in s c) (MaySettleAs (v.peers c))
     read_since c lt told =
-        subst (λ (sh : Shape). ImagesSince (clouds old.shelf.now c) (clouds new.shelf.now c) (header_of sh c) (MaySettleAs (v.peers c))) is.shape
+        subst (λ (h : Header). ImagesSince (clouds old.shelf.now c) (clouds new.shelf.now c) h (MaySettleAs (v.peers c))) (header_is old.servers s c is.shape (is.rooms c lt))
         (read_images clouds named r.asked.asks old new c (v.peers c) r.asked.passed (subst (λ (sh : Shape). c < sh.n) (sym is.shape) lt) (is.told c ∙ told) (is.stands c lt))
 
     gone : AreSources old.servers.shape named → (after : ℕ → Peer) × PeersOf (telling clouds) new (λ c. nat_lt c old.servers.shape.n) after × OnlyRead named v.peers after
@@ -427,7 +420,7 @@ module _ {V : Type 0} (clouds : V → ℕ → Cloud) (s : Setting) (old new : Lo
             link_at = record {
               shape = r.asked.shape ∙ is.shape;
               told = λ c. ap (λ (f : ℕ → Bool). f c) r.asked.told ∙ is.told c;
-              rooms = λ c lt. ap (λ (f : ℕ → List Command → Command → Option FullRoom). f c) r.asked.full ∙ is.rooms c lt;
+              rooms = λ c lt. asks_rooms clouds (ReadsFrom named) r.asked.asks old new r.asked.passed c ∙ is.rooms c lt;
               fate = still_delivers new.fate kept.1;
               stands = λ c lt. went.1 c (lt-ltb c old.servers.shape.n (subst (λ (sh : Shape). c < sh.n) (sym is.shape) lt));
             };
@@ -464,7 +457,7 @@ module _ {V : Type 0} (clouds : V → ℕ → Cloud) (s : Setting) (old new : Lo
           left = record {
             faults = λ c lt. let n = (went.2.read c).1.faults in let e = (stands_now went.0 went.1 c lt).faults in subst (λ (x : ℕ). (v.peers c).faults ≤ x) e n;
             armings = λ c lt. sym (went.2.read c).1.armings ∙ (stands_now went.0 went.1 c lt).armings;
-            images = λ c lt told. at_end (clouds old.shelf.now c) (clouds new.shelf.now c) (StandsForSome (header_of s.shape c) (MaySettleAs (v.peers c))) (read_since c lt told);
+            images = λ c lt told. at_end (clouds old.shelf.now c) (clouds new.shelf.now c) (StandsForSome (header_in s c) (MaySettleAs (v.peers c))) (read_since c lt told);
           };
           images = λ c lt told. images_weaker clouds s old new c (MaySettleAs (v.peers c)) (IsListIn s c [] v.peers) (λ list settles. inl settles) (read_since c lt told);
         }

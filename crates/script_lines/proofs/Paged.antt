@@ -30,7 +30,7 @@ use Rattle.user_dedup.proofs.Asked.{asked_law}
 use Rattle.upload_job.specs.Lanes.{LaneView}
 use Rattle.lane_steps.specs.Runs.{Turn}
 use Rattle.local_link.specs.declared.link.LocalLink.{LocalLink}
-use Rattle.local_link.specs.Tells.{server_at, full_by, telling, PassesOn}
+use Rattle.local_link.specs.Tells.{full_at, telling, PassesOn}
 use Rattle.session.specs.declared.event.Event.TheVariants as events
 use Rattle.transcript.specs.declared.refusal.Refusal.{Refusal}
 use Rattle.transcript.specs.declared.refusal.Refusal.TheVariants as refusals
@@ -125,12 +125,12 @@ module _ {V : Type 0} (clouds : V → ℕ → Cloud) (s : Setting) (user : UserI
       let asked : asked_at old.servers.shape content ≡ Ok r = (asked_law old.servers.shape content r passes.bytes).1 (record { asked = request; recipe = tt }) in
       let went = asks r asked (peers cloud) (is.stands cloud lt) in
       let reply = went.2.0 in
-      let kind = list_reply old.servers.shape (clouds old.shelf.now cloud).told cloud (full_by (server_at old.servers cloud)) (peers cloud) went.0 user above reply bytes went.2.1 went.2.2 in
+      let kind = list_reply old.servers.shape (clouds old.shelf.now cloud).told cloud (full_at old.servers cloud) (peers cloud) went.0 user above reply bytes went.2.1 went.2.2 in
       record {
         left = put peers cloud went.0;
         reply = reply;
         exec = executes clouds s old peers cloud r reply went.0 is lt went.2.2;
-        link_at = moves clouds s old new peers cloud went.0 is others passes.rest passes.fate went.1;
+        link_at = moves clouds s old new peers cloud went.0 is others passes.rest passes.rooms passes.fate went.1;
         images = λ last. images_executed clouds s old new peers cloud r reply last is passes.rest (λ told. passes.images (peers cloud) r told (is.stands cloud lt) asked);
         kind = kind;
         so = takes reply went.2.1 kind;

@@ -13,22 +13,21 @@ use Rattle.user_dedup.specs.Dedup.{FullRoom}
 use Rattle.user_dedup.specs.Exec.{Peer, MaySettleAs, served}
 use Rattle.user_dedup.specs.Link.{LinkTelling, Talk, serves}
 use Rattle.user_dedup.proofs.Owned.{contains_cases, contains_here, contains_later, contains_nothing}
-use Rattle.cloud_store.specs.Standing.{StandsForSome, ImagesSince, MayBecome}
+use Rattle.cloud_areas.specs.Peers.{StandsForSome, ImagesSince, MayBecome}
 use Rattle.upload_job.specs.Lanes.{LaneView}
 use Rattle.lane_steps.specs.Runs.{Turn}
 use Rattle.local_link.specs.declared.fate.Fate.{Fate}
 use Rattle.local_link.specs.declared.fate.Fate.TheVariants as fates
 use Rattle.local_link.specs.declared.fate.Fate.TheVariants.{Deliver}
 use Rattle.local_link.specs.declared.link.LocalLink.{LocalLink}
-use Rattle.local_link.specs.Tells.{is_delivered, server_at, full_by, telling, StandsAt}
-use Rattle.local_link.specs.Calls.{header_of}
+use Rattle.local_link.specs.Tells.{is_delivered, full_at, telling, StandsAt}
 use Rattle.restore_job.specs.Asking.{TellsAll}
 use Rattle.restore_job.specs.declared.error.RestoreErr.TheVariants as restore_errors
 use Rattle.rebuild.specs.declared.error.RebuildErr.{RebuildErr}
 use Rattle.rebuild.specs.declared.error.RebuildErr.TheVariants as errors
 use Rattle.rebuild.specs.declared.skips.Rebuilt.{Rebuilt}
 use Rattle.rebuild.specs.Rebuilding.{LeavesBut, RunsTo, IsCut}
-use Rattle.rebuild.specs.Over.{Asked, Causes, HandsOn, Holds, Leads, TargetAlong, ThenLost, is_lost}
+use Rattle.rebuild.specs.Over.{Asked, Causes, HandsOn, Holds, Leads, TargetAlong, ThenLost, is_lost, AsksFor}
 use Rattle.rebuild.specs.Turns.{OwnLanes, SaidLast}
 use Rattle.rebuild.specs.Kept.{Refills}
 use Rattle.session.specs.Spelling.{AreClouds}
@@ -42,10 +41,11 @@ use Rattle.session_model.specs.Steps.{Moment, quiet, cloud_no, told_so, skip_lin
 use Rattle.session_model.specs.Run.{IsListIn}
 use Rattle.session_model.specs.Headline.{IsPartOf}
 use Rattle.session_model.proofs.With.{with_here, with_other}
-use Rattle.script_lines.specs.At.{LinkAt}
+use Rattle.script_lines.specs.At.{LinkAt, header_in}
 use Rattle.script_lines.specs.Does.{Images, IsLeft, Goes, Cut}
-use Rattle.script_lines.proofs.Going.{now_by, images_weaker, listed, cut_behind}
+use Rattle.script_lines.proofs.Going.{now_by, images_weaker, listed, cut_behind, header_is, full_is, asks_rooms}
 use Rattle.script_lines.proofs.Turned.{TargetAt, asks_images, along_all, along_since}
+use Rattle.journal_start.specs.declared.start.Header.{Header}
 
 -- ---- results
 
@@ -176,8 +176,8 @@ module _ {V : Type 0} (clouds : V → ℕ → Cloud) (talk : LocalLink V → ℕ
     told_of after turns at same by all =
         let x = by (λ c has. is.told c ∙ all c has) in
         subst (λ (f : List Command → Command → Option FullRoom). RunsTo s.shape user target.0 (served s.shape target.0 f) from result turns v.peers (after target.0) after × Refills s.shape target.0 from user after result)
-        (is.rooms target.0 (subst (λ (sh : Shape). target.0 < sh.n) is.shape below))
-        (subst (λ (sh : Shape). RunsTo sh user target.0 (served sh target.0 (full_by (server_at old.servers target.0))) from result turns v.peers (after target.0) after × Refills sh target.0 from user after result) is.shape
+        (full_is old.servers s target.0 is.shape (is.rooms target.0 (subst (λ (sh : Shape). target.0 < sh.n) is.shape below)))
+        (subst (λ (sh : Shape). RunsTo sh user target.0 (served sh target.0 (full_at old.servers target.0)) from result turns v.peers (after target.0) after × Refills sh target.0 from user after result) is.shape
         (subst (λ (p : Peer). RunsTo old.servers.shape user target.0 (serves (telling clouds) old target.0) from result turns v.peers p after) (sym same) x.0, x.1))
 
     went : Went
@@ -204,14 +204,14 @@ module _ {V : Type 0} (clouds : V → ℕ → Cloud) (talk : LocalLink V → ℕ
     executes w = along_all clouds talk s target.0 from apart old new (v.peers target.0) w.turns (w.after target.0) w.along target_at
 
     -- each image since the line began, of a cloud that is only read
-    read_since : (c : ℕ) → c ≢ target.0 → c < s.shape.n → IsTrue (s.told c) → ImagesSince (clouds old.shelf.now c) (clouds new.shelf.now c) (header_of s.shape c) (MaySettleAs (v.peers c))
+    read_since : (c : ℕ) → c ≢ target.0 → c < s.shape.n → IsTrue (s.told c) → ImagesSince (clouds old.shelf.now c) (clouds new.shelf.now c) (header_in s c) (MaySettleAs (v.peers c))
     read_since c ne lt told =
-        subst (λ (sh : Shape). ImagesSince (clouds old.shelf.now c) (clouds new.shelf.now c) (header_of sh c) (MaySettleAs (v.peers c))) is.shape
+        subst (λ (h : Header). ImagesSince (clouds old.shelf.now c) (clouds new.shelf.now c) h (MaySettleAs (v.peers c))) (header_is old.servers s c is.shape (is.rooms c lt))
         (asks_images clouds target.0 from came.asked.asks old new c (v.peers c) ne came.asked.passed (lt_old c lt) (is.told c ∙ told) (is.stands c lt))
 
     -- and of the target
     target_since : (w : Went) (moments : List Moment) (last : ℕ → Peer) → last target.0 ≡ w.after target.0 → ((t : Turn Peer) → Contains w.turns t → Contains moments (turn_moment v.peers target.0 t))
-        → target.0 < s.shape.n → IsTrue (s.told target.0) → ImagesSince (clouds old.shelf.now target.0) (clouds new.shelf.now target.0) (header_of s.shape target.0) (IsListIn s target.0 moments last)
+        → target.0 < s.shape.n → IsTrue (s.told target.0) → ImagesSince (clouds old.shelf.now target.0) (clouds new.shelf.now target.0) (header_in s target.0) (IsListIn s target.0 moments last)
     target_since w moments last end among lt told =
         along_since clouds talk s target.0 from apart told lt (IsListIn s target.0 moments last) old new (v.peers target.0) w.turns (w.after target.0) w.along target_at (is.stands target.0 lt)
         (λ list settles. inl (subst (λ (p : Peer). MaySettleAs p list) (sym end) settles))
@@ -220,7 +220,7 @@ module _ {V : Type 0} (clouds : V → ℕ → Cloud) (talk : LocalLink V → ℕ
     images_by : (w : Went) (moments : List Moment) (last : ℕ → Peer) → last target.0 ≡ w.after target.0
         → ((t : Turn Peer) → Contains w.turns t → Contains (quiet v.peers ++ moments) (turn_moment v.peers target.0 t)) → Images clouds s old new (quiet v.peers ++ moments) last
     images_by w moments last end among c lt told = elim (cases_eq c target.0) [
-      | inl same ↦ subst (λ (n : ℕ). ImagesSince (clouds old.shelf.now n) (clouds new.shelf.now n) (header_of s.shape n) (IsListIn s n (quiet v.peers ++ moments) last)) (sym same)
+      | inl same ↦ subst (λ (n : ℕ). ImagesSince (clouds old.shelf.now n) (clouds new.shelf.now n) (header_in s n) (IsListIn s n (quiet v.peers ++ moments) last)) (sym same)
           (target_since w (quiet v.peers ++ moments) last end among (subst (λ (n : ℕ). n < s.shape.n) same lt) (subst (λ (n : ℕ). IsTrue (s.told n)) same told))
       | inr ne ↦ images_weaker clouds s old new c (MaySettleAs (v.peers c)) (IsListIn s c (quiet v.peers ++ moments) last)
           (λ list settles. listed clouds s c (record { peers = v.peers; event = None }) moments last list settles) (read_since c ne lt told)
@@ -267,7 +267,7 @@ module _ {V : Type 0} (clouds : V → ℕ → Cloud) (talk : LocalLink V → ℕ
             link_at = record {
               shape = came.asked.shape ∙ is.shape;
               told = λ c. ap (λ (f : ℕ → Bool). f c) came.asked.told ∙ is.told c;
-              rooms = λ c lt. ap (λ (f : ℕ → List Command → Command → Option FullRoom). f c) came.asked.full ∙ is.rooms c lt;
+              rooms = λ c lt. asks_rooms clouds (AsksFor target.0 from) came.asked.asks old new came.asked.passed c ∙ is.rooms c lt;
               fate = still_delivers new.fate kept.1;
               stands = w.stands;
             };
@@ -314,9 +314,9 @@ module _ {V : Type 0} (clouds : V → ℕ → Cloud) (talk : LocalLink V → ℕ
         | inr ne ↦ ap (λ (p : Peer). p.armings) (with_other v.peers target.0 (w.after target.0) c ne) ∙ (sym (w.leaves.read c ne).1.armings ∙ (w.stands c lt).armings)
       ];
       images = λ c lt told. elim (cases_eq c target.0) [
-        | inl same ↦ subst (λ (p : Peer). (image : Image) → IsImage (clouds new.shelf.now c).now image → StandsForSome (header_of s.shape c) (MaySettleAs p) image) (sym (there c same)) (now_by clouds s new w.after (link_by w) c lt told)
-        | inr ne ↦ subst (λ (p : Peer). (image : Image) → IsImage (clouds new.shelf.now c).now image → StandsForSome (header_of s.shape c) (MaySettleAs p) image) (sym (with_other v.peers target.0 (w.after target.0) c ne))
-            (at_end (clouds old.shelf.now c) (clouds new.shelf.now c) (StandsForSome (header_of s.shape c) (MaySettleAs (v.peers c))) (read_since c ne lt told))
+        | inl same ↦ subst (λ (p : Peer). (image : Image) → IsImage (clouds new.shelf.now c).now image → StandsForSome (header_in s c) (MaySettleAs p) image) (sym (there c same)) (now_by clouds s new w.after (link_by w) c lt told)
+        | inr ne ↦ subst (λ (p : Peer). (image : Image) → IsImage (clouds new.shelf.now c).now image → StandsForSome (header_in s c) (MaySettleAs p) image) (sym (with_other v.peers target.0 (w.after target.0) c ne))
+            (at_end (clouds old.shelf.now c) (clouds new.shelf.now c) (StandsForSome (header_in s c) (MaySettleAs (v.peers c))) (read_since c ne lt told))
       ];
     }
       where
@@ -333,7 +333,7 @@ module _ {V : Type 0} (clouds : V → ℕ → Cloud) (talk : LocalLink V → ℕ
         link_by w = record {
           shape = came.asked.shape ∙ is.shape;
           told = λ c. ap (λ (f : ℕ → Bool). f c) came.asked.told ∙ is.told c;
-          rooms = λ c lt. ap (λ (f : ℕ → List Command → Command → Option FullRoom). f c) came.asked.full ∙ is.rooms c lt;
+          rooms = λ c lt. asks_rooms clouds (AsksFor target.0 from) came.asked.asks old new came.asked.passed c ∙ is.rooms c lt;
           fate = still_delivers new.fate kept.1;
           stands = w.stands;
         }

@@ -12,24 +12,23 @@ use Rattle.cd_edges.specs.Disk.{Cloud, Image, IsImage}
 use Rattle.cd_edges.specs.Shelf.{IsCall, HasFailed, KeepsCounts, Refreshes}
 use Rattle.cd_edges.specs.Shelf as shelves
 use Rattle.cd_edges.proofs.Moments.{weaker, joined, stayed, left_alone, at_end}
-use Rattle.commit_journal.specs.declared.errors.OpenErr.{OpenErr}
-use Rattle.commit_journal.specs.declared.errors.OpenErr.TheVariants as errors
-use Rattle.commit_journal.specs.declared.header.Header.{Header}
-use Rattle.commit_journal.specs.Openings.{OnFault}
+use Rattle.half_journal.specs.declared.errors.OpenErr.{OpenErr}
+use Rattle.half_journal.specs.declared.errors.OpenErr.TheVariants as errors
+use Rattle.journal_start.specs.declared.start.Header.{Header}
+use Rattle.half_journal.specs.Openings.{OnFault}
 use Rattle.user_dedup.specs.declared.command.Command.{Command}
 use Rattle.user_dedup.specs.Exec.{Peer, MaySettleAs}
 use Rattle.user_dedup.specs.Link.{LeavesOthers}
 use Rattle.user_dedup.proofs.Owned.{contains_here, contains_cases, contains_nothing}
-use Rattle.cloud_store.specs.Standing.{StandsForSome, ImagesNow, ImagesSince}
-use Rattle.share_server.specs.declared.server.Server.{Server}
-use Rattle.share_server.specs.Serving.{ReopensAs}
-use Rattle.share_server.proofs.NoCommands.{empty_stands}
+use Rattle.cloud_areas.specs.Peers.{StandsForSome, ImagesNow, ImagesSince}
+use Rattle.cloud_server.specs.declared.server.Server.{Server}
+use Rattle.cloud_server.specs.Serving.{ReopensAs}
+use Rattle.cloud_server.proofs.NoCommands.{empty_stands}
 use Rattle.upload_job.specs.Lanes.{LaneView}
 use Rattle.local_link.specs.declared.link.LocalLink.{LocalLink}
-use Rattle.local_link.specs.Tells.{server_at, telling, StandsAt, LeavesRest}
-use Rattle.local_link.specs.Calls.{header_of, Replaces}
+use Rattle.local_link.specs.Tells.{rooms_at, header_at, telling, StandsAt, LeavesRest}
+use Rattle.local_link.specs.Calls.{Replaces}
 use Rattle.local_link.proofs.Calling.{was_before}
-use Rattle.local_link.proofs.Standing.{some_server, known_of, header_same}
 use Rattle.session.specs.declared.event.Event.TheVariants as events
 use Rattle.transcript.specs.declared.line.Line.{Line}
 use Rattle.transcript.specs.declared.line.Line.TheVariants as lines
@@ -37,10 +36,10 @@ use Rattle.session_model.specs.Vault.{Setting, Vault}
 use Rattle.session_model.specs.Steps.{Moment, quiet, cloud_no, IsReplaceLine, ReplaceStep}
 use Rattle.session_model.specs.Run.{IsListIn}
 use Rattle.session_model.specs.Headline.{IsPartOf}
-use Rattle.script_lines.specs.At.{LinkAt, IsAt}
+use Rattle.script_lines.specs.At.{LinkAt, IsAt, header_in}
 use Rattle.script_lines.specs.Does.{Goes}
 use Rattle.script_lines.specs.Replacing.{IsNewStore, FailsFresh}
-use Rattle.script_lines.proofs.Going.{put, put_here, put_other, now_by, moves, listed, images_weaker, images_one}
+use Rattle.script_lines.proofs.Going.{put, put_here, put_other, now_by, moves, listed, images_weaker, images_one, header_is}
 use Rattle.script_lines.proofs.Others.{Opened}
 
 -- ---- small
@@ -71,19 +70,15 @@ module _ (cloud : ℕ) (told : Bool) where
   says_told (Ok commands) line p q is r = line_is line (lines.Replaced (cloud_no cloud)) p.faults q.faults is (refl, r.1)
   says_told (Err errors.Fault) line p q is r = line_is line (lines.Fault (cloud_no cloud)) p.faults q.faults is (refl, r.1)
   says_told (Err (errors.NotBegun len)) line p q is r = absurd (let f : true ≡ false = r.1 in cc)
-  says_told (Err (errors.OtherStore found asked)) line p q is r = absurd r
+  says_told (Err (errors.OtherStore found asked place)) line p q is r = absurd r
   says_told (Err (errors.Damaged at byte)) line p q is r = absurd r
-  says_told (Err (errors.RoomsTooSmall room limit at)) line p q is r = absurd r
-  says_told (Err errors.NoMemory) line p q is r = absurd r
 
   told_list : (result : Result ℕ OpenErr) (p q : Peer) → p.list ≡ [] → p.pending ≡ None → ReopensAs true p q result → (q.list ≡ []) × (q.pending ≡ None) × (q.armings ≡ p.armings)
   told_list (Ok commands) p q list none r = (settled_none p q list none r.0.list, r.0.pending, r.2)
   told_list (Err errors.Fault) p q list none r = (r.0.list ∙ list, r.0.pending ∙ none, r.2)
   told_list (Err (errors.NotBegun len)) p q list none r = absurd (let f : true ≡ false = r.1 in cc)
-  told_list (Err (errors.OtherStore found asked)) p q list none r = absurd r
+  told_list (Err (errors.OtherStore found asked place)) p q list none r = absurd r
   told_list (Err (errors.Damaged at byte)) p q list none r = absurd r
-  told_list (Err (errors.RoomsTooSmall room limit at)) p q list none r = absurd r
-  told_list (Err errors.NoMemory) p q list none r = absurd r
 
   -- and on one of which nothing is told, by the counts
   says_untold : (result : Result ℕ OpenErr) (line : Line) (old new : Cloud) (before now : ℕ) → told ≡ false → IsNewStore cloud result line
@@ -91,10 +86,8 @@ module _ (cloud : ℕ) (told : Bool) where
   says_untold (Ok commands) line old new before now untold is counts = line_is line (lines.Replaced (cloud_no cloud)) old.faults new.faults is (refl, counts.cloud)
   says_untold (Err errors.Fault) line old new before now untold is counts = line_is line (lines.Fault (cloud_no cloud)) old.faults new.faults is (refl, counts.cloud)
   says_untold (Err (errors.NotBegun len)) line old new before now untold is counts = line_is line (lines.Damaged (cloud_no cloud) is.0 is.1) old.faults new.faults is.2 (refl, untold, counts.cloud)
-  says_untold (Err (errors.OtherStore found asked)) line old new before now untold is counts = line_is line (lines.Damaged (cloud_no cloud) is.0 is.1) old.faults new.faults is.2 (refl, untold, counts.cloud)
+  says_untold (Err (errors.OtherStore found asked place)) line old new before now untold is counts = line_is line (lines.Damaged (cloud_no cloud) is.0 is.1) old.faults new.faults is.2 (refl, untold, counts.cloud)
   says_untold (Err (errors.Damaged at byte)) line old new before now untold is counts = line_is line (lines.Damaged (cloud_no cloud) is.0 is.1) old.faults new.faults is.2 (refl, untold, counts.cloud)
-  says_untold (Err (errors.RoomsTooSmall room limit at)) line old new before now untold is counts = line_is line (lines.Damaged (cloud_no cloud) is.0 is.1) old.faults new.faults is.2 (refl, untold, counts.cloud)
-  says_untold (Err errors.NoMemory) line old new before now untold is counts = line_is line (lines.Damaged (cloud_no cloud) is.0 is.1) old.faults new.faults is.2 (refl, untold, counts.cloud)
 
   says_from : (line : Line) (p q : Peer) (one two : ℕ) → one ≡ p.faults → two ≡ q.faults → IsReplaceLine told cloud one two line → IsReplaceLine told cloud p.faults q.faults line
   says_from line p q one two e f says = subst (λ (n : ℕ). IsReplaceLine told cloud p.faults n line) f (subst (λ (n : ℕ). IsReplaceLine told cloud n two line) e says)
@@ -116,6 +109,7 @@ module _ {V : Type 0} (clouds : V → ℕ → Cloud) (s : Setting) (old mid new 
     pub refreshed : IsTrue (clouds old.shelf.now cloud).told → Refreshes (clouds old.shelf.now cloud) (clouds mid.shelf.now cloud) (replaced_so u)
     pub others : LeavesOthers (telling clouds) cloud old mid
     pub rest : LeavesRest clouds cloud old mid
+    pub rooms : rooms_at mid.servers cloud ≡ rooms_at old.servers cloud
     pub fate : mid.fate ≡ old.fate
     pub opened : Opened clouds s mid new cloud result before now
     pub others_open : LeavesOthers (telling clouds) cloud mid new
@@ -170,7 +164,7 @@ module _ {V : Type 0} (clouds : V → ℕ → Cloud) (s : Setting) (old mid new 
       peers_mid = put v.peers cloud mid_of.0
 
       at_mid : LinkAt clouds s mid peers_mid
-      at_mid = moves clouds s old mid v.peers cloud mid_of.0 is r.others r.rest (r.fate ∙ is.fate) mid_of.1
+      at_mid = moves clouds s old mid v.peers cloud mid_of.0 is r.others r.rest r.rooms (r.fate ∙ is.fate) mid_of.1
 
       new_of : (q : Peer) × StandsAt clouds new cloud q × ReplaceStep s cloud line (v.peers cloud) q
       new_of = stands_new (v.peers cloud) mid_of.0 mid_of.1 mid_of.2 (is.told cloud)
@@ -188,25 +182,22 @@ module _ {V : Type 0} (clouds : V → ℕ → Cloud) (s : Setting) (old mid new 
       abbrev m : Moment
       m = record { peers = v.peers; event = None }
 
-      emptied : IsTrue (s.told cloud) → ImagesSince (clouds old.shelf.now cloud) (clouds mid.shelf.now cloud) (header_of s.shape cloud) (IsListIn s cloud (m ∷ []) peers_new)
+      emptied : IsTrue (s.told cloud) → ImagesSince (clouds old.shelf.now cloud) (clouds mid.shelf.now cloud) (header_in s cloud) (IsListIn s cloud (m ∷ []) peers_new)
       emptied told =
           weaker (clouds old.shelf.now cloud) (clouds mid.shelf.now cloud) (λ (image : Image). IsImage (clouds old.shelf.now cloud).now image ⊎ ((area : Area) → image area ≡ []))
-          (StandsForSome (header_of s.shape cloud) (IsListIn s cloud (m ∷ []) peers_new))
+          (StandsForSome (header_in s cloud) (IsListIn s cloud (m ∷ []) peers_new))
           (was_before (clouds old.shelf.now cloud) (clouds mid.shelf.now cloud) (replaced_so u) (r.refreshed (is.told cloud ∙ told)))
           (λ image left. elim left [
             | inl was ↦ let x = now_by clouds s old v.peers is cloud lt told image was in (x.0, listed clouds s cloud m [] peers_new x.0 x.1, x.2)
-            | inr empty ↦ ([], none_listed (m ∷ []), empty_stands image (header_of s.shape cloud) empty)
+            | inr empty ↦ ([], none_listed (m ∷ []), empty_stands image (header_in s cloud) empty)
           ])
 
-      begun : IsTrue (s.told cloud) → ImagesSince (clouds mid.shelf.now cloud) (clouds new.shelf.now cloud) (header_of s.shape cloud) (IsListIn s cloud (m ∷ []) peers_new)
+      begun : IsTrue (s.told cloud) → ImagesSince (clouds mid.shelf.now cloud) (clouds new.shelf.now cloud) (header_in s cloud) (IsListIn s cloud (m ∷ []) peers_new)
       begun told =
-          let below : cloud < mid.servers.shape.n = subst (λ (sh : Shape). cloud < sh.n) (sym at_mid.shape) lt in
-          let here = some_server mid.servers cloud below in
-          let header : here.0.state.header ≡ header_of s.shape cloud = header_same mid.servers.shape cloud here.0 (mid.servers.are_servers.each cloud here.0 here.1) ∙ ap (λ (sh : Shape). header_of sh cloud) at_mid.shape in
           let lists : List (List Command) = [] ∷ [] in
-          let run = known_of (server_at mid.servers cloud) here.0 (λ (server : Server). ImagesNow (clouds mid.shelf.now cloud) server.state.header (Contains lists) → ImagesSince (clouds mid.shelf.now cloud) (clouds new.shelf.now cloud) server.state.header (Contains lists))
-          here.1 (r.opened.images (at_mid.told cloud ∙ told) lists) in
-          let by_header = subst (λ (h : Header). ImagesNow (clouds mid.shelf.now cloud) h (Contains lists) → ImagesSince (clouds mid.shelf.now cloud) (clouds new.shelf.now cloud) h (Contains lists)) header run in
+          let run = r.opened.images (at_mid.told cloud ∙ told) lists in
+          let by_header = subst (λ (h : Header). ImagesNow (clouds mid.shelf.now cloud) h (Contains lists) → ImagesSince (clouds mid.shelf.now cloud) (clouds new.shelf.now cloud) h (Contains lists))
+          (header_is mid.servers s cloud at_mid.shape (at_mid.rooms cloud lt)) run in
           images_weaker clouds s mid new cloud (Contains lists) (IsListIn s cloud (m ∷ []) peers_new)
           (λ list has. subst (IsListIn s cloud (m ∷ []) peers_new) (is_none list has) (none_listed (m ∷ [])))
           (by_header (λ image at. let x = now_by clouds s mid peers_mid at_mid cloud lt told image at in (x.0, none_in x.0 x.1, x.2)))
@@ -227,7 +218,7 @@ module _ {V : Type 0} (clouds : V → ℕ → Cloud) (s : Setting) (old mid new 
         moments = quiet v.peers;
         after = record { peers = peers_new; jobs = v.jobs };
         is_at = record {
-          link_at = moves clouds s mid new peers_mid cloud new_of.0 at_mid r.others_open r.rest_open (r.fate_open ∙ at_mid.fate) new_of.1;
+          link_at = moves clouds s mid new peers_mid cloud new_of.0 at_mid r.others_open r.rest_open r.opened.rooms (r.fate_open ∙ at_mid.fate) new_of.1;
           jobs_are = at.jobs_are;
         };
         step = (
@@ -241,7 +232,7 @@ module _ {V : Type 0} (clouds : V → ℕ → Cloud) (s : Setting) (old mid new 
           refl,
         );
         images = images_one clouds s old new v.peers cloud m peers_new is refl (rest_join clouds cloud old mid new r.rest r.rest_open)
-            (λ below told. joined (clouds old.shelf.now cloud) (clouds mid.shelf.now cloud) (clouds new.shelf.now cloud) (StandsForSome (header_of s.shape cloud) (IsListIn s cloud (m ∷ []) peers_new)) (emptied told) (begun told));
+            (λ below told. joined (clouds old.shelf.now cloud) (clouds mid.shelf.now cloud) (clouds new.shelf.now cloud) (StandsForSome (header_in s cloud) (IsListIn s cloud (m ∷ []) peers_new)) (emptied told) (begun told));
       }
 
 -- ---- the areas couldn't be made empty
@@ -249,11 +240,11 @@ module _ {V : Type 0} (clouds : V → ℕ → Cloud) (s : Setting) (old mid new 
 module _ {V : Type 0} (clouds : V → ℕ → Cloud) (s : Setting) (old new : LocalLink V) (cloud : CloudNo) (e : Failed) (v : Vault) (is : LinkAt clouds s old v.peers) (below : cloud.0 < old.servers.shape.n)
     (before now : ℕ) (call : IsCall (clouds old.shelf.now) (clouds new.shelf.now) cloud.0 before now) (failed : HasFailed (clouds old.shelf.now cloud.0) (clouds new.shelf.now cloud.0) before now)
     (refreshed : IsTrue (clouds old.shelf.now cloud.0).told → Refreshes (clouds old.shelf.now cloud.0) (clouds new.shelf.now cloud.0) (failed_so e)) where
-  kept_since : (c : ℕ) → c < s.shape.n → IsTrue (s.told c) → ImagesSince (clouds old.shelf.now c) (clouds new.shelf.now c) (header_of s.shape c) (MaySettleAs (v.peers c))
+  kept_since : (c : ℕ) → c < s.shape.n → IsTrue (s.told c) → ImagesSince (clouds old.shelf.now c) (clouds new.shelf.now c) (header_in s c) (MaySettleAs (v.peers c))
   kept_since c lt told = elim (cases_eq c cloud.0) [
-    | inl same ↦ stayed (clouds old.shelf.now c) (clouds new.shelf.now c) (StandsForSome (header_of s.shape c) (MaySettleAs (v.peers c)))
+    | inl same ↦ stayed (clouds old.shelf.now c) (clouds new.shelf.now c) (StandsForSome (header_in s c) (MaySettleAs (v.peers c)))
         (subst (λ (n : ℕ). shelves.Stays (clouds old.shelf.now n) (clouds new.shelf.now n)) (sym same) (refreshed (is.told cloud.0 ∙ subst (λ (n : ℕ). IsTrue (s.told n)) same told)).err) (now_by clouds s old v.peers is c lt told)
-    | inr ne ↦ left_alone (clouds old.shelf.now c) (clouds new.shelf.now c) (StandsForSome (header_of s.shape c) (MaySettleAs (v.peers c))) (call.others c ne) (now_by clouds s old v.peers is c lt told)
+    | inr ne ↦ left_alone (clouds old.shelf.now c) (clouds new.shelf.now c) (StandsForSome (header_in s c) (MaySettleAs (v.peers c))) (call.others c ne) (now_by clouds s old v.peers is c lt told)
   ]
 
   at_most : (c : ℕ) → (clouds old.shelf.now c).faults ≤ (clouds new.shelf.now c).faults
@@ -280,7 +271,7 @@ module _ {V : Type 0} (clouds : V → ℕ → Cloud) (s : Setting) (old new : Lo
       left = record {
         faults = λ c lt. subst (λ (n : ℕ). n ≤ (clouds new.shelf.now c).faults) (sym (is.stands c lt).faults) (at_most c);
         armings = λ c lt. (is.stands c lt).armings ∙ sym (armed_same c);
-        images = λ c lt told. at_end (clouds old.shelf.now c) (clouds new.shelf.now c) (StandsForSome (header_of s.shape c) (MaySettleAs (v.peers c))) (kept_since c lt told);
+        images = λ c lt told. at_end (clouds old.shelf.now c) (clouds new.shelf.now c) (StandsForSome (header_in s c) (MaySettleAs (v.peers c))) (kept_since c lt told);
       };
       images = λ c lt told. images_weaker clouds s old new c (MaySettleAs (v.peers c)) (IsListIn s c [] v.peers) (λ list settles. inl settles) (kept_since c lt told);
     };

@@ -10,18 +10,17 @@ use Rattle.messages.specs.declared.request.Request.{Request}
 use Rattle.messages.specs.declared.request.Request.TheVariants as requests
 use Rattle.messages.specs.declared.reply.Reply.{Reply}
 use Rattle.user_dedup.specs.declared.command.Command.{Command}
-use Rattle.user_dedup.specs.Dedup.{FullRoom}
+use Rattle.user_dedup.specs.Dedup.{FullRoom, Outcome}
 use Rattle.user_dedup.specs.Exec.{Peer, MaySettleAs, Stays, Settles, Exec, served}
 use Rattle.user_dedup.specs.Link.{Exchange, Talk, Passes, ReadsFrom, AddsNothing, Does}
 use Rattle.user_dedup.specs.Requests.{asked_at, HasRecipe}
 use Rattle.user_dedup.proofs.Asked.{asked_law}
 use Rattle.user_dedup.proofs.Owned.{contains_here, contains_later}
-use Rattle.cloud_store.specs.Standing.{StandsForSome, ImagesSince, MayBecome}
-use Rattle.cloud_store.specs.Space.{full_for}
+use Rattle.cloud_areas.specs.Peers.{StandsForSome, ImagesSince, MayBecome}
+use Rattle.user_dedup.specs.Spending.{full_for}
 use Rattle.lane_steps.specs.Runs.{Turn}
 use Rattle.local_link.specs.declared.link.LocalLink.{LocalLink}
-use Rattle.local_link.specs.Tells.{server_at, full_by, telling, serving_at, StandsAt, IsPeer, PassesOn}
-use Rattle.local_link.specs.Calls.{header_of}
+use Rattle.local_link.specs.Tells.{server_at, rooms_at, header_at, full_at, telling, serving_at, StandsAt, IsPeer, PassesOn}
 use Rattle.local_link.proofs.Passing.{read_images}
 use Rattle.local_link.proofs.Standing.{peer_moves}
 use Rattle.restore_job.specs.Asking.{MayRead}
@@ -30,8 +29,9 @@ use Rattle.restore_job.proofs.Held.{lost_moves}
 use Rattle.rebuild.specs.Over.{TargetAlong, AsksFor}
 use Rattle.session_model.specs.Vault.{Setting, served_at, ExecutesAll}
 use Rattle.session_model.proofs.Growing.{stays_in, settles_in}
-use Rattle.script_lines.specs.At.{Leaves}
-use Rattle.script_lines.proofs.Going.{leaves_rest, leaves_all, leaves_join, images_weaker}
+use Rattle.script_lines.specs.At.{Leaves, header_in}
+use Rattle.script_lines.proofs.Going.{leaves_rest, leaves_all, leaves_join, images_weaker, rooms_kept, header_kept, header_is, full_is, serves_is}
+use Rattle.journal_start.specs.declared.start.Header.{Header}
 
 -- ---- what is read adds nothing
 
@@ -76,13 +76,13 @@ module _ {V : Type 0} (clouds : V → ℕ → Cloud) where
       let r : Request = reads.1.0 in
       let asked : asked_at old.servers.shape e.content ≡ Ok r = (asked_law old.servers.shape e.content r step.bytes).1 (record { asked = reads.1.1; recipe = has_recipe old.servers.shape r reads.1.2 }) in
       let x = lost_moves (telling clouds) e.cloud old mid r e.content (restore_errors.Lost (record { 0 = 0 })) (λ a b. Unit {0}) (λ a b. Unit {0})
-      (λ list. adds_none old.servers.shape e.cloud (full_by (server_at old.servers e.cloud)) list r reads.1.2) (λ a at. step.goes a r asked at) (λ a b. tt) (λ a b. tt) p stands in
+      (λ list. adds_none old.servers.shape e.cloud (full_at old.servers e.cloud) list r reads.1.2) (λ a at. step.goes a r asked at) (λ a b. tt) (λ a b. tt) p stands in
       (x.0, x.1, x.2)
 
   module _ (target : ℕ) (from : List ℕ) where
     -- each image since then of a cloud that is read, or not asked
     pub asks_images : (asks : List Exchange) (old new : LocalLink V) (c : ℕ) (p : Peer) → c ≢ target → Passes (telling clouds) (AsksFor target from) old asks new → c < old.servers.shape.n
-        → IsTrue (clouds old.shelf.now c).told → StandsAt clouds old c p → ImagesSince (clouds old.shelf.now c) (clouds new.shelf.now c) (header_of old.servers.shape c) (MaySettleAs p)
+        → IsTrue (clouds old.shelf.now c).told → StandsAt clouds old c p → ImagesSince (clouds old.shelf.now c) (clouds new.shelf.now c) (header_at old.servers c) (MaySettleAs p)
     asks_images [] old new c p ne same lt told is = read_images clouds [] [] old new c p same lt told is
     asks_images (e ∷ es) old new c p ne chain lt told is =
         by_cloud (cases_eq c e.cloud) chain.0 (λ q stands. asks_images es mid new c q ne chain.1.2 (subst (λ (s : Shape). c < s.n) (sym step.rest.shape_stays) lt) (subst (λ (b : Bool). IsTrue b) (sym (step.rest.told_stays c)) told) stands)
@@ -94,32 +94,32 @@ module _ {V : Type 0} (clouds : V → ℕ → Cloud) where
         step = chain.1.1
 
         Rest : Type 0
-        Rest = (q : Peer) → StandsAt clouds mid c q → ImagesSince (clouds mid.shelf.now c) (clouds new.shelf.now c) (header_of mid.servers.shape c) (MaySettleAs q)
+        Rest = (q : Peer) → StandsAt clouds mid c q → ImagesSince (clouds mid.shelf.now c) (clouds new.shelf.now c) (header_at mid.servers c) (MaySettleAs q)
 
-        at_old : (q : Peer) → ImagesSince (clouds mid.shelf.now c) (clouds new.shelf.now c) (header_of mid.servers.shape c) (MaySettleAs q)
-            → ImagesSince (clouds mid.shelf.now c) (clouds new.shelf.now c) (header_of old.servers.shape c) (MaySettleAs q)
-        at_old q = subst (λ (s : Shape). ImagesSince (clouds mid.shelf.now c) (clouds new.shelf.now c) (header_of s c) (MaySettleAs q)) step.rest.shape_stays
+        at_old : (q : Peer) → ImagesSince (clouds mid.shelf.now c) (clouds new.shelf.now c) (header_at mid.servers c) (MaySettleAs q)
+            → ImagesSince (clouds mid.shelf.now c) (clouds new.shelf.now c) (header_at old.servers c) (MaySettleAs q)
+        at_old q = subst (λ (h : Header). ImagesSince (clouds mid.shelf.now c) (clouds new.shelf.now c) h (MaySettleAs q)) (header_kept clouds old mid e.cloud c step.rest step.rooms)
 
-        alone : c ≢ e.cloud → ((q : Peer) → StandsAt clouds mid c q → ImagesSince (clouds mid.shelf.now c) (clouds new.shelf.now c) (header_of mid.servers.shape c) (MaySettleAs q))
-            → ImagesSince (clouds old.shelf.now c) (clouds new.shelf.now c) (header_of old.servers.shape c) (MaySettleAs p)
+        alone : c ≢ e.cloud → ((q : Peer) → StandsAt clouds mid c q → ImagesSince (clouds mid.shelf.now c) (clouds new.shelf.now c) (header_at mid.servers c) (MaySettleAs q))
+            → ImagesSince (clouds old.shelf.now c) (clouds new.shelf.now c) (header_at old.servers c) (MaySettleAs p)
         alone other rest =
             let here = step.rest.clouds_stay c other in
             let stands = subst (λ (s : Shape). IsPeer s c (clouds mid.shelf.now c) (server_at mid.servers c) p) (sym step.rest.shape_stays)
             (peer_moves old.servers.shape c (clouds old.shelf.now c) (clouds mid.shelf.now c) (server_at old.servers c) (server_at mid.servers c) p here (step.rest.servers_stay c other) is) in
-            subst (λ (d : Cloud). ImagesSince d (clouds new.shelf.now c) (header_of old.servers.shape c) (MaySettleAs p)) here (at_old p (rest p stands))
+            subst (λ (d : Cloud). ImagesSince d (clouds new.shelf.now c) (header_at old.servers c) (MaySettleAs p)) here (at_old p (rest p stands))
 
-        read : c ≡ e.cloud → ReadsFrom from e → ((q : Peer) → StandsAt clouds mid c q → ImagesSince (clouds mid.shelf.now c) (clouds new.shelf.now c) (header_of mid.servers.shape c) (MaySettleAs q))
-            → ImagesSince (clouds old.shelf.now c) (clouds new.shelf.now c) (header_of old.servers.shape c) (MaySettleAs p)
+        read : c ≡ e.cloud → ReadsFrom from e → ((q : Peer) → StandsAt clouds mid c q → ImagesSince (clouds mid.shelf.now c) (clouds new.shelf.now c) (header_at mid.servers c) (MaySettleAs q))
+            → ImagesSince (clouds old.shelf.now c) (clouds new.shelf.now c) (header_at old.servers c) (MaySettleAs p)
         read same reads rest =
             let went = subst (λ (n : ℕ). StandsAt clouds old n p → (q : Peer) × StandsAt clouds mid n q × MayRead p q) (sym same) (read_on from e old mid p reads step) is in
             let since = at_old went.0 (rest went.0 went.1) in
-            joined (clouds old.shelf.now c) (clouds mid.shelf.now c) (clouds new.shelf.now c) (StandsForSome (header_of old.servers.shape c) (MaySettleAs p))
+            joined (clouds old.shelf.now c) (clouds mid.shelf.now c) (clouds new.shelf.now c) (StandsForSome (header_at old.servers c) (MaySettleAs p))
             (read_images clouds from (e ∷ []) old mid c p (reads, (mid, step, refl)) lt told is)
-            (weaker (clouds mid.shelf.now c) (clouds new.shelf.now c) (StandsForSome (header_of old.servers.shape c) (MaySettleAs went.0)) (StandsForSome (header_of old.servers.shape c) (MaySettleAs p)) since
+            (weaker (clouds mid.shelf.now c) (clouds new.shelf.now c) (StandsForSome (header_at old.servers c) (MaySettleAs went.0)) (StandsForSome (header_at old.servers c) (MaySettleAs p)) since
             (λ image some. (some.0, may_in p went.0 went.2 some.0 some.1, some.2)))
 
-        by_cloud : (c ≡ e.cloud) ⊎ (c ≢ e.cloud) → AsksFor target from e → ((q : Peer) → StandsAt clouds mid c q → ImagesSince (clouds mid.shelf.now c) (clouds new.shelf.now c) (header_of mid.servers.shape c) (MaySettleAs q))
-            → ImagesSince (clouds old.shelf.now c) (clouds new.shelf.now c) (header_of old.servers.shape c) (MaySettleAs p)
+        by_cloud : (c ≡ e.cloud) ⊎ (c ≢ e.cloud) → AsksFor target from e → ((q : Peer) → StandsAt clouds mid c q → ImagesSince (clouds mid.shelf.now c) (clouds new.shelf.now c) (header_at mid.servers c) (MaySettleAs q))
+            → ImagesSince (clouds old.shelf.now c) (clouds new.shelf.now c) (header_at old.servers c) (MaySettleAs p)
         by_cloud (inr other) asks rest = alone other rest
         by_cloud (inl same) (inl at_target) rest = absurd (ne (same ∙ at_target))
         by_cloud (inl same) (inr reads) rest = read same reads rest
@@ -131,7 +131,7 @@ module _ {V : Type 0} (clouds : V → ℕ → Cloud) (talk : LocalLink V → ℕ
   pub record TargetAt (link : LocalLink V) : Type 0 where
     pub shape : link.servers.shape ≡ s.shape
     pub told : (clouds link.shelf.now target).told ≡ s.told target
-    pub rooms : full_by (server_at link.servers target) ≡ full_for s.rooms
+    pub rooms : rooms_at link.servers target ≡ s.rooms
 
   read_at : (asks : List Exchange) (old new : LocalLink V) → Passes (telling clouds) (ReadsFrom from) old asks new → TargetAt old → TargetAt new
   read_at [] old new same at = subst TargetAt (sym same) at
@@ -140,21 +140,21 @@ module _ {V : Type 0} (clouds : V → ℕ → Cloud) (talk : LocalLink V → ℕ
       read_at es chain.1.0 new chain.1.2 (record {
         shape = step.rest.shape_stays ∙ at.shape;
         told = step.rest.told_stays target ∙ at.told;
-        rooms = ap full_by (step.rest.servers_stay target (λ same. apart (subst (Contains from) (sym same) chain.0.0))) ∙ at.rooms;
+        rooms = rooms_kept clouds old chain.1.0 e.cloud target step.rest step.rooms ∙ at.rooms;
       })
 
   asked_at_target : (e : Exchange) (old new : LocalLink V) → e.cloud ≡ target → PassesOn clouds old e new → TargetAt old → TargetAt new
   asked_at_target e old new same step at = record {
     shape = step.rest.shape_stays ∙ at.shape;
     told = step.rest.told_stays target ∙ at.told;
-    rooms = subst (λ (n : ℕ). full_by (server_at new.servers n) ≡ full_by (server_at old.servers n)) same step.full ∙ at.rooms;
+    rooms = rooms_kept clouds old new e.cloud target step.rest step.rooms ∙ at.rooms;
   }
 
   exec_at : (link : LocalLink V) (p : Peer) (request : Request) (reply : Reply) (q : Peer) → TargetAt link → Does (telling clouds) target link p request reply q → Exec s.shape (s.told target) (served_at s target) p request reply q
   exec_at link p request reply q at does =
-      subst (λ (f : List Command → Command → Option FullRoom). Exec s.shape (s.told target) (served s.shape target f) p request reply q) at.rooms
-      (subst (λ (b : Bool). Exec s.shape b (served s.shape target (full_by (server_at link.servers target))) p request reply q) at.told
-      (subst (λ (sh : Shape). Exec sh (clouds link.shelf.now target).told (served sh target (full_by (server_at link.servers target))) p request reply q) at.shape does))
+      subst (λ (f : List Command → Command → Option FullRoom). Exec s.shape (s.told target) (served s.shape target f) p request reply q) (full_is link.servers s target at.shape at.rooms)
+      (subst (λ (b : Bool). Exec s.shape b (served s.shape target (full_at link.servers target)) p request reply q) at.told
+      (subst (λ (sh : Shape). Exec sh (clouds link.shelf.now target).told (served sh target (full_at link.servers target)) p request reply q) at.shape does))
 
   pub along_all : (old new : LocalLink V) (p : Peer) (turns : List (Turn Peer)) (last : Peer) → TargetAlong (telling clouds) talk target from old p turns new last → TargetAt old → ExecutesAll s target p turns last
   along_all old new p [] last x at = x.2
@@ -170,21 +170,21 @@ module _ {V : Type 0} (clouds : V → ℕ → Cloud) (talk : LocalLink V → ℕ
 
   module _ (told : IsTrue (s.told target)) (lt : target < s.shape.n) where
     abbrev Since : LocalLink V → LocalLink V → (List Command → Type 0) → Type 0
-    Since old new P = ImagesSince (clouds old.shelf.now target) (clouds new.shelf.now target) (header_of s.shape target) P
+    Since old new P = ImagesSince (clouds old.shelf.now target) (clouds new.shelf.now target) (header_in s target) P
 
     read_since : (asks : List Exchange) (old new : LocalLink V) (p : Peer) → Passes (telling clouds) (ReadsFrom from) old asks new → TargetAt old → StandsAt clouds old target p → Since old new (MaySettleAs p)
     read_since asks old new p passes at stands =
-        subst (λ (sh : Shape). ImagesSince (clouds old.shelf.now target) (clouds new.shelf.now target) (header_of sh target) (MaySettleAs p)) at.shape
+        subst (λ (h : Header). ImagesSince (clouds old.shelf.now target) (clouds new.shelf.now target) h (MaySettleAs p)) (header_is old.servers s target at.shape at.rooms)
         (read_images clouds from asks old new target p passes (subst (λ (sh : Shape). target < sh.n) (sym at.shape) lt) (at.told ∙ told) stands)
 
     heard_since : (old new : LocalLink V) (p : Peer) (r : Request) → TargetAt old
-        → ImagesSince (clouds old.shelf.now target) (clouds new.shelf.now target) (header_of old.servers.shape target) (MayBecome (serving_at old target) p r) → Since old new (MayBecome (served_at s target) p r)
+        → ImagesSince (clouds old.shelf.now target) (clouds new.shelf.now target) (header_at old.servers target) (MayBecome (serving_at old target) p r) → Since old new (MayBecome (served_at s target) p r)
     heard_since old new p r at images =
-        subst (λ (f : List Command → Command → Option FullRoom). Since old new (MayBecome (served s.shape target f) p r)) at.rooms
-        (subst (λ (sh : Shape). ImagesSince (clouds old.shelf.now target) (clouds new.shelf.now target) (header_of sh target) (MayBecome (served sh target (full_by (server_at old.servers target))) p r)) at.shape images)
+        subst (λ (f : List Command → Request → Outcome). Since old new (MayBecome f p r)) (serves_is old s target at.shape at.rooms)
+        (subst (λ (h : Header). ImagesSince (clouds old.shelf.now target) (clouds new.shelf.now target) h (MayBecome (serving_at old target) p r)) (header_is old.servers s target at.shape at.rooms) images)
 
     since_join : (old mid new : LocalLink V) (P : List Command → Type 0) → Since old mid P → Since mid new P → Since old new P
-    since_join old mid new P one two = joined (clouds old.shelf.now target) (clouds mid.shelf.now target) (clouds new.shelf.now target) (StandsForSome (header_of s.shape target) P) one two
+    since_join old mid new P one two = joined (clouds old.shelf.now target) (clouds mid.shelf.now target) (clouds new.shelf.now target) (StandsForSome (header_in s target) P) one two
 
     -- Each image since then stands for a list that the target might have settled as before some turn, or may settle as now, or for one
     -- with the command of a turn.

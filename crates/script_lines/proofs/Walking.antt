@@ -5,7 +5,7 @@ use Rattle.std.proofs.lemmas.List.{set-get_or}
 use Rattle.std.proofs.lemmas.List.Elements.{Contains-append_left, Contains-append_right}
 use Rattle.cd_edges.specs.Disk.{Cloud}
 use Rattle.cd_edges.proofs.Moments.{joined}
-use Rattle.cloud_store.specs.Standing.{StandsForSome}
+use Rattle.cloud_areas.specs.Peers.{StandsForSome}
 use Rattle.messages.specs.declared.request.Request.{Request}
 use Rattle.messages.specs.declared.reply.Reply.{Reply}
 use Rattle.user_dedup.specs.declared.command.Command.{Command}
@@ -17,11 +17,10 @@ use Rattle.lane_steps.specs.Runs.{Turn, Progress, moved, request_of, progress_af
 use Rattle.lane_steps.specs.Steps.{Heard}
 use Rattle.local_link.specs.declared.link.LocalLink.{LocalLink}
 use Rattle.local_link.specs.Tells.{telling}
-use Rattle.local_link.specs.Calls.{header_of}
 use Rattle.session_model.specs.Vault.{Setting, JobState, Executes, lanes_at, with_lanes_at, lanes_of, with_lanes}
 use Rattle.session_model.specs.Steps.{Moment, moment_of}
 use Rattle.session_model.specs.Run.{IsListIn}
-use Rattle.script_lines.specs.At.{LinkAt, Leaves}
+use Rattle.script_lines.specs.At.{LinkAt, Leaves, header_in}
 use Rattle.script_lines.specs.Does.{Images}
 use Rattle.script_lines.specs.Jobs.{job_lanes, with_job}
 use Rattle.script_lines.proofs.Going.{put, before_exec, moves, executes, images_weaker, images_executed, images_still, leaves_rest, leaves_all, leaves_join}
@@ -97,7 +96,7 @@ module _ {V : Type 0} (clouds : V → ℕ → Cloud) (talk : LocalLink V → ℕ
       let went = heard.goes (peers cloud) (is.stands cloud lt) in
       record {
         left = went.0;
-        link_at = moves clouds s old new peers cloud went.0 is heard.passed.others heard.passed.passes.rest heard.passed.passes.fate went.1;
+        link_at = moves clouds s old new peers cloud went.0 is heard.passed.others heard.passed.passes.rest heard.passed.passes.rooms heard.passed.passes.fate went.1;
         exec = executes clouds s old peers cloud request reply went.0 is lt went.2;
         images = λ last. images_executed clouds s old new peers cloud request reply last is heard.passed.passes.rest
             (λ told. heard.passed.passes.images (peers cloud) request told (is.stands cloud lt) heard.passed.read);
@@ -105,7 +104,7 @@ module _ {V : Type 0} (clouds : V → ℕ → Cloud) (talk : LocalLink V → ℕ
 
   pub images_join : (old mid new : LocalLink V) (first rest : List Moment) (last : ℕ → Peer) → Images clouds s old mid first last → Images clouds s mid new rest last → Images clouds s old new (first ++ rest) last
   images_join old mid new first rest last one two cloud lt told =
-      joined (clouds old.shelf.now cloud) (clouds mid.shelf.now cloud) (clouds new.shelf.now cloud) (StandsForSome (header_of s.shape cloud) (IsListIn s cloud (first ++ rest) last))
+      joined (clouds old.shelf.now cloud) (clouds mid.shelf.now cloud) (clouds new.shelf.now cloud) (StandsForSome (header_in s cloud) (IsListIn s cloud (first ++ rest) last))
       (images_weaker clouds s old mid cloud (IsListIn s cloud first last) (IsListIn s cloud (first ++ rest) last) (λ list has. in_first cloud list has) (one cloud lt told))
       (images_weaker clouds s mid new cloud (IsListIn s cloud rest last) (IsListIn s cloud (first ++ rest) last) (λ list has. in_rest cloud list has) (two cloud lt told))
     where

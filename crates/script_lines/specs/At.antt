@@ -1,13 +1,18 @@
 -- The servers of this process and the jobs at a vault.
 use Rattle.std.specs.Prelude.{◌≡◌, ℕ, ◌<◌, ◌≤◌, List, map}
 use Rattle.cd_edges.specs.Disk.{Cloud}
+use Rattle.journal_start.specs.declared.start.Header.{Header}
 use Rattle.user_dedup.specs.Exec.{Peer}
-use Rattle.cloud_store.specs.Space.{full_for}
 use Rattle.upload_job.specs.Lanes.{LaneView}
 use Rattle.local_link.specs.declared.fate.Fate.TheVariants.{Deliver}
 use Rattle.local_link.specs.declared.link.LocalLink.{LocalLink}
-use Rattle.local_link.specs.Tells.{server_at, full_by, StandsAt}
+use Rattle.local_link.specs.Tells.{rooms_at, StandsAt}
+use Rattle.cloud_server.specs.Names.{header_of}
 use Rattle.session_model.specs.Vault.{Setting, JobState, Vault}
+
+-- the header of a cloud of the session's store
+abbrev pub header_in : Setting → ℕ → Header
+header_in s cloud = header_of s.shape s.rooms cloud
 
 -- The link has the setting's shape, tells of the clouds that the setting tells of, serves each cloud in the setting's
 -- rooms, and loses nothing of the next ask; and each cloud stands for its peer.
@@ -15,7 +20,7 @@ pub record LinkAt {V : Type 0} (clouds : V → ℕ → Cloud) (s : Setting) (lin
     : Type 0 where
   pub shape : link.servers.shape ≡ s.shape
   pub told : (cloud : ℕ) → (clouds link.shelf.now cloud).told ≡ s.told cloud
-  pub rooms : (cloud : ℕ) → cloud < s.shape.n → full_by (server_at link.servers cloud) ≡ full_for s.rooms
+  pub rooms : (cloud : ℕ) → cloud < s.shape.n → rooms_at link.servers cloud ≡ s.rooms
   pub fate : link.fate ≡ Deliver
   pub stands : (cloud : ℕ) → cloud < s.shape.n → StandsAt clouds link cloud (peers cloud)
 

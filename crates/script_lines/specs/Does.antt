@@ -2,10 +2,9 @@
 use Rattle.std.specs.Prelude.{◌≡◌, ℕ, ◌<◌, ◌≤◌, IsTrue, List, ◌++◌}
 use Rattle.cd_edges.specs.Disk.{Cloud}
 use Rattle.user_dedup.specs.Exec.{Peer, MaySettleAs}
-use Rattle.cloud_store.specs.Standing.{ImagesNow, ImagesSince}
+use Rattle.cloud_areas.specs.Peers.{ImagesNow, ImagesSince}
 use Rattle.upload_job.specs.Lanes.{LaneView}
 use Rattle.local_link.specs.declared.link.LocalLink.{LocalLink}
-use Rattle.local_link.specs.Calls.{header_of}
 use Rattle.session.specs.declared.event.Event.{Event}
 use Rattle.transcript.specs.declared.line.Line.{Line}
 use Rattle.session_model.specs.Vault.{Setting, Vault}
@@ -13,14 +12,14 @@ use Rattle.session_model.specs.Steps.{Moment, VStep}
 use Rattle.session_model.specs.Run.{IsListIn}
 use Rattle.session_model.specs.Headline.{IsPartOf}
 use Rattle.session.specs.Texts.{text_of}
-use Rattle.script_lines.specs.At.{IsAt}
+use Rattle.script_lines.specs.At.{IsAt, header_in}
 
 -- Each image of a told cloud since then stands for a list that the cloud had at one of these moments, or has now.
 abbrev pub Images : {V : Type 0} → (V → ℕ → Cloud) → Setting → LocalLink V → LocalLink V → List Moment → (ℕ → Peer)
     → Type 0
 Images clouds s old new moments last =
     (cloud : ℕ) → cloud < s.shape.n → IsTrue (s.told cloud)
-    → ImagesSince (clouds old.shelf.now cloud) (clouds new.shelf.now cloud) (header_of s.shape cloud)
+    → ImagesSince (clouds old.shelf.now cloud) (clouds new.shelf.now cloud) (header_in s cloud)
     (IsListIn s cloud moments last)
 
 -- The line was carried out: the vault has gone on by it, with these answers, and the link and the jobs are at the vault
@@ -46,7 +45,7 @@ pub record IsLeft {V : Type 0} (clouds : V → ℕ → Cloud) (s : Setting) (lin
   pub faults : (cloud : ℕ) → cloud < s.shape.n → (last cloud).faults ≤ (clouds link.shelf.now cloud).faults
   pub armings : (cloud : ℕ) → cloud < s.shape.n → (last cloud).armings ≡ (clouds link.shelf.now cloud).armings
   pub images : (cloud : ℕ) → cloud < s.shape.n → IsTrue (s.told cloud)
-      → ImagesNow (clouds link.shelf.now cloud) (header_of s.shape cloud) (MaySettleAs (last cloud))
+      → ImagesNow (clouds link.shelf.now cloud) (header_in s cloud) (MaySettleAs (last cloud))
 
 -- Want of memory cut the line: a part of it was carried out, which leaves the clouds so.
 pub record Cut {V : Type 0} (clouds : V → ℕ → Cloud) (s : Setting) (event : Event) (old new : LocalLink V) (v : Vault)

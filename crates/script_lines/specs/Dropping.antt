@@ -6,11 +6,10 @@ use Rattle.messages.specs.declared.reply.Reply.{Reply}
 use Rattle.user_dedup.specs.Requests.{asked_at}
 use Rattle.user_dedup.specs.Exec.{Peer, Exec}
 use Rattle.user_dedup.specs.Link.{LeavesOthers}
-use Rattle.cloud_store.specs.Standing.{ImagesSince, MayBecome}
+use Rattle.cloud_areas.specs.Peers.{ImagesSince, MayBecome}
 use Rattle.local_link.specs.declared.fate.Fate.TheVariants.{Deliver}
 use Rattle.local_link.specs.declared.link.LocalLink.{LocalLink}
-use Rattle.local_link.specs.Calls.{header_of}
-use Rattle.local_link.specs.Tells.{telling, serving_at, StandsAt, LeavesRest}
+use Rattle.local_link.specs.Tells.{telling, serving_at, StandsAt, LeavesRest, rooms_at, header_at}
 
 -- The cloud executed the content, and what it replied is lost.
 pub record Executed {V : Type 0} (clouds : V → ℕ → Cloud) (cloud : ℕ) (content : List ℕ) (old new : LocalLink V)
@@ -18,13 +17,14 @@ pub record Executed {V : Type 0} (clouds : V → ℕ → Cloud) (cloud : ℕ) (c
   pub fate : new.fate ≡ Deliver
   pub others : LeavesOthers (telling clouds) cloud old new
   pub rest : LeavesRest clouds cloud old new
+  pub rooms : rooms_at new.servers cloud ≡ rooms_at old.servers cloud
   pub same_reference : new.shelf.ghost_name ≡ old.shelf.ghost_name
   pub goes : (r : Request) (p : Peer) → asked_at old.servers.shape content ≡ Ok r → StandsAt clouds old cloud p
       → (q : Peer) × (answer : Reply) × StandsAt clouds new cloud q
       × Exec old.servers.shape (clouds old.shelf.now cloud).told (serving_at old cloud) p r answer q
   pub images : (r : Request) (p : Peer) → asked_at old.servers.shape content ≡ Ok r
       → IsTrue (clouds old.shelf.now cloud).told → StandsAt clouds old cloud p
-      → ImagesSince (clouds old.shelf.now cloud) (clouds new.shelf.now cloud) (header_of old.servers.shape cloud)
+      → ImagesSince (clouds old.shelf.now cloud) (clouds new.shelf.now cloud) (header_at old.servers cloud)
       (MayBecome (serving_at old cloud) p r)
 
 -- so where there is a request, and else nothing changed

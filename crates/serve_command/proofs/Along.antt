@@ -1,43 +1,42 @@
 -- Connections and their lines so far, and how the serving ends behind them.
 use Rattle.std.proofs.Common.{◌≡◌, ◌⊎◌, inl, inr, ℕ, ◌+◌, ◌<◌, ◌≤◌, List, [], ◌∷◌, ◌++◌, length, Option, Err, refl, sym}
 use Rattle.std.proofs.Common.{ap, subst, arith, length-append}
-use Rattle.cd_base.specs.declared.rooms.Rooms.{Rooms}
 use Rattle.cd_edges.specs.Causes.{Rose}
 use Rattle.cd_edges.specs.Disk.{Cloud}
 use Rattle.cd_edges.specs.Ports.{Telling}
-use Rattle.commit_journal.specs.declared.header.Header.{Header}
+use Rattle.journal_start.specs.declared.start.Header.{Header}
 use Rattle.serve_command.specs.declared.served.Served.{Served}
 use Rattle.serve_command.specs.Connection.{EndsWithCause}
 use Rattle.serve_command.specs.Lines.{ready_text, connection_text, serving_text}
 use Rattle.serve_command.specs.Served.{Output, output_of, IsWhole, IsCut, IsLeftOut}
 use Rattle.serve_command.specs.Steps.{Moment, Goes, Went, Writes, ServesAll, moment_of, status_by}
-use Rattle.share_server.specs.declared.server.Server.{Server}
+use Rattle.cloud_server.specs.declared.server.Server.{Server}
 use Rattle.serve_command.specs.declared.stop.Stop.{Stop}
 use Rattle.serve_command.specs.declared.stop.Stop.TheVariants as stops
 use Rattle.serve_command.proofs.Running.{went_none, went_more}
 use Rattle.serve_command.proofs.Texts.{whole_more, cut_more, left_more, serving_none, serving_more}
 
 -- So many connections were served, and all lines are written.
-pub record Along (header : Header) (rooms : Rooms) (old now : Moment) (address : List ℕ) (out : Output)
+pub record Along (header : Header) (old now : Moment) (address : List ℕ) (out : Output)
     (before count number : ℕ)
     : Type 0 where
   pub all : List Served
   pub many : length all ≡ number
-  pub went : Went header rooms old now before all count
+  pub went : Went header old now before all count
   pub whole : IsWhole out (serving_text address all)
 
 -- behind a call that changes nothing that is told
-pub went_listened : (header : Header) (rooms : Rooms) (server : Server) (clouds : ℕ → Cloud) (shelf_faults : ℕ)
+pub went_listened : (header : Header) (server : Server) (clouds : ℕ → Cloud) (shelf_faults : ℕ)
     (tells heard : Telling) (before count : ℕ)
     → heard ≡ tells → count ≡ before
-    → Went header rooms (moment_of server clouds shelf_faults tells) (moment_of server clouds shelf_faults heard)
+    → Went header (moment_of server clouds shelf_faults tells) (moment_of server clouds shelf_faults heard)
     before [] count
-went_listened header rooms server clouds shelf_faults tells heard before count same still =
-    subst (λ (t : Telling). Went header rooms (moment_of server clouds shelf_faults tells)
+went_listened header server clouds shelf_faults tells heard before count same still =
+    subst (λ (t : Telling). Went header (moment_of server clouds shelf_faults tells)
     (moment_of server clouds shelf_faults t) before [] count) (sym same)
-    (subst (λ (n : ℕ). Went header rooms (moment_of server clouds shelf_faults tells)
+    (subst (λ (n : ℕ). Went header (moment_of server clouds shelf_faults tells)
     (moment_of server clouds shelf_faults tells) before [] n) (sym still)
-    (went_none header rooms (moment_of server clouds shelf_faults tells) before))
+    (went_none header (moment_of server clouds shelf_faults tells) before))
 
 -- a line that isn't written whole
 stopped_in : (stop : Stop) (a b c : Option (List ℕ)) (m n o : ℕ) (front line : List ℕ)
@@ -49,13 +48,13 @@ stopped_in stops.SinkFault a b c m n o front line whole writes = inl (cut_more a
 stopped_in stops.NoMemory a b c m n o front line whole writes = inr (left_more a b c m n o front line whole writes)
 stopped_in stops.PortsFault a b c m n o front line whole writes = absurd writes
 
-module _ (header : Header) (rooms : Rooms) (old now : Moment) (address : List ℕ) (total before : ℕ) where
+module _ (header : Header) (old now : Moment) (address : List ℕ) (total before : ℕ) where
   -- ---- before the first connection
 
   -- no connection can be listened for
-  pub unlistened : (out : Output) (faults : ℕ) → 0 < total → Went header rooms old now before [] before
+  pub unlistened : (out : Output) (faults : ℕ) → 0 < total → Went header old now before [] before
       → IsWhole out [] → Rose before faults
-      → ServesAll 9 header rooms old now address total out before faults
+      → ServesAll 9 header old now address total out before faults
   unlistened out faults some went whole rose = record {
     all = [];
     after = before;
@@ -64,8 +63,8 @@ module _ (header : Header) (rooms : Rooms) (old now : Moment) (address : List �
   }
 
   -- the first line is written
-  pub begun : (out : Output) (count : ℕ) → Went header rooms old now before [] count → IsWhole out (ready_text address)
-      → Along header rooms old now address out before count 0
+  pub begun : (out : Output) (count : ℕ) → Went header old now before [] count → IsWhole out (ready_text address)
+      → Along header old now address out before count 0
   begun out count went whole = record {
     all = [];
     many = refl;
@@ -74,9 +73,9 @@ module _ (header : Header) (rooms : Rooms) (old now : Moment) (address : List �
   }
 
   -- the first line isn't written
-  pub unready : (stop : Stop) (a b c : Option (List ℕ)) (m n o count : ℕ) → Went header rooms old now before [] count
+  pub unready : (stop : Stop) (a b c : Option (List ℕ)) (m n o count : ℕ) → Went header old now before [] count
       → IsWhole (output_of a b m n) [] → Writes (ready_text address) (output_of b c n o) (Err stop)
-      → ServesAll (status_by (Err stop)) header rooms old now address total (output_of a c m o) before count
+      → ServesAll (status_by (Err stop)) header old now address total (output_of a c m o) before count
   unready stop a b c m n o count went whole writes = record {
     all = [];
     after = count;
@@ -94,13 +93,12 @@ module _ (header : Header) (rooms : Rooms) (old now : Moment) (address : List �
   -- ---- the next connection
 
   module _ (a b c : Option (List ℕ)) (m n o : ℕ) (count after number : ℕ) (ended : Served) (new : Moment)
-      (along : Along header rooms old now address (output_of a b m n) before count number)
-      (header_is : old.server.state.header ≡ header) (rooms_are : old.server.state.rooms ≡ rooms)
-      (goes : Goes now.server.state.header now.server.state.rooms now new ended)
+      (along : Along header old now address (output_of a b m n) before count number)
+      (header_is : old.server.store.header ≡ header)
+      (goes : Goes now.server.store.header now new ended)
       (cause : EndsWithCause ended count after) where
-    went : Went header rooms old new before (along.all ++ ended ∷ []) after
-    went = went_more header rooms old now new before count after along.all ended along.went cause header_is rooms_are
-        goes
+    went : Went header old new before (along.all ++ ended ∷ []) after
+    went = went_more header old now new before count after along.all ended along.went cause header_is goes
 
     many : length (along.all ++ ended ∷ []) ≡ number + 1
     many = let one = length-append along.all (ended ∷ []) in omega (arith, one, along.many)
@@ -110,7 +108,7 @@ module _ (header : Header) (rooms : Rooms) (old now : Moment) (address : List �
 
     -- its line is written
     pub along_more : IsWhole (output_of b c n o) (connection_text (number + 1) ended)
-        → Along header rooms old new address (output_of a c m o) before after (number + 1)
+        → Along header old new address (output_of a c m o) before after (number + 1)
     along_more whole = record {
       all = along.all ++ ended ∷ [];
       many = many;
@@ -124,7 +122,7 @@ module _ (header : Header) (rooms : Rooms) (old now : Moment) (address : List �
     -- its line isn't
     pub unwritten : (stop : Stop) → number < total
         → Writes (connection_text (number + 1) ended) (output_of b c n o) (Err stop)
-        → ServesAll (status_by (Err stop)) header rooms old new address total (output_of a c m o) before after
+        → ServesAll (status_by (Err stop)) header old new address total (output_of a c m o) before after
     unwritten stop few writes =
         let within : length (along.all ++ ended ∷ []) ≤ total = omega (arith, many) in record {
           all = along.all ++ ended ∷ [];

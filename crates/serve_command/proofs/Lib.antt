@@ -9,3 +9,4 @@ pub mod Replied
 pub mod Rows
 pub mod Running
 pub mod Texts
+mod InRooms

@@ -7,8 +7,8 @@ use Rattle.messages.specs.declared.reply.Reply.{Reply}
 use Rattle.messages.specs.declared.reply.Reply.TheVariants as replies
 use Rattle.messages.specs.Replies.{reply_bytes}
 use Rattle.user_dedup.specs.Requests.{asked_at}
-use Rattle.cloud_state.specs.declared.state.CloudState.{CloudState}
-use Rattle.share_server.specs.Serving.{Answered}
+use Rattle.open_store.specs.declared.store.OpenStore.{OpenStore}
+use Rattle.cloud_server.specs.Serving.{Answered}
 use Rattle.serve_command.specs.Serving.{RepliesOne}
 
 -- each reply has its kind in front
@@ -34,7 +34,7 @@ some_bytes replies.NoMemory = omega arith
 
 module _ (shape : Shape) (content reply : List ℕ) where
   -- content that is a request is answered by some server's reply, and other content by the place that is wrong
-  pub replied : (state : CloudState) (old new : Cloud) (before now : ℕ)
+  pub replied : (state : OpenStore) (old new : Cloud) (before now : ℕ)
       → ((r : Request) → asked_at shape content ≡ Ok r → Answered shape r state old new before now reply)
       → ((at : ℕ) → asked_at shape content ≡ Err at → reply ≡ reply_bytes (replies.Malformed at))
       → RepliesOne shape tt content reply tt

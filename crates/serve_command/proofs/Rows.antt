@@ -1,7 +1,6 @@
 -- A row of a server's answers: as replies, as calls on its shelf, and as what becomes of a peer.
 use Rattle.std.proofs.Common.{◌≡◌, inl, inr, ℕ, List, [], ◌∷◌, Result, Ok, Err, IsTrue, refl, sym, ◌∙◌, ap, subst, arith}
-use Rattle.cd_base.specs.declared.rooms.Rooms.{Rooms}
-use Rattle.commit_journal.specs.declared.header.Header.{Header}
+use Rattle.journal_start.specs.declared.start.Header.{Header}
 use Rattle.cd_edges.specs.Disk.{Cloud}
 use Rattle.cd_edges.specs.Ports.{Telling}
 use Rattle.cd_edges.specs.Shelf.{IsCall}
@@ -9,10 +8,9 @@ use Rattle.cd_edges.proofs.Calls.{called_twice}
 use Rattle.messages.specs.declared.request.Request.{Request}
 use Rattle.user_dedup.specs.Exec.{Peer}
 use Rattle.user_dedup.specs.Requests.{asked_at}
-use Rattle.cloud_store.specs.Space.{served_by}
-use Rattle.cloud_state.specs.State.{IsSameServer}
-use Rattle.share_server.specs.Serving.{IsServing, number_of, server_serves}
-use Rattle.share_server.specs.declared.server.Server.{Server}
+use Rattle.user_dedup.specs.Served.{served_by}
+use Rattle.cloud_server.specs.Serving.{IsServing, number_of, server_serves}
+use Rattle.cloud_server.specs.declared.server.Server.{Server}
 use Rattle.serve_command.specs.declared.served.Served.{Served}
 use Rattle.serve_command.specs.Connection.{Responds, Serves}
 use Rattle.serve_command.proofs.Carrying.{Carried, carried}
@@ -33,29 +31,29 @@ cloud_in first place = place.clouds (number_of first.server)
 
 -- It is the first place's server, its shelf was called since, and its cloud is told if it was.
 pub record Since (first place : Place) : Type 0 where
-  pub same : IsSameServer first.server.state place.server.state
+  pub same : place.server.store.header ≡ first.server.store.header
   pub call : IsCall first.clouds place.clouds (number_of first.server) first.faults place.faults
 
 pub since_none : (first : Place) → Since first first
 since_none first = record {
-  same = record { header = refl; rooms = refl };
+  same = refl;
   call = record { others = λ other apart. refl; told = refl; armings = refl; later = omega arith; total_later = omega arith };
 }
 
 same_number : (first place : Place) → Since first place → number_of place.server ≡ number_of first.server
-same_number first place since = ap (λ (h : Header). h.cloud.0) since.same.header
+same_number first place since = ap (λ (h : Header). h.cloud.0) since.same
 
 pub since_more : (first before after : Place) (content reply : List ℕ) → Since first before → Answers before after content reply → Since first after
 since_more first before after content reply since answers = record {
-  same = record { header = answers.same.header ∙ since.same.header; rooms = answers.same.rooms ∙ since.same.rooms };
+  same = answers.same ∙ since.same;
   call = called_twice first.clouds before.clouds after.clouds (number_of first.server) first.faults before.faults after.faults since.call
       (subst (λ (n : ℕ). IsCall before.clouds after.clouds n before.faults after.faults) (same_number first before since) answers.call);
 }
 
 pub replied_since : (first before after : Place) (content reply : List ℕ) → Since first before → Answers before after content reply
-    → RepliesOne first.server.state.header.shape tt content reply tt
+    → RepliesOne first.server.store.header.shape tt content reply tt
 replied_since first before after content reply since answers =
-    subst (λ (h : Header). RepliesOne h.shape tt content reply tt) since.same.header answers.replied
+    subst (λ (h : Header). RepliesOne h.shape tt content reply tt) since.same answers.replied
 
 -- ---- what becomes of a peer
 
@@ -69,7 +67,7 @@ pub record StandsAs (first place : Place) (p : Peer) : Type 0 where
 pub record Goes (first after : Place) (p : Peer) (content reply : List ℕ) : Type 0 where
   pub left : Peer
   pub stands : StandsAs first after left
-  pub does : ServesOne first.server.state.header.shape (server_serves first.server) p content reply left
+  pub does : ServesOne first.server.store.header.shape (server_serves first.server) p content reply left
 
 module _ (first before after : Place) (p : Peer) (content reply : List ℕ) (stands : StandsAs first before p) (answers : Answers before after content reply) where
   number : number_of before.server ≡ number_of first.server
@@ -88,16 +86,15 @@ module _ (first before after : Place) (p : Peer) (content reply : List ℕ) (sta
   told_after = subst (λ (n : ℕ). IsTrue (after.clouds n).told) number (rw answers.call.told told_before)
 
   -- what the server before it serves, the first one serves
-  from_first : (q : Peer) → ServesOne before.server.state.header.shape (server_serves before.server) p content reply q
-      → ServesOne first.server.state.header.shape (server_serves first.server) p content reply q
+  from_first : (q : Peer) → ServesOne before.server.store.header.shape (server_serves before.server) p content reply q
+      → ServesOne first.server.store.header.shape (server_serves first.server) p content reply q
   from_first q one =
-      subst (λ (h : Header). ServesOne h.shape (served_by first.server.state.rooms h.shape h.cloud.0) p content reply q) stands.since.same.header
-      (subst (λ (r : Rooms). ServesOne before.server.state.header.shape (served_by r before.server.state.header.shape before.server.state.header.cloud.0) p content reply q) stands.since.same.rooms one)
+      subst (λ (h : Header). ServesOne h.shape (served_by h.rooms h.shape h.cloud.0) p content reply q) stands.since.same one
 
   pub goes : Goes first after p content reply
-  goes = by_read (asked_at before.server.state.header.shape content) refl
+  goes = by_read (asked_at before.server.store.header.shape content) refl
     where
-      by_read : (read : Result Request ℕ) → asked_at before.server.state.header.shape content ≡ read → Goes first after p content reply
+      by_read : (read : Result Request ℕ) → asked_at before.server.store.header.shape content ≡ read → Goes first after p content reply
       by_read (Ok r) e =
           let x = answers.exec p r told_before serving_before e in
           record {
@@ -129,27 +126,27 @@ module _ {S : Type 0} (place : S → Place) where
     by_row : {T : Type 0} (does : T → List ℕ → List ℕ → T → Type 0) (t u : T) → Responds does t serves.requests serves.replies u → Serves does old new port t u ended
     by_row does t u run = record { requests = serves.requests; replies = serves.replies; responds = run; bytes = serves.bytes }
 
-    row : Carried Step (λ (t : Unit {0}) content reply u. RepliesOne (place first).server.state.header.shape t content reply u) (λ s t. Since (place first) (place s))
+    row : Carried Step (λ (t : Unit {0}) content reply u. RepliesOne (place first).server.store.header.shape t content reply u) (λ s t. Since (place first) (place s))
         (λ before request reply after t lawful answers since. (tt, since_more (place first) (place before) (place after) request reply since answers, replied_since (place first) (place before) (place after) request reply since answers))
         tt serves.requests serves.replies last
-    row = carried Step (λ (t : Unit {0}) content reply u. RepliesOne (place first).server.state.header.shape t content reply u) (λ s t. Since (place first) (place s))
+    row = carried Step (λ (t : Unit {0}) content reply u. RepliesOne (place first).server.store.header.shape t content reply u) (λ s t. Since (place first) (place s))
         (λ before request reply after t lawful answers since. (tt, since_more (place first) (place before) (place after) request reply since answers, replied_since (place first) (place before) (place after) request reply since answers))
         first last serves.requests serves.replies tt (since_none (place first)) serves.responds
 
     pub was_called : Since (place first) (place last)
     was_called = row.stands
 
-    pub was_replied : Serves (RepliesOne (place first).server.state.header.shape) old new port tt tt ended
-    was_replied = by_row (RepliesOne (place first).server.state.header.shape) tt tt row.run
+    pub was_replied : Serves (RepliesOne (place first).server.store.header.shape) old new port tt tt ended
+    was_replied = by_row (RepliesOne (place first).server.store.header.shape) tt tt row.run
 
     pub was_served : (p : Peer) → IsTrue (cloud_in (place first) (place first)).told → IsServing (place first).server (cloud_in (place first) (place first)) p
         → (q : Peer) × IsServing (place last).server (cloud_in (place first) (place last)) q
-        × Serves (ServesOne (place first).server.state.header.shape (server_serves (place first).server)) old new port p q ended
+        × Serves (ServesOne (place first).server.store.header.shape (server_serves (place first).server)) old new port p q ended
     was_served p told serving =
-        let peers = carried Step (ServesOne (place first).server.state.header.shape (server_serves (place first).server)) (λ s t. StandsAs (place first) (place s) t)
+        let peers = carried Step (ServesOne (place first).server.store.header.shape (server_serves (place first).server)) (λ s t. StandsAs (place first) (place s) t)
         (λ before request reply after t lawful answers stands. let g = goes (place first) (place before) (place after) t request reply stands answers in (g.left, g.stands, g.does))
         first last serves.requests serves.replies p (record { since = since_none (place first); told = told; serving = serving }) serves.responds in (
           peers.left,
           peers.stands.serving,
-          by_row (ServesOne (place first).server.state.header.shape (server_serves (place first).server)) p peers.left peers.run,
+          by_row (ServesOne (place first).server.store.header.shape (server_serves (place first).server)) p peers.left peers.run,
         )

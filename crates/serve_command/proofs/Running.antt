@@ -1,11 +1,10 @@
 -- A run of connections, by one more.
 use Rattle.std.proofs.Common.{◌≡◌, ℕ, ◌-◌, ◌^◌, ◌≤◌, min, List, [], ◌∷◌, ◌++◌, IsTrue, refl, ap, ◌∙◌, subst, arith}
 use Rattle.std.proofs.lemmas.List.{map-append}
-use Rattle.cd_base.specs.declared.rooms.Rooms.{Rooms}
 use Rattle.cd_edges.specs.Ports.{Telling}
 use Rattle.cd_edges.proofs.Calls.{called_twice}
-use Rattle.commit_journal.specs.declared.header.Header.{Header}
-use Rattle.cloud_store.specs.Space.{served_by}
+use Rattle.journal_start.specs.declared.start.Header.{Header}
+use Rattle.user_dedup.specs.Served.{served_by}
 use Rattle.serve_command.specs.Serving.{RepliesOne, ServesOne}
 use Rattle.serve_command.specs.declared.served.Served.{Served}
 use Rattle.serve_command.specs.declared.served.Served.TheVariants as ends
@@ -57,10 +56,10 @@ run_later step old new first last before after all run = runs_later step first b
 
 -- ---- a server over its cloud
 
-pub went_none : (header : Header) (rooms : Rooms) (old : Moment) (before : ℕ)
-    → Went header rooms old old before [] before
-went_none header rooms old before = record {
-  same = record { header = refl; rooms = refl };
+pub went_none : (header : Header) (old : Moment) (before : ℕ)
+    → Went header old old before [] before
+went_none header old before = record {
+  same = refl;
   call = record {
     others = λ other apart. refl;
     told = refl;
@@ -74,16 +73,16 @@ went_none header rooms old before = record {
     p,
     serving,
     run_none
-        (ServesOne header.shape (served_by rooms header.shape header.cloud.0)) old.tells p before,
+        (ServesOne header.shape (served_by header.rooms header.shape header.cloud.0)) old.tells p before,
   );
 }
 
-module _ (header : Header) (rooms : Rooms) (old mid new : Moment) (before count after : ℕ) (all : List Served)
+module _ (header : Header) (old mid new : Moment) (before count after : ℕ) (all : List Served)
     (ended : Served)
-    (went : Went header rooms old mid before all count) (cause : EndsWithCause ended count after) where
-  by_same : Goes header rooms mid new ended → Went header rooms old new before (all ++ ended ∷ []) after
+    (went : Went header old mid before all count) (cause : EndsWithCause ended count after) where
+  by_same : Goes header mid new ended → Went header old new before (all ++ ended ∷ []) after
   by_same goes = record {
-    same = record { header = goes.same.header ∙ went.same.header; rooms = goes.same.rooms ∙ went.same.rooms };
+    same = goes.same ∙ went.same;
     call = called_twice old.clouds mid.clouds new.clouds header.cloud.0 old.total mid.total new.total went.call
         goes.call;
     told = goes.told ∙ went.told;
@@ -95,16 +94,13 @@ module _ (header : Header) (rooms : Rooms) (old mid new : Moment) (before count 
         let more = goes.served told_mid so_far.0 so_far.1 in (
           more.0,
           more.1,
-          run_more (ServesOne header.shape (served_by rooms header.shape header.cloud.0)) old.tells mid.tells new.tells
+          run_more (ServesOne header.shape (served_by header.rooms header.shape header.cloud.0)) old.tells mid.tells new.tells
               p so_far.0 more.0 before count after all ended
               so_far.2 went.told more.2 cause,
         );
   }
 
   -- the next connection
-  pub went_more : old.server.state.header ≡ header → old.server.state.rooms ≡ rooms
-      → Goes mid.server.state.header mid.server.state.rooms mid new ended
-      → Went header rooms old new before (all ++ ended ∷ []) after
-  went_more header_is rooms_are goes =
-      by_same (subst (λ (h : Header). Goes h rooms mid new ended) (went.same.header ∙ header_is)
-      (subst (λ (r : Rooms). Goes mid.server.state.header r mid new ended) (went.same.rooms ∙ rooms_are) goes))
+  pub went_more : old.server.store.header ≡ header → Goes mid.server.store.header mid new ended
+      → Went header old new before (all ++ ended ∷ []) after
+  went_more header_is goes = by_same (subst (λ (h : Header). Goes h mid new ended) (went.same ∙ header_is) goes)

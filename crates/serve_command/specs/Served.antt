@@ -2,30 +2,35 @@
 use Rattle.std.specs.Prelude.{◌≡◌, ◌⊎◌, ℕ, ◌<◌, ◌≤◌, true, IsTrue, List, [], ◌∷◌, ◌++◌, length, Option, Ok}
 use Rattle.std.specs.Io.KnownBytes.{Appends}
 use Rattle.std.specs.List.{Contains}
-use Rattle.cd_base.specs.Limits.{greatest_rooms}
 use Rattle.cd_base.specs.declared.ids.CloudNo.{CloudNo}
 use Rattle.cd_base.specs.declared.shape.Shape.{Shape}
 use Rattle.cd_edges.specs.Causes.{Rose}
 use Rattle.cd_edges.specs.declared.area.Area.TheVariants.{Journal}
 use Rattle.cd_edges.specs.Disk.{Cloud, reads}
 use Rattle.cd_edges.specs.Ports.{Telling}
-use Rattle.cd_edges.specs.Shelf.{HasFailed, KeepsCounts}
-use Rattle.commit_journal.specs.declared.errors.OpenErr.{OpenErr}
-use Rattle.commit_journal.specs.declared.errors.OpenErr.TheVariants as errors
-use Rattle.commit_journal.specs.declared.header.Header.{Header}
-use Rattle.commit_journal.specs.Openings.{OnFault}
+use Rattle.cd_edges.specs.Shelf.{HasFailed, KeepsCounts, Stays}
+use Rattle.half_journal.specs.declared.errors.OpenErr.{OpenErr}
+use Rattle.half_journal.specs.declared.errors.OpenErr.TheVariants as errors
+use Rattle.journal_start.specs.declared.rooms.Rooms.{Rooms}
+use Rattle.journal_start.specs.declared.start.Header.{Header}
+use Rattle.journal_start.specs.declared.start.Start.{Start}
+use Rattle.journal_start.specs.Ranges.{AreRooms, usual_rooms}
+use Rattle.journal_halves.specs.Beginnings.{IsUnbegun}
+use Rattle.journal_halves.specs.Findings.{IsFoundDamage}
+use Rattle.journal_halves.specs.Halves.{IsCurrent}
+use Rattle.half_journal.specs.Openings.{OnFault}
 use Rattle.user_dedup.specs.declared.command.Command.{Command}
 use Rattle.user_dedup.specs.Exec.{Peer, MaySettleAs}
-use Rattle.cloud_opening.specs.Exact.{Opens}
-use Rattle.cloud_opening.specs.Replied.{IsOkOrFault, OtherStoreIs}
-use Rattle.cloud_opening.specs.Spared.{Spares}
-use Rattle.cloud_store.specs.Space.{IsWithin, served_by}
-use Rattle.cloud_store.specs.Standing.{ImagesNow, ImagesSince, StandsAs}
-use Rattle.cloud_store.specs.Store.{StandsFor}
+use Rattle.store_opening.specs.Spared.{IsOkOrFault, Spares}
+use Rattle.cloud_server.specs.Openings.{OpensTo, OtherStoreIs}
+use Rattle.user_dedup.specs.Spending.{IsWithin}
+use Rattle.user_dedup.specs.Served.{served_by}
+use Rattle.cloud_areas.specs.Peers.{ImagesNow, ImagesSince, StandsAs}
+use Rattle.cloud_areas.specs.Standing.{StandsFor}
 use Rattle.serve_command.specs.Serving.{RepliesOne, ServesOne}
 use Rattle.serve_command.specs.declared.served.Served.{Served}
-use Rattle.share_server.specs.Names.{header_of}
-use Rattle.share_server.specs.Serving.{an_error, settled_with}
+use Rattle.cloud_server.specs.Names.{header_of}
+use Rattle.cloud_server.specs.Serving.{an_error, settled_with}
 use Rattle.transcript.specs.Endings.{ending_text}
 use Rattle.transcript.specs.declared.ending.Ending.TheVariants as endings
 use Rattle.serve_command.specs.Lines.{ready_text, connection_text, serving_text}
@@ -66,13 +71,13 @@ old_cloud call = call.old call.cloud.0
 abbrev pub new_cloud : Call → Cloud
 new_cloud call = call.new call.cloud.0
 
--- the header of the served cloud's journal
-abbrev pub own_header : Call → Header
-own_header call = header_of call.shape call.cloud.0
+-- the header of the served cloud's journal in these rooms
+abbrev pub own_header : Rooms → Call → Header
+own_header rooms call = header_of call.shape rooms call.cloud.0
 
 -- ---- no memory
 
--- Memory ran out before anything was done.
+-- Memory ran out before anything was done but a read of the journal.
 pub record IsUnmade (status : ℕ) (call : Call) : Type 0 where
   pub status_is : status ≡ 6
   pub written : call.out.written_after ≡ call.out.written_before
@@ -87,33 +92,30 @@ pub record IsUnmade (status : ℕ) (call : Call) : Type 0 where
 -- The opening ended with this error. On a told cloud it is what the bytes of the areas come to, record by record,
 -- unless a device call failed; the areas are spared, whatever they hold; and each image since then stands for one of
 -- the lists that the images stood for.
-pub record Refuses (call : Call) (error : OpenErr) : Type 0 where
+pub record Refuses (rooms : Rooms) (call : Call) (error : OpenErr) : Type 0 where
   pub exact : IsTrue (old_cloud call).told → OnFault (an_error error) (Unit {0})
-      (Opens (own_header call) greatest_rooms true (reads (old_cloud call).now) (an_error error))
+      (OpensTo (own_header rooms call) true (reads (old_cloud call).now) (an_error error))
   pub other_store : IsTrue (old_cloud call).told
-      → OtherStoreIs ((old_cloud call).now Journal).read (own_header call) (an_error error)
+      → OtherStoreIs ((old_cloud call).now Journal).read (own_header rooms call) (an_error error)
   pub whole : IsTrue (old_cloud call).told → (list : List Command)
-      → StandsFor (reads (old_cloud call).now) (own_header call) list
-      → IsWithin greatest_rooms list → IsOkOrFault (an_error error)
+      → StandsFor (reads (old_cloud call).now) (own_header rooms call) list
+      → IsWithin call.shape rooms list → IsOkOrFault (an_error error)
   pub counts : OnFault (an_error error)
       (HasFailed (old_cloud call) (new_cloud call) call.total_before call.total_after)
       (KeepsCounts (old_cloud call) (new_cloud call) call.total_before call.total_after)
   pub spared : IsTrue (old_cloud call).told
-      → Spares (own_header call) true (old_cloud call) (new_cloud call) (an_error error)
+      → Spares (own_header rooms call) true (old_cloud call) (new_cloud call) (an_error error)
   pub kept : IsTrue (old_cloud call).told → (lists : List (List Command))
-      → ImagesNow (old_cloud call) (own_header call) (Contains lists)
-      → ImagesSince (old_cloud call) (new_cloud call) (own_header call) (Contains lists)
+      → ImagesNow (old_cloud call) (own_header rooms call) (Contains lists)
+      → ImagesSince (old_cloud call) (new_cloud call) (own_header rooms call) (Contains lists)
 
 -- the status for the error, and the last line
 abbrev pub Reports : CloudNo → OpenErr → ℕ → List ℕ → Type 0
 Reports cloud errors.Fault status line = (status ≡ 5) × (line ≡ ending_text (endings.Shelf cloud))
 Reports cloud (errors.Damaged at byte) status line = (status ≡ 7) × (line ≡ ending_text (endings.Damaged cloud at byte))
-Reports cloud (errors.OtherStore found asked) status line =
+Reports cloud (errors.OtherStore found asked at) status line =
     (status ≡ 7) × (line ≡ ending_text (endings.Other cloud found.format found.shape.n found.shape.k found.cloud))
-Reports cloud (errors.RoomsTooSmall room limit at) status line = (status ≡ 7)
-    × (line ≡ ending_text (endings.Rooms cloud room limit))
 Reports cloud (errors.NotBegun len) status line = ⊥
-Reports cloud errors.NoMemory status line = ⊥
 
 -- All of a text was written.
 pub record IsWhole (out : Output) (text : List ℕ) : Type 0 where
@@ -134,16 +136,20 @@ pub record IsLeftOut (status : ℕ) (out : Output) (front : List ℕ) : Type 0 w
   pub status_is : status ≡ 6
   pub whole : IsWhole out front
 
--- The cloud wasn't opened. The last line says so, and no port was touched.
-pub record IsUnopened (status : ℕ) (call : Call) : Type 0 where
-  pub error : OpenErr
-  pub refuses : Refuses call error
+-- What is written of the error: its last line, whole with its status, or a front of it. No port was touched.
+pub record IsReported (status : ℕ) (call : Call) (error : OpenErr) : Type 0 where
   pub due : ℕ
   pub line : List ℕ
   pub reports : Reports call.cloud error due line
   pub ends : ((status ≡ due) × IsWhole call.out line) ⊎ (IsCut status call.out [] line ⊎ IsLeftOut status call.out [])
   pub tells : call.tells_after ≡ call.tells_before
   pub ports : call.ports_after ≡ call.ports_before
+
+-- The cloud wasn't opened.
+pub record IsUnopened (rooms : Rooms) (status : ℕ) (call : Call) : Type 0 where
+  pub error : OpenErr
+  pub refuses : Refuses rooms call error
+  pub reported : IsReported status call error
 
 -- ---- connections
 
@@ -189,31 +195,63 @@ Ends status address count out all after now = IsDone status address count out al
 
 -- Where the areas of a told cloud stood for a list: the first connection begins with it, and each image now stands for
 -- the list that the last one left, or for it with its pending command, all within the rooms.
-pub record HasServed (call : Call) (all : List Served) (after : ℕ) (list : List Command) : Type 0 where
+pub record HasServed (rooms : Rooms) (call : Call) (all : List Served) (after : ℕ) (list : List Command) : Type 0 where
   pub left : Peer
-  pub run : ServeRun (ServesOne call.shape (served_by greatest_rooms call.shape call.cloud.0)) call.tells_before
+  pub run : ServeRun (ServesOne call.shape (served_by rooms call.shape call.cloud.0)) call.tells_before
       call.tells_after
       (settled_with list (old_cloud call)) call.ports_before all left after
-  pub stands : StandsAs (new_cloud call) (own_header call) left
-  pub within : (settled : List Command) → MaySettleAs left settled → IsWithin greatest_rooms settled
+  pub stands : StandsAs (new_cloud call) (own_header rooms call) left
+  pub within : (settled : List Command) → MaySettleAs left settled → IsWithin call.shape rooms settled
 
 -- The cloud was opened, and connections that ended so were served: over a list by its rules; and whatever the cloud
 -- holds, by replies that some server gives.
-pub record IsOpened (status : ℕ) (call : Call) : Type 0 where
+pub record IsOpened (rooms : Rooms) (status : ℕ) (call : Call) : Type 0 where
   pub opens : IsTrue (old_cloud call).told
-      → (commands : ℕ) × Opens (own_header call) greatest_rooms true (reads (old_cloud call).now) (Ok commands)
+      → (commands : ℕ) × OpensTo (own_header rooms call) true (reads (old_cloud call).now) (Ok commands)
   pub all : List Served
   pub after : ℕ
   pub replied : ServeRun (RepliesOne call.shape) call.tells_before call.tells_after tt call.ports_before all tt after
   pub served : IsTrue (old_cloud call).told → (list : List Command)
-      → StandsFor (reads (old_cloud call).now) (own_header call) list
-      → HasServed call all after list
+      → StandsFor (reads (old_cloud call).now) (own_header rooms call) list
+      → IsWithin call.shape rooms list → HasServed rooms call all after list
   pub ends : Ends status call.address call.count call.out all after call.ports_after
   pub told : call.tells_after.told ≡ call.tells_before.told
 
-abbrev pub IsUnopenedOrServed : ℕ → Call → Type 0
-IsUnopenedOrServed status call = IsUnopened status call ⊎ IsOpened status call
+abbrev pub IsUnopenedOrServed : Rooms → ℕ → Call → Type 0
+IsUnopenedOrServed rooms status call = IsUnopened rooms status call ⊎ IsOpened rooms status call
+
+-- ---- the rooms
+
+-- The rooms that a journal of these bytes has: those of its current half's start, and the usual ones where no half is
+-- begun.
+abbrev pub HasRooms : List ℕ → Rooms → Type 0
+HasRooms journal rooms = (IsUnbegun journal × (rooms ≡ usual_rooms))
+    ⊎ ((half : ℕ) × (start : Start) × IsCurrent journal half start × (rooms ≡ start.header.rooms))
+
+-- Why a cloud's rooms aren't found: a read failed, or the starts of its journal's halves are damaged.
+abbrev pub IsUnreadable : Cloud → OpenErr → Type 0
+IsUnreadable cloud errors.Fault = Unit {0}
+IsUnreadable cloud (errors.Damaged at byte) = IsTrue cloud.told → IsFoundDamage (cloud.now Journal).read at byte
+IsUnreadable cloud (errors.OtherStore found asked at) = ⊥
+IsUnreadable cloud (errors.NotBegun len) = ⊥
+
+-- No rooms were found. Nothing of the cloud's areas changed.
+pub record IsUnfound (status : ℕ) (call : Call) : Type 0 where
+  pub error : OpenErr
+  pub unreadable : IsUnreadable (old_cloud call) error
+  pub stays : Stays (old_cloud call) (new_cloud call)
+  pub counts : OnFault (an_error error)
+      (HasFailed (old_cloud call) (new_cloud call) call.total_before call.total_after)
+      (KeepsCounts (old_cloud call) (new_cloud call) call.total_before call.total_after)
+  pub reported : IsReported status call error
+
+-- The cloud was to be opened with allowed rooms, which are those that a told cloud's journal has.
+pub record IsInRooms (status : ℕ) (call : Call) : Type 0 where
+  pub rooms : Rooms
+  pub allowed : AreRooms rooms
+  pub found : IsTrue (old_cloud call).told → HasRooms ((old_cloud call).now Journal).read rooms
+  pub served : IsUnopenedOrServed rooms status call
 
 -- The whole promise.
 abbrev pub IsServed : ℕ → Call → Type 0
-IsServed status call = IsUnmade status call ⊎ IsUnopenedOrServed status call
+IsServed status call = IsUnmade status call ⊎ (IsUnfound status call ⊎ IsInRooms status call)

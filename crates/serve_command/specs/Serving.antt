@@ -12,9 +12,8 @@ use Rattle.user_dedup.specs.declared.command.Command.{Command}
 use Rattle.user_dedup.specs.Dedup.{Outcome}
 use Rattle.user_dedup.specs.Exec.{Peer, Exec, items_of}
 use Rattle.user_dedup.specs.Requests.{asked_at}
-use Rattle.cloud_state.specs.State.{IsSameServer}
-use Rattle.share_server.specs.Serving.{IsServing, Executes, number_of}
-use Rattle.share_server.specs.declared.server.Server.{Server}
+use Rattle.cloud_server.specs.Serving.{IsServing, ExecutesAs, number_of}
+use Rattle.cloud_server.specs.declared.server.Server.{Server}
 
 -- The content asks nothing, and is answered by the first place that is wrong.
 abbrev pub IsMalformed : Shape → List ℕ → List ℕ → Type 0
@@ -44,11 +43,11 @@ place_of server clouds faults = record { server = server; clouds = clouds; fault
 
 -- What the server's answer to a content does: on a cloud that stands as a peer, and whatever it holds.
 pub record Answers (before after : Place) (content reply : List ℕ) : Type 0 where
-  pub same : IsSameServer before.server.state after.server.state
+  pub same : after.server.store.header ≡ before.server.store.header
   pub exec : (p : Peer) (r : Request) → IsTrue (before.clouds (number_of before.server)).told
-      → IsServing before.server (before.clouds (number_of before.server)) p → asked_at before.server.state.header.shape content ≡ Ok r
-      → Executes before.server.state after.server.state (after.clouds (number_of before.server)) p r reply
-  pub malformed : (at : ℕ) → asked_at before.server.state.header.shape content ≡ Err at
+      → IsServing before.server (before.clouds (number_of before.server)) p → asked_at before.server.store.header.shape content ≡ Ok r
+      → ExecutesAs before.server.store after.server.store (after.clouds (number_of before.server)) p r reply
+  pub malformed : (at : ℕ) → asked_at before.server.store.header.shape content ≡ Err at
       → (reply ≡ reply_bytes (replies.Malformed at)) × (after.server ≡ before.server) × (after.clouds ≡ before.clouds)
-  pub replied : RepliesOne before.server.state.header.shape tt content reply tt
+  pub replied : RepliesOne before.server.store.header.shape tt content reply tt
   pub call : IsCall before.clouds after.clouds (number_of before.server) before.faults after.faults

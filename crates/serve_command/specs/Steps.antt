@@ -1,22 +1,22 @@
 -- What connections do, one after another. No public clause cites this module.
 use Rattle.std.specs.Prelude.{◌≡◌, ◌⊎◌, ℕ, ◌+◌, List, [], IsTrue, Result, Ok, Err}
 use Rattle.cd_base.specs.declared.ids.CloudNo.{CloudNo}
-use Rattle.cd_base.specs.declared.rooms.Rooms.{Rooms}
 use Rattle.cd_edges.specs.Disk.{Cloud}
 use Rattle.cd_edges.specs.Ports.{Telling, OthersStay}
-use Rattle.cd_edges.specs.Shelf.{IsCall}
-use Rattle.commit_journal.specs.declared.errors.OpenErr.{OpenErr}
-use Rattle.commit_journal.specs.declared.header.Header.{Header}
+use Rattle.cd_edges.specs.Shelf.{IsCall, HasFailed, KeepsCounts}
+use Rattle.half_journal.specs.declared.errors.OpenErr.{OpenErr}
+use Rattle.half_journal.specs.Openings.{OnFault}
+use Rattle.journal_start.specs.declared.start.Header.{Header}
 use Rattle.user_dedup.specs.Exec.{Peer}
-use Rattle.cloud_state.specs.State.{IsSameServer}
-use Rattle.cloud_store.specs.Space.{served_by}
+use Rattle.user_dedup.specs.Served.{served_by}
 use Rattle.serve_command.specs.Serving.{RepliesOne, ServesOne}
 use Rattle.serve_command.specs.declared.served.Served.{Served}
 use Rattle.serve_command.specs.Connection.{Responds}
-use Rattle.share_server.specs.Serving.{IsServing}
-use Rattle.share_server.specs.declared.server.Server.{Server}
+use Rattle.cloud_server.specs.Serving.{IsServing}
+use Rattle.cloud_server.specs.declared.server.Server.{Server}
 use Rattle.serve_command.specs.Runs.{Connection, HasBytes, ServeRun}
-use Rattle.serve_command.specs.Served.{Output, Ends, IsWhole, IsCut, IsLeftOut, Reports}
+use Rattle.journal_start.specs.declared.rooms.Rooms.{Rooms}
+use Rattle.serve_command.specs.Served.{Call, IsUnmade, IsUnopenedOrServed, Output, Ends, IsWhole, IsCut, IsLeftOut, Reports}
 use Rattle.serve_command.specs.declared.stop.Stop.{Stop}
 use Rattle.serve_command.specs.declared.stop.Stop.TheVariants as stops
 
@@ -45,27 +45,31 @@ pub record OneServed {S : Type 0} (step : S → List ℕ → List ℕ → S → 
   pub responds : Responds step first requests replies last
   pub bytes : IsTrue old.told → PassesNext old new (record { ended = ended; requests = requests; replies = replies })
 
--- One connection was served by the server of this header in these rooms.
-pub record Goes (header : Header) (rooms : Rooms) (old new : Moment) (ended : Served) : Type 0 where
-  pub same : IsSameServer old.server.state new.server.state
+-- One connection was served by the server of this header.
+pub record Goes (header : Header) (old new : Moment) (ended : Served) : Type 0 where
+  pub same : new.server.store.header ≡ old.server.store.header
   pub call : IsCall old.clouds new.clouds header.cloud.0 old.total new.total
   pub told : new.tells.told ≡ old.tells.told
   pub replied : OneServed (RepliesOne header.shape) old.tells new.tells tt tt ended
   pub served : IsTrue (old.clouds header.cloud.0).told → (p : Peer) → IsServing old.server (old.clouds header.cloud.0) p
       → (q : Peer) × IsServing new.server (new.clouds header.cloud.0) q
-      × OneServed (ServesOne header.shape (served_by rooms header.shape header.cloud.0)) old.tells new.tells p q ended
+      × OneServed (ServesOne header.shape (served_by header.rooms header.shape header.cloud.0)) old.tells new.tells p q ended
 
 -- Connections that ended so were served, from a count of the ports' faults to a count.
-pub record Went (header : Header) (rooms : Rooms) (old new : Moment) (before : ℕ) (all : List Served) (after : ℕ)
+pub record Went (header : Header) (old new : Moment) (before : ℕ) (all : List Served) (after : ℕ)
     : Type 0 where
-  pub same : IsSameServer old.server.state new.server.state
+  pub same : new.server.store.header ≡ old.server.store.header
   pub call : IsCall old.clouds new.clouds header.cloud.0 old.total new.total
   pub told : new.tells.told ≡ old.tells.told
   pub replied : ServeRun (RepliesOne header.shape) old.tells new.tells tt before all tt after
   pub served : IsTrue (old.clouds header.cloud.0).told → (p : Peer) → IsServing old.server (old.clouds header.cloud.0) p
       → (q : Peer) × IsServing new.server (new.clouds header.cloud.0) q
-      × ServeRun (ServesOne header.shape (served_by rooms header.shape header.cloud.0)) old.tells new.tells p before
+      × ServeRun (ServesOne header.shape (served_by header.rooms header.shape header.cloud.0)) old.tells new.tells p before
       all q after
+
+-- What a search for rooms does to the counts: they rise where a read failed, and else they stay.
+abbrev pub Counts : {T : Type 0} → Cloud → Cloud → ℕ → ℕ → Result T OpenErr → Type 0
+Counts old new before now result = OnFault result (HasFailed old new before now) (KeepsCounts old new before now)
 
 -- A line was written; or the sink failed in it; or memory ran out for it.
 abbrev pub Writes : List ℕ → Output → Result (Unit {0}) Stop → Type 0
@@ -82,6 +86,10 @@ pub record Closes (cloud : CloudNo) (error : OpenErr) (out : Output) (status : �
   pub reports : Reports cloud error due line
   pub ends : ((status ≡ due) × IsWhole out line) ⊎ (IsCut status out [] line ⊎ IsLeftOut status out [])
 
+-- Memory ran out before the cloud was opened with these rooms, or it was opened with them or not.
+abbrev pub IsUnmadeOrServed : Rooms → ℕ → Call → Type 0
+IsUnmadeOrServed rooms status call = IsUnmade status call ⊎ IsUnopenedOrServed rooms status call
+
 -- the status of a serving that was stopped, or not
 abbrev pub status_by : Result (Unit {0}) Stop → ℕ
 status_by (Ok value) = 0
@@ -90,10 +98,10 @@ status_by (Err stops.NoMemory) = 6
 status_by (Err stops.PortsFault) = 9
 
 -- Connections were served, up to the end that the status says.
-pub record ServesAll (status : ℕ) (header : Header) (rooms : Rooms) (old new : Moment) (address : List ℕ) (count : ℕ)
+pub record ServesAll (status : ℕ) (header : Header) (old new : Moment) (address : List ℕ) (count : ℕ)
     (out : Output)
     (before now : ℕ) : Type 0 where
   pub all : List Served
   pub after : ℕ
-  pub went : Went header rooms old new before all after
+  pub went : Went header old new before all after
   pub ends : Ends status address count out all after now

@@ -1,19 +1,25 @@
 //! Serving a cloud.
 
 ghost use Rattle.std.specs.Prelude.{◌≡◌, ◌⊎◌, ◌<◌};
-ghost use Rattle.cd_base.specs.Limits.{greatest_rooms};
 ghost use Rattle.cd_edges.specs.Shelf.{IsCall};
-ghost use Rattle.share_server.specs.Serving.{IsOf};
+ghost use Rattle.cloud_server.specs.Names.{header_of};
 ghost use Rattle.serve_command.specs.Complete.{GoesWell};
-ghost use Rattle.serve_command.specs.Served.{IsServed, IsUnopenedOrServed, output_of};
+ghost use Rattle.serve_command.specs.Served.{IsServed, IsUnmade, IsUnopenedOrServed, output_of};
+ghost use Rattle.serve_command.specs.Steps.{IsUnmadeOrServed};
+ghost use Rattle.journal_start.specs.Ranges.{AreRooms};
 
 use crate::connections::serve_all;
 use crate::desk::Desk;
+use crate::finding::rooms_of;
 use crate::refusal::refuse;
 use crate::stop::status_of;
 use cd_base::{CloudNo, NoMemory, Shape};
 use cd_edges::{Ports, Shelf, Sink};
-use std::alloc::Global;
+use cloud_areas::laws::law_of_headers;
+use cloud_server::laws::law_of_no_commands;
+use journal_halves::WINDOW;
+use journal_start::Rooms;
+use std::alloc::{AllocError, Global};
 
 // Opens the cloud of a desk, and serves it. It answers the status.
 fn serve_at<K: Sink, V: Shelf, P: Ports>(
@@ -26,10 +32,11 @@ fn serve_at<K: Sink, V: Shelf, P: Ports>(
     shelf: &mut V,
     ports: &mut P,
 ) -> u8
-    requires of { IsOf desk.old.server cloud desk.old.server.state.header.shape greatest_rooms }
+    requires of { desk.old.server.store.header
+        ≡ header_of desk.old.server.store.header.shape desk.old.server.store.header.rooms cloud.0 }
     requires count { 0 < count }
-    ensures served { IsUnopenedOrServed result (record {
-      shape = desk.old.server.state.header.shape;
+    ensures served { IsUnopenedOrServed desk.old.server.store.header.rooms result (record {
+      shape = desk.old.server.store.header.shape;
       cloud = cloud;
       address = address.now;
       count = count;
@@ -55,11 +62,51 @@ fn serve_at<K: Sink, V: Shelf, P: Ports>(
     }
 }
 
+// Makes a desk for the cloud in these rooms, and serves the cloud. It answers the status.
+fn serve_in<K: Sink, V: Shelf, P: Ports>(
+    alloc: Global,
+    shape: Shape,
+    cloud: CloudNo,
+    rooms: Rooms,
+    address: &str,
+    count: u32,
+    sink: &mut K,
+    shelf: &mut V,
+    ports: &mut P,
+) -> u8
+    requires cloud { cloud.0 < shape.n }
+    requires rooms { AreRooms rooms }
+    requires count { 0 < count }
+    ensures served { IsUnmadeOrServed rooms result (record {
+      shape = shape;
+      cloud = cloud;
+      address = address.now;
+      count = count;
+      out = output_of (K.written sink.old) (K.written sink.new) (K.faults sink.old) (K.faults sink.new);
+      old = V.cloud_at shelf.old;
+      new = V.cloud_at shelf.new;
+      total_before = V.faults shelf.old;
+      total_after = V.faults shelf.new;
+      tells_before = P.tells ports.old;
+      tells_after = P.tells ports.new;
+      ports_before = P.faults ports.old;
+      ports_after = P.faults ports.new;
+    }) }
+    ensures call { IsCall (V.cloud_at shelf.old) (V.cloud_at shelf.new) cloud.0
+        (V.faults shelf.old) (V.faults shelf.new) }
+{
+    let mut desk = match Desk::make(alloc, shape, cloud, rooms) {
+        Ok(desk) => desk,
+        Err(NoMemory) => return 6,
+    };
+    serve_at(alloc, &mut desk, cloud, address, count, sink, shelf, ports)
+}
+
 /// Serves a cloud of a store of this shape to so many connections, one after another, and answers the status. `cloud`
 /// is below the shape's n, and `count` is at least 1.
 ///
-/// The server, in the greatest rooms, and its buffers are made first. The cloud is opened, and begun where it isn't
-/// begun. Then connections to the address are listened for, the line `ready ADDRESS` is written, and each connection
+/// The rooms are found first: those of the journal's current half, and the usual ones where none is begun. Then the server,
+/// in these rooms, and its buffers are made. The cloud is opened, and begun where it isn't begun. Then connections to the address are listened for, the line `ready ADDRESS` is written, and each connection
 /// that is accepted is served to its end and closed; behind it stands the line `connection I WORD`, where I counts from
 /// 1 and WORD is `end`, `cut`, `length`, `spent` or `failed`. A connection that failed is followed by the next one.
 ///
@@ -68,19 +115,19 @@ fn serve_at<K: Sink, V: Shelf, P: Ports>(
 /// | 0 | `count` connections were served | all lines |
 /// | 4 | the sink's count of faults rose | a front of the lines, or of the last line of 5 and 7 |
 /// | 5 | a device call of the opening failed, and the cloud's count rose | `shelf CLOUD` |
-/// | 6 | memory ran out: at first, and nothing was done; or for a line | the lines before that one |
+/// | 6 | memory ran out: before the cloud was opened, and it was only read; or for a line | the lines before that one |
 /// | 7 | the journal is damaged | `damaged CLOUD AT BYTE` |
-/// | 7 | the journal is another store's or cloud's | `other CLOUD FORMAT N K OWN`, as found |
-/// | 7 | the records hold more than the greatest of a room | `rooms CLOUD ROOM LIMIT` |
+/// | 7 | the journal is another store's or cloud's, or has other rooms | `other CLOUD FORMAT N K OWN`, as found |
 /// | 9 | the ports' count rose: nothing could be listened for | nothing |
 /// | 9 | the ports' count rose: no further connection was accepted | all lines of the connections before |
 ///
 /// AT is in bytes, BYTE in two hexadecimal digits. With 5 and 7 no port was touched, and the areas are spared. Nothing
 /// is done behind a line that isn't written whole.
 ///
-/// On a told cloud whose areas stand for a list the first connection begins with that list, and each later one with the
-/// list and the pending command that the one before left; each image now stands for what the last one left. Each reply
-/// is the one that the list gives, however the bytes came in pieces. The shelf's other clouds are as they were.
+/// On a told cloud whose areas stand for a list within the rooms the first connection begins with that list, and each
+/// later one with the list and the pending command that the one before left; each image now stands for what the last
+/// one left. Each reply is the one that the list gives, however the bytes came in pieces. The shelf's other clouds are
+/// as they were.
 pub fn serve<K: Sink, V: Shelf, P: Ports>(
     alloc: Global,
     shape: Shape,
@@ -126,9 +173,16 @@ pub fn serve<K: Sink, V: Shelf, P: Ports>(
       ports_after = P.faults ports.new;
     }) → (result ≡ 0) ⊎ (result ≡ 6) }
 {
-    let mut desk = match Desk::make(alloc, shape, cloud) {
-        Ok(desk) => desk,
-        Err(NoMemory) => return 6,
+    law_of_no_commands();
+    law_of_headers();
+    let mut window = match vec![in alloc; 0u8; WINDOW] {
+        Ok(window) => window,
+        Err(AllocError) => return 6,
     };
-    serve_at(alloc, &mut desk, cloud, address, count, sink, shelf, ports)
+    match rooms_of(shelf, cloud, &mut window) {
+        Ok(rooms) => serve_in(
+            alloc, shape, cloud, rooms, address, count, sink, shelf, ports,
+        ),
+        Err(error) => refuse(alloc, cloud, error, sink),
+    }
 }

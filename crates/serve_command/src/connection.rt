@@ -3,16 +3,15 @@
 ghost use Rattle.std.specs.Prelude.{◌≡◌, IsTrue};
 ghost use Rattle.cd_edges.specs.Shelf.{IsCall};
 ghost use Rattle.user_dedup.specs.Exec.{Peer};
-ghost use Rattle.cloud_state.specs.State.{IsSameServer};
-ghost use Rattle.share_server.specs.Serving.{IsServing, number_of, server_serves};
+ghost use Rattle.cloud_server.specs.Serving.{IsServing, number_of, server_serves};
 ghost use Rattle.serve_command.specs.Connection.{EndsWithCause, Serves};
 ghost use Rattle.serve_command.specs.Serving.{RepliesOne, ServesOne, place_of};
 
 use crate::responder::CloudResponder;
 use crate::{Served, serve_frames};
 use cd_edges::{Ports, Shelf};
+use cloud_server::Server;
 use frames::{Framer, ReplyBuf};
-use share_server::Server;
 
 // Serves the connection, and says what the server and its shelf did as the responder that they are.
 fn serve_responder<V: Shelf, P: Ports>(
@@ -28,11 +27,11 @@ fn serve_responder<V: Shelf, P: Ports>(
         → IsServing responder.old.server.now (V.cloud_at responder.old.shelf.now (number_of responder.old.server.now)) p
         → (q : Peer)
         × IsServing responder.new.server.now (V.cloud_at responder.new.shelf.now (number_of responder.old.server.now)) q
-        × Serves (ServesOne responder.old.server.now.state.header.shape (server_serves responder.old.server.now))
+        × Serves (ServesOne responder.old.server.now.store.header.shape (server_serves responder.old.server.now))
         (P.tells ports.old) (P.tells ports.new) port p q result }
-    ensures replied { Serves (RepliesOne responder.old.server.now.state.header.shape)
+    ensures replied { Serves (RepliesOne responder.old.server.now.store.header.shape)
         (P.tells ports.old) (P.tells ports.new) port tt tt result }
-    ensures same { IsSameServer responder.old.server.now.state responder.new.server.now.state }
+    ensures same { responder.new.server.now.store.header ≡ responder.old.server.now.store.header }
     ensures call { IsCall (V.cloud_at responder.old.shelf.now) (V.cloud_at responder.new.shelf.now)
         (number_of responder.old.server.now) (V.faults responder.old.shelf.now) (V.faults responder.new.shelf.now) }
     ensures told { (P.tells ports.new).told ≡ (P.tells ports.old).told }
@@ -66,11 +65,11 @@ pub fn serve_connection<V: Shelf, P: Ports>(
     ensures served { IsTrue (V.cloud_at shelf.old (number_of server.old)).told → (p : Peer)
         → IsServing server.old (V.cloud_at shelf.old (number_of server.old)) p
         → (q : Peer) × IsServing server.new (V.cloud_at shelf.new (number_of server.old)) q
-        × Serves (ServesOne server.old.state.header.shape (server_serves server.old))
+        × Serves (ServesOne server.old.store.header.shape (server_serves server.old))
         (P.tells ports.old) (P.tells ports.new) port p q result }
-    ensures replied { Serves (RepliesOne server.old.state.header.shape)
+    ensures replied { Serves (RepliesOne server.old.store.header.shape)
         (P.tells ports.old) (P.tells ports.new) port tt tt result }
-    ensures same { IsSameServer server.old.state server.new.state }
+    ensures same { server.new.store.header ≡ server.old.store.header }
     ensures call { IsCall (V.cloud_at shelf.old) (V.cloud_at shelf.new) (number_of server.old) (V.faults shelf.old)
         (V.faults shelf.new) }
     ensures told { (P.tells ports.new).told ≡ (P.tells ports.old).told }

@@ -19,7 +19,7 @@ fn serve_next<V: Shelf, P: Ports>(
     shelf: &mut V,
     ports: &mut P,
 ) -> Result<Served, Failed>
-    ensures goes { IfOk result (Goes desk.old.server.state.header desk.old.server.state.rooms
+    ensures goes { IfOk result (Goes desk.old.server.store.header
         (moment_of desk.old.server (V.cloud_at shelf.old) (V.faults shelf.old) (P.tells ports.old))
         (moment_of desk.new.server (V.cloud_at shelf.new) (V.faults shelf.new) (P.tells ports.new))) }
     ensures cause { IfOk result (λ ended. EndsWithCause ended (P.faults ports.old) (P.faults ports.new)) }
@@ -57,7 +57,7 @@ pub fn serve_all<K: Sink, V: Shelf, P: Ports>(
     ports: &mut P,
 ) -> Result<(), Stop>
     requires { 0 < count }
-    ensures { ServesAll (status_by result) desk.old.server.state.header desk.old.server.state.rooms
+    ensures { ServesAll (status_by result) desk.old.server.store.header
         (moment_of desk.old.server (V.cloud_at shelf.old) (V.faults shelf.old) (P.tells ports.old))
         (moment_of desk.new.server (V.cloud_at shelf.new) (V.faults shelf.new) (P.tells ports.new))
         address.now count

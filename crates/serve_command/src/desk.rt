@@ -1,16 +1,17 @@
 //! What serves connections.
 
 ghost use Rattle.std.specs.Prelude.{◌≡◌, ◌<◌, IfOk};
-ghost use Rattle.cd_base.specs.Limits.{greatest_rooms};
-ghost use Rattle.commit_journal.specs.declared.journal.Stage.TheVariants.{Shut};
-ghost use Rattle.share_server.specs.Serving.{IsOf};
+ghost use Rattle.cloud_server.specs.Names.{header_of};
+ghost use Rattle.journal_start.specs.Ranges.{AreRooms};
+ghost use Rattle.open_store.specs.Store.{IsOpen};
 
-use cd_base::{CloudNo, NoMemory, Rooms, Shape};
+use cd_base::{CloudNo, NoMemory, Shape};
+use cloud_server::Server;
 use frames::{Framer, ReplyBuf};
-use share_server::Server;
+use journal_start::Rooms;
 use std::alloc::Global;
 
-/// A server and its buffers. They are made before anything is done, so that no connection waits for memory.
+/// A server and its buffers. They are made before the cloud is opened, so that no connection waits for memory.
 #[derive(Drop)]
 pub struct Desk {
     /// The server of the cloud.
@@ -22,15 +23,16 @@ pub struct Desk {
 }
 
 impl Desk {
-    /// A closed server of the cloud of a store of this shape, in the greatest rooms. The only error is want of memory.
-    pub fn make(alloc: Global, shape: Shape, cloud: CloudNo) -> Result<Desk, NoMemory>
-        requires { cloud.0 < shape.n }
-        ensures of { IfOk result (λ desk. IsOf desk.server cloud shape greatest_rooms) }
-        ensures shut { IfOk result (λ desk. desk.server.state.log.journal.stage ≡ Shut) }
+    /// A closed server of the cloud of a store of this shape, in these rooms. The only error is want of memory.
+    pub fn make(alloc: Global, shape: Shape, cloud: CloudNo, rooms: Rooms) -> Result<Desk, NoMemory>
+        requires cloud { cloud.0 < shape.n }
+        requires rooms { AreRooms rooms }
+        ensures of { IfOk result (λ desk. desk.server.store.header ≡ header_of shape rooms cloud.0) }
+        ensures shut { IfOk result (λ desk. ¬ (IsOpen desk.server.store)) }
     {
         let framer = Framer::make(alloc)?;
         let reply = ReplyBuf::make(alloc)?;
-        let server = Server::make(alloc, cloud, shape, Rooms::greatest())?;
+        let server = Server::make(alloc, cloud, shape, rooms)?;
         Ok(Desk {
             server,
             framer,

@@ -5,6 +5,7 @@ mod command;
 mod connection;
 mod connections;
 mod desk;
+mod finding;
 mod frame_responder;
 mod frames_in_turn;
 mod lines;

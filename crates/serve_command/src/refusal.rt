@@ -1,6 +1,6 @@
 //! A cloud that isn't opened.
 
-ghost use Rattle.share_server.specs.Refusals.{MayCome};
+ghost use Rattle.cloud_server.specs.Refusals.{MayCome};
 ghost use Rattle.transcript.specs.Endings.{ending_text};
 ghost use Rattle.serve_command.specs.Served.{Reports, output_of};
 ghost use Rattle.serve_command.specs.Steps.{Closes};
@@ -9,7 +9,7 @@ use crate::lines::write_line;
 use crate::stop::Stop;
 use cd_base::{Bytes, CloudNo, NoMemory};
 use cd_edges::Sink;
-use share_server::OpenErr;
+use cloud_server::OpenErr;
 use std::alloc::Global;
 use transcript::{Ending, write_ending};
 
@@ -31,9 +31,7 @@ fn report_of(cloud: CloudNo, error: OpenErr) -> (u8, Ending)
             };
             (7, other)
         }
-        OpenErr::RoomsTooSmall { room, limit, .. } => (7, Ending::Rooms { cloud, room, limit }),
         OpenErr::NotBegun { .. } => unreachable!(),
-        OpenErr::NoMemory => unreachable!(),
     }
 }
 

@@ -6,8 +6,8 @@ ghost use Rattle.serve_command.specs.Serving.{Answers, place_of};
 
 use crate::Responder;
 use cd_edges::Shelf;
+use cloud_server::Server;
 use frames::ReplyBuf;
-use share_server::Server;
 
 /// A server over its shelf.
 #[derive(Drop)]

@@ -1,11 +1,13 @@
 -- A Delete, by what its exits leave.
-use Rattle.std.proofs.Common.{◌≡◌, ℕ, List, Some, Result, Err, refl, sym, ◌∙◌, subst, arith}
+use Rattle.std.proofs.Common.{◌≡◌, ℕ, List, Some, None, Result, Err, refl, sym, ◌∙◌, subst, arith}
 use Rattle.std.specs.Prelude.{OnOk}
+use Rattle.std.specs.FinMap.{get}
 use Rattle.cd_base.specs.declared.ids.Fp.{Fp}
 use Rattle.cd_base.specs.declared.ids.Tag.{Tag}
 use Rattle.cd_base.specs.declared.ids.UserId.{UserId}
 use Rattle.cd_base.specs.declared.ids.Version.{Version}
 use Rattle.cd_edges.specs.Disk.{Cloud}
+use Rattle.file_index.specs.declared.key.Entry.{Entry}
 use Rattle.file_index.specs.declared.key.FileKey.{FileKey}
 use Rattle.file_index.specs.Files.{key_of}
 use Rattle.messages.specs.declared.request.Request.{Request}
@@ -58,10 +60,10 @@ module _ (user : UserId) (tag : Tag) (version : Version) where
   ByLists old cloud bytes read = (list : List Command) (chain : Chain) → Serves list chain old cloud → ReadsFile (user_view old.header.shape list user).files (tag, version) bytes read
 
   module _ (Same : Type 0) (old mid new : OpenStore) (a b c : ℕ → Cloud) (f0 f1 f2 : ℕ) (bytes content : List ℕ) where
-    pub deleted : {T E : Type 0} (r : Result T E) (recipe : List ℕ) → OnlyReads old mid (a old.header.cloud.0) (b old.header.cloud.0) → HasRead a b old.header.cloud.0 f0 f1 ok_read
+    pub deleted : {T E : Type 0} (r : Result T E) (recipe : List ℕ) (entry : Entry) → get (memory_of old.memory).files key ≡ Some entry → OnlyReads old mid (a old.header.cloud.0) (b old.header.cloud.0) → HasRead a b old.header.cloud.0 f0 f1 ok_read
         → ByLists old (a old.header.cloud.0) bytes ok_read → recipe ≡ bytes → Forgets mid new b c f1 f2 recipe content r
         → Executes Same old new a c f0 f2 (requests.Delete user tag version) content r
-    deleted r recipe o read there front forgets =
+    deleted r recipe entry has o read there front forgets =
         let n = old.header.cloud.0 in
         let kept = mid.disk.recipes.kept in
         let f = subst (λ (x : OpenStore). Forgets x new b c f1 f2 recipe content r) o.same forgets in
@@ -73,7 +75,7 @@ module _ (user : UserId) (tag : Tag) (version : Version) where
         does_read old kept new (a n) (b n) (c n) read.stays r list request content (f.does list some.c file.file serves file.here (sym file.given ∙ sym front)))
         (behind_read old kept new (a n) (b n) (c n) read.stays read.call.told f.behind)
         (calls_then r a b c n f0 f1 f2 read f.calls)
-        (λ none. none)
+        (λ none. let no : None ≡ Some entry = sym none ∙ has in cc)
         (delete_never_rotten content r f.some)
         (delete_adds content r (Same × (new ≡ old)) f.some)
         (delete_gives content r old.header.shape user tag version f.some)

@@ -2,7 +2,7 @@
 use Rattle.std.proofs.Common.{◌≡◌, inl, inr, ℕ, List, [], ◌∷◌, ◌++◌, Option, Some, None, Result, Ok, Err, IsTrue, refl, sym, ap, ◌∙◌, subst, append-nil}
 use Rattle.std.specs.Prelude.{OnOk, option_to_list}
 use Rattle.cd_base.specs.declared.ids.Fp.{Fp}
-use Rattle.cd_edges.specs.declared.area.Area.TheVariants.{Recipes}
+use Rattle.cd_edges.specs.declared.area.Area.TheVariants.{Shares, Recipes}
 use Rattle.cd_edges.specs.Disk.{Areas, Cloud, Image, IsImage, reads}
 use Rattle.cd_edges.specs.Shelf.{Stays}
 use Rattle.cd_edges.proofs.Moments.{stayed, weaker}
@@ -23,9 +23,9 @@ use Rattle.cloud_memory.specs.Memory.{Memory}
 use Rattle.cloud_memory.specs.Rooms.{memory_of}
 use Rattle.open_store.specs.declared.store.OpenStore.{OpenStore}
 use Rattle.open_store.specs.Store.{ServesSome}
-use Rattle.server_reads.specs.Found.{IsOther, IsFoundRecipe}
+use Rattle.server_reads.specs.Found.{IsOther, IsFoundRecipe, IsFoundShare}
 use Rattle.server_commands.specs.Executing.{Executes, ForServed, GrowsBehind, LeavesBoth}
-use Rattle.server_commands.specs.Leaving.{LeavesAll, HasEntry, IsFound}
+use Rattle.server_commands.specs.Leaving.{LeavesAll, IsSteady, IsFound}
 use Rattle.server_commands.specs.Serving.{serves, Served, IsServedOrNot, Gives}
 use Rattle.server_commands.specs.Steps.{Calls, Leaves, Does}
 
@@ -114,13 +114,21 @@ module _ (c0 c1 : Cloud) (m0 m1 : Memory) (stays : Stays c0 c1) (told_same : c1.
     unfit = s.unfit;
   })
 
+  share_now : (named found : Fp) → IsFoundShare c0 m0 named found → IsFoundShare c1 m1 named found
+  share_now named found s = subst (λ (m : Memory). IsFoundShare c1 m named found) (sym memory) (record {
+    lies = λ told place kept some few.
+        subst (λ (a : Areas). IsOther (reads a Shares) place.at place.len named found) (sym stays.now) (s.lies (subst IsTrue told_same told) place kept some few);
+    none = s.none;
+    unfit = s.unfit;
+  })
+
   pub found_now : (request : Request) (named found : Fp) → IsFound c0 m0 request named found → IsFound c1 m1 request named found
   found_now requests.Hello named found f = tt
   found_now (requests.Query user fps) named found f = tt
   found_now (requests.Put user shares) named found f = absurd f
   found_now (requests.Commit user tag version recipe) named found f = recipe_now (key_of user.0 tag.0 version.0) named found f
-  found_now (requests.GetRecipe user tag version) named found f = tt
-  found_now (requests.GetShares user fps) named found f = tt
+  found_now (requests.GetRecipe user tag version) named found f = recipe_now (key_of user.0 tag.0 version.0) named found f
+  found_now (requests.GetShares user fps) named found f = (f.0, share_now named found f.1)
   found_now (requests.List user after) named found f = tt
   found_now (requests.Delete user tag version) named found f = recipe_now (key_of user.0 tag.0 version.0) named found f
 
@@ -175,7 +183,7 @@ module _ {T E : Type 0} (r : Result T E) where
 
     -- a request that adds its command where the store serves a list
     pub adds_executes : Leaves old new r → ForServed old (before old.header.cloud.0) (λ list. Does old new (before old.header.cloud.0) (after old.header.cloud.0) list request content r)
-        → GrowsBehind old (before old.header.cloud.0) (after old.header.cloud.0) → Calls before after old.header.cloud.0 f0 f1 r → (HasEntry (memory_of old.memory) request → ⊥)
+        → GrowsBehind old (before old.header.cloud.0) (after old.header.cloud.0) → Calls before after old.header.cloud.0 f0 f1 r → (IsSteady (memory_of old.memory) request → ⊥)
         → ((named found : Fp) → OnOk r (IsReply content (replies.Rotten named found) → ⊥))
         → ((answer : Reply) → LeavesAll request answer → OnOk r (IsReply content answer → Same × (new ≡ old)))
         → OnOk r (Gives old.header.shape request content) → Executes Same old new before after f0 f1 request content r

@@ -8,3 +8,6 @@ pub mod Deleted
 pub mod Commits
 pub mod Repeats
 pub mod Entered
+pub mod Picking
+pub mod Storing
+pub mod Puts

@@ -13,7 +13,7 @@ use Rattle.cloud_memory.specs.Rooms.{memory_of}
 use Rattle.open_store.specs.declared.store.OpenStore.{OpenStore}
 use Rattle.open_store.specs.Store.{IsOpen, IsSettled, EndsMeet, ServesSome}
 use Rattle.open_store.specs.Adding.{NoneStaged, KeepsOrGrows}
-use Rattle.server_commands.specs.Leaving.{LeavesAll, HasEntry, IsFound}
+use Rattle.server_commands.specs.Leaving.{LeavesAll, IsSteady, IsFound}
 use Rattle.server_commands.specs.Serving.{serves, Served, IsServedOrNot, Gives}
 
 -- What holds of an open store between two requests: nothing is staged, and both logs end where the memory says.
@@ -53,7 +53,7 @@ pub record Executes {T E : Type 0} (Same : Type 0) (old new : OpenStore) (before
   pub stays : ForServed old (before old.header.cloud.0) (λ list. (serves old list request).adds ≡ None → LeavesBoth old new (before old.header.cloud.0) (after old.header.cloud.0))
   -- whatever the cloud has
   pub behind : Stays (before old.header.cloud.0) (after old.header.cloud.0) ⊎ GrowsBehind old (before old.header.cloud.0) (after old.header.cloud.0)
-  pub steady : HasEntry (memory_of old.memory) request → LeavesBoth old new (before old.header.cloud.0) (after old.header.cloud.0)
+  pub steady : IsSteady (memory_of old.memory) request → LeavesBoth old new (before old.header.cloud.0) (after old.header.cloud.0)
   pub spared : (named found : Fp) → OnOk result (IsReply content (replies.Rotten named found) → LeavesBoth old new (before old.header.cloud.0) (after old.header.cloud.0))
   pub rotten : (named found : Fp) → OnOk result (IsReply content (replies.Rotten named found) → IsFound (before old.header.cloud.0) (memory_of old.memory) request named found)
   pub found : (named found : Fp) → OnOk result (IsReply content (replies.Rotten named found) → IsFound (after old.header.cloud.0) (memory_of new.memory) request named found)

@@ -12,7 +12,7 @@ use Rattle.user_dedup.specs.Dedup.{Outcome}
 use Rattle.user_dedup.specs.Exec.{items_of}
 use Rattle.open_store.specs.declared.store.OpenStore.{OpenStore}
 use Rattle.open_store.specs.Store.{ServesSome}
-use Rattle.server_commands.specs.Served.{served_by}
+use Rattle.user_dedup.specs.Served.{served_by}
 
 -- the reply by a list, and the command that it adds
 abbrev pub serves : OpenStore → List Command → Request → Outcome

@@ -22,7 +22,10 @@ use Rattle.cloud_areas.specs.Peers.{ImagesSince}
 use Rattle.cloud_areas.specs.Standing.{Chain}
 use Rattle.open_store.specs.declared.store.OpenStore.{OpenStore}
 use Rattle.open_store.specs.Store.{IsOpen, IsSettled, EndsMeet, Serves}
-use Rattle.open_store.specs.Adding.{NoneStaged}
+use Rattle.cloud_memory.specs.declared.rooms.New.{New}
+use Rattle.cloud_memory.specs.News.{AreOf}
+use Rattle.cloud_memory.specs.Rooms.{memory_of}
+use Rattle.open_store.specs.Adding.{NoneStaged, unplaced}
 use Rattle.server_reads.specs.declared.blobs.Stop.{Stop}
 use Rattle.server_reads.specs.Reading.{IfRotten}
 use Rattle.server_commands.specs.Executing.{IsReady, LeavesBoth}
@@ -103,3 +106,15 @@ pub record IsAnsweredNew (header : Header) (list : List Command) (user : UserId)
   pub has_recipe : HasRecipe header.shape (requests.Commit user tag version recipe)
   pub answer : answer_over header.shape header.cloud.0 list (requests.Commit user tag version recipe)
       ≡ record { reply = replies.Committed; adds = Some (commands.Commit user tag version recipe) }
+
+-- ---- a Put
+
+-- An open store in which of these shares just those are staged, in their order, that have no place yet; its logs end where its memory says.
+pub record HasNewsStaged (s : OpenStore) (news : List New) : Type 0 where
+  pub settled : IsSettled s
+  pub at_end : IsOpen s
+  pub meet : EndsMeet s
+  pub strings : List (List ℕ)
+  pub are_of : AreOf news strings
+  pub shares : HasStaged s.disk.shares (unplaced (memory_of s.memory).places strings)
+  pub recipes : HasStaged s.disk.recipes []

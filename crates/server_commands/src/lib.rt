@@ -1,4 +1,4 @@
-//! The requests of a server that add a command, over one cloud's open store: Commit and Delete.
+//! The requests of a server that add a command, over one cloud's open store: Put, Commit and Delete.
 //!
 //! No call takes memory. Over a cloud of which the store serves a list, the reply, the list after it and what a crash leaves
 //! follow from that list. Over any other cloud the store stays settled, and the reply is one that the request may have.
@@ -6,8 +6,11 @@
 
 mod committing;
 mod deleting;
+mod news;
+mod putting;
 mod reading;
 mod refusing;
 
 pub use committing::commit;
 pub use deleting::delete;
+pub use putting::put;

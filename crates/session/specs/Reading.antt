@@ -1,16 +1,16 @@
 -- What reading a line gives: fields from left to right, each a word behind a blank.
-use Rattle.std.specs.Prelude.{ℕ, ◌≡◌, ◌-◌, Bool, true, ◌&&◌, not, List, [], ◌∷◌, length, Option, Some, None, Result, Ok, Err, nat_lt, nat_le, ◌==◌, if◌then◌else◌, slice_get, codes}
+use Rattle.std.specs.Prelude.{ℕ, ◌≡◌, ◌-◌, ◌/◌, Bool, true, ◌&&◌, not, List, [], ◌∷◌, length, Option, Some, None, Result, Ok, Err, nat_lt, nat_le, ◌==◌, if◌then◌else◌, slice_get, codes}
 use Rattle.std.specs.List.{find, list_all, slice_split}
 use Rattle.std.specs.Str.{bytes_eq}
-use Rattle.cd_base.specs.Limits.{greatest_rooms}
 use Rattle.cd_base.specs.declared.shape.Shape.{Shape}
-use Rattle.cd_base.specs.declared.rooms.Rooms.{Rooms}
+use Rattle.journal_start.specs.Ranges.{usual_rooms, most_shares, most_recipes, most_owners, most_files}
+use Rattle.journal_start.specs.declared.rooms.Rooms.{Rooms}
 use Rattle.grammar.specs.Readers.{◌>>=◌, ◌▷◌, ◌▷▷◌, whole}
 use Rattle.grammar.specs.Words.{word_at, field_at, keep, onto}
 use Rattle.grammar.specs.Numerals.{number, capped}
 use Rattle.grammar.specs.Hexadecimal.{unhex}
 use Rattle.session.specs.Fault.{Fault}
-use Rattle.session.specs.Spelling.{file_limit, upload_limit, least_journal}
+use Rattle.session.specs.Spelling.{file_limit, upload_limit}
 use Rattle.transcript.specs.ShapeOf.{shape_of}
 use Rattle.session.specs.declared.event.Event.{Event}
 use Rattle.session.specs.declared.event.Event.TheVariants as events
@@ -232,16 +232,22 @@ needed n text = shape_with n (number 0 255 text)
 unfoldable pub shape_at : List ℕ → Result (Shape × List ℕ) ℕ
 shape_at bytes = field_at (capped 255) bytes >>= λ n. field_at (needed n.0) n.1
 
-abbrev pub make_rooms : ℕ × (ℕ × (ℕ × (ℕ × (ℕ × ℕ)))) → Rooms
-make_rooms x = record { shares = x.0; recipes = x.1.0; journal = x.1.1.0; fps = x.1.1.1.0; owners = x.1.1.1.1.0; files = x.1.1.1.1.1 }
+abbrev pub make_rooms : ℕ × (ℕ × (ℕ × (ℕ × ℕ))) → Rooms
+make_rooms x = record { users = x.0; shares = x.1.0; recipes = x.1.1.0; owners = x.1.1.1.0; files = x.1.1.1.1 }
 
+-- what each of so many users holds, where all of them together hold no more than the most
+abbrev pub each_room : ℕ → ℕ → List ℕ → Option ℕ
+each_room most users = number 0 (most / users)
+
+-- Each number has a range of its own, which how many users there are bounds: so the first that breaks it is wrong at its
+-- place.
 unfoldable pub named_rooms_at : List ℕ → Result Rooms ℕ
-named_rooms_at = whole make_rooms (field_at (number 0 greatest_rooms.shares) ▷ field_at (number 0 greatest_rooms.recipes) ▷ field_at (number least_journal greatest_rooms.journal)
-    ▷ field_at (number 0 greatest_rooms.fps) ▷ field_at (number 0 greatest_rooms.owners) ▷ field_at (number 0 greatest_rooms.files))
+named_rooms_at = whole make_rooms (field_at (number 1 256) ▷▷ λ users. field_at (each_room most_shares users) ▷ field_at (each_room most_recipes users)
+    ▷ field_at (each_room most_owners users) ▷ field_at (each_room most_files users))
 
--- the greatest rooms where none are named
+-- the usual rooms where none are named
 abbrev pub rooms_at : List ℕ → Result Rooms ℕ
-rooms_at [] = Ok greatest_rooms
+rooms_at [] = Ok usual_rooms
 rooms_at (b ∷ bytes) = named_rooms_at (b ∷ bytes)
 
 unfoldable pub header_left : List ℕ → Result (Shape × Rooms) ℕ

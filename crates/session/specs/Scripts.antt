@@ -1,7 +1,7 @@
 -- A script as a first line and the lines behind it.
 use Rattle.std.specs.Prelude.{◌≡◌, ℕ, ◌+◌, List, [], ◌∷◌, length, Option, Some, None, Result, Ok, Err}
 use Rattle.cd_base.specs.declared.shape.Shape.{Shape}
-use Rattle.cd_base.specs.declared.rooms.Rooms.{Rooms}
+use Rattle.journal_start.specs.declared.rooms.Rooms.{Rooms}
 use Rattle.session.specs.Fault.{Fault}
 use Rattle.session.specs.Lines.{next_line, after_line}
 use Rattle.session.specs.Reading.{header_at, event_at}

@@ -2,7 +2,7 @@
 
 ghost use Rattle.std.specs.Prelude.{◌≡◌, ℕ, List};
 ghost use Rattle.cd_base.specs.declared.shape.Shape.{Shape};
-ghost use Rattle.cd_base.specs.declared.rooms.Rooms.{Rooms};
+ghost use Rattle.journal_start.specs.declared.rooms.Rooms.{Rooms};
 ghost use Rattle.session.specs.Scripts.{Place, Reaches, IsEnd};
 ghost use Rattle.session.specs.declared.event.Event.{Event};
 

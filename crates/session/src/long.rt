@@ -1,6 +1,7 @@
 //! Reading a line of which the front is held as bytes.
 
 ghost use Rattle.std.specs.Prelude.{◌≡◌, ◌≢◌, ◌++◌, ◌+◌, ◌<◌, ◌≤◌, IfOk, IfErr, IfSome, IsTrue};
+ghost use Rattle.journal_start.specs.Ranges.{AreRooms};
 ghost use Rattle.grammar.specs.Hexadecimal.{hex};
 ghost use Rattle.session.specs.Front.{Names};
 ghost use Rattle.session.specs.Reading.{Reads, header_at, event_at};
@@ -9,8 +10,9 @@ ghost use Rattle.session.specs.Spelling.{AreBytes, file_limit};
 use crate::Event;
 use crate::front::{Front, spell};
 use crate::reading::{ScriptErr, read_header, read_line};
-use cd_base::{Bytes, FILE_LIMIT, NoMemory, Rooms, Shape, UserId, Version};
+use cd_base::{Bytes, FILE_LIMIT, NoMemory, Shape, UserId, Version};
 use grammar::decode;
+use journal_start::Rooms;
 use std::alloc::Global;
 
 // Of which version of which file of which user a line is the upload.
@@ -25,6 +27,7 @@ struct Name {
 pub fn header_behind(front: &Front, tail: &[u8]) -> Result<(Shape, Rooms), ScriptErr>
     ensures reads { Reads result (header_at (front.now ++ tail.now)) }
     ensures memory { IfErr result (λ e. e ≢ ScriptErr.NoMemory) }
+    ensures allowed { IfOk result (λ header. AreRooms header.1) }
 {
     if front.is_empty() {
         read_header(tail)

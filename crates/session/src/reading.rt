@@ -2,7 +2,8 @@
 
 ghost use Rattle.std.specs.Prelude.{◌≡◌, ◌≢◌, ◌↔◌, ◌-◌, length, Ok, IfOk, IfErr, slice_get};
 ghost use Rattle.cd_base.specs.declared.shape.Shape.{Shape};
-ghost use Rattle.cd_base.specs.declared.rooms.Rooms.{Rooms};
+ghost use Rattle.journal_start.specs.declared.rooms.Rooms.{Rooms};
+ghost use Rattle.journal_start.specs.Ranges.{AreRooms};
 ghost use Rattle.grammar.specs.Readers.{Gives};
 ghost use Rattle.session.specs.Reading.{Reads, header_at, event_at, event_left, fields_at, upload_at, lane_at, job_at};
 ghost use Rattle.session.specs.Reading.{cloud_at, get_at, list_at, arm_at, rebuild_at};
@@ -14,8 +15,9 @@ use crate::header::header_of;
 use crate::kinds::{
     Command, cloud_field, contents_field, first_word, others_field, path_field, sources_field,
 };
-use cd_base::{CloudNo, Rooms, Shape, UserId, Version};
+use cd_base::{CloudNo, Shape, UserId, Version};
 use grammar::{Stop, u32_field, u64_field};
+use journal_start::Rooms;
 use std::alloc::Global;
 
 /// Why a line was not read.
@@ -220,13 +222,16 @@ fn event_of(alloc: Global, shape: Shape, jobs: u32, line: &[u8]) -> Result<Event
     fields_of(alloc, shape, jobs, command, bytes)
 }
 
-/// What the first line of a script says, without its newline: `cdstore 1 N K`, and then nothing or six rooms, SHARES
-/// RECIPES JOURNAL FPS OWNERS FILES. The shape is that of N clouds of which any K give a file back; the rooms are the
-/// greatest where the line names none. `At` is the first field that fails. It takes no memory, and `NoMemory` is no answer.
+/// What the first line of a script says, without its newline: `cdstore 1 N K`, and then nothing or five rooms, USERS
+/// SHARES RECIPES OWNERS FILES: 1 to 256 users, and how much each of them may hold. The shape is that of N clouds of which
+/// any K give a file back; the rooms are the usual ones where the line names none. `At` is the first field that fails: of
+/// the rooms the first that is out of its range, or with which all users together hold too much. It takes no memory, and
+/// `NoMemory` is no answer.
 #[tactic(auto, unfolding(crate::specs::Reading::header_at))]
 pub fn read_header(line: &[u8]) -> Result<(Shape, Rooms), ScriptErr>
     ensures reads { Reads result (header_at line.now) }
     ensures memory { IfErr result (λ e. e ≢ ScriptErr.NoMemory) }
+    ensures allowed { IfOk result (λ header. AreRooms header.1) }
     // A line is read as what it is a spelling of, and no other line is read.
     ensures grammar { (shape : Shape) (rooms : Rooms)
         → (header_at line.now ≡ Ok (shape, rooms)) ↔ IsHeader line.now (shape, rooms) }

@@ -16,7 +16,7 @@ use Rattle.user_dedup.specs.declared.command.Command.{Command}
 use Rattle.user_dedup.specs.Cloud.{fingerprint, strings_of}
 use Rattle.user_dedup.specs.Dedup.{Outcome, FullRoom, put_outcome, answer_over, room_for, by_room}
 use Rattle.user_dedup.specs.Exec.{Peer, MaySettleAs, ExecTold, served}
-use Rattle.cloud_store.specs.Contents.{strings_in}
+use Rattle.user_dedup.specs.Cloud.{strings_in}
 use Rattle.upload_job.specs.declared.news.LaneNews.TheVariants as lane_news
 use Rattle.upload_job.specs.Upload.{FileVersion, Work, work_of}
 use Rattle.upload_job.specs.Lane.{LaneState, Asking, Sending, Committing, Done, Refused, unflagged, lane_request, news_of}

@@ -10,13 +10,13 @@ use Rattle.cd_base.specs.declared.ids.UserId.{UserId}
 use Rattle.cd_base.specs.declared.ids.Version.{Version}
 use Rattle.cd_edges.specs.Causes.{Rose}
 use Rattle.cd_edges.specs.Disk.{Cloud}
-use Rattle.commit_journal.specs.declared.errors.OpenErr.{OpenErr}
-use Rattle.commit_journal.specs.declared.errors.OpenErr.TheVariants as errors
+use Rattle.half_journal.specs.declared.errors.OpenErr.{OpenErr}
+use Rattle.half_journal.specs.declared.errors.OpenErr.TheVariants as errors
 use Rattle.messages.specs.declared.request.Request.{Request}
 use Rattle.messages.specs.declared.reply.Reply.{Reply}
 use Rattle.user_dedup.specs.Exec.{Peer}
 use Rattle.user_dedup.proofs.Owned.{contains_cases, contains_nothing, contains_here}
-use Rattle.share_server.specs.Serving.{ReopensAs}
+use Rattle.cloud_server.specs.Serving.{ReopensAs}
 use Rattle.upload_job.specs.Lanes as lanes
 use Rattle.lane_steps.specs.Runs.{Turn, Progress, LaneRun, progress_after}
 use Rattle.session.specs.declared.event.Event.{Event}
@@ -50,6 +50,12 @@ replaced_count told cloud before after (lines.Armed c) says = absurd says
 replaced_count told cloud before after (lines.Restarted c commands) says = absurd says
 replaced_count told cloud before after (lines.Rebuilt user c files skipped) says = absurd says
 replaced_count told cloud before after (lines.Skipped tag version why) says = absurd says
+replaced_count told cloud before after (lines.Deleted c) says = absurd says
+replaced_count told cloud before after (lines.Missing c) says = absurd says
+replaced_count told cloud before after (lines.Full c room used need limit) says = absurd says
+replaced_count told cloud before after (lines.Rotten c named found) says = absurd says
+replaced_count told cloud before after (lines.NoMemory c) says = absurd says
+replaced_count told cloud before after (lines.Strange c kind) says = absurd says
 
 module _ (f : ℕ) (small : f < 2 ^ 64) where
   -- what isn't above one count isn't above the other
@@ -112,10 +118,8 @@ module _ (f : ℕ) (small : f < 2 ^ 64) where
     keeps_reopen (Ok commands) p q r = keeps_still p q r.1
     keeps_reopen (Err errors.Fault) p q r = past_rise p.faults q.faults r.1
     keeps_reopen (Err (errors.NotBegun len)) p q r = keeps_same p q r.0
-    keeps_reopen (Err (errors.OtherStore found asked)) p q r = absurd r
+    keeps_reopen (Err (errors.OtherStore found asked at)) p q r = absurd r
     keeps_reopen (Err (errors.Damaged at byte)) p q r = absurd r
-    keeps_reopen (Err (errors.RoomsTooSmall room limit at)) p q r = absurd r
-    keeps_reopen (Err errors.NoMemory) p q r = absurd r
 
     keeps_restart : (cloud : ℕ) (line : Line) (p q : Peer) → RestartStep s cloud line p q → Keeps p q
     keeps_restart cloud line p q r = by_told (s.told cloud) r.2

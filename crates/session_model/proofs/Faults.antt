@@ -12,8 +12,8 @@ use Rattle.cd_base.specs.declared.ids.UserId.{UserId}
 use Rattle.cd_base.specs.declared.ids.Version.{Version}
 use Rattle.cd_edges.specs.Causes.{Rose}
 use Rattle.cd_edges.specs.Disk.{Cloud}
-use Rattle.commit_journal.specs.declared.errors.OpenErr.{OpenErr}
-use Rattle.commit_journal.specs.declared.errors.OpenErr.TheVariants as errors
+use Rattle.half_journal.specs.declared.errors.OpenErr.{OpenErr}
+use Rattle.half_journal.specs.declared.errors.OpenErr.TheVariants as errors
 use Rattle.messages.specs.declared.request.Request.{Request}
 use Rattle.messages.specs.declared.request.Request.TheVariants as requests
 use Rattle.messages.specs.declared.reply.Reply.{Reply}
@@ -22,8 +22,8 @@ use Rattle.user_dedup.specs.Cloud.{user_view}
 use Rattle.user_dedup.specs.Pages.{page_of}
 use Rattle.user_dedup.specs.Exec.{Peer, ExecTold, ExecUntold}
 use Rattle.user_dedup.proofs.Owned.{contains_cases, contains_nothing}
-use Rattle.cloud_store.specs.Space.{full_for}
-use Rattle.share_server.specs.Serving.{ReopensAs}
+use Rattle.user_dedup.specs.Spending.{full_for}
+use Rattle.cloud_server.specs.Serving.{ReopensAs}
 use Rattle.upload_job.specs.declared.news.LaneNews.{LaneNews}
 use Rattle.upload_job.specs.declared.news.LaneNews.TheVariants as lane_news
 use Rattle.upload_job.specs.Lane.{lane_request}
@@ -146,7 +146,7 @@ module _ (event : Event) (c : ℕ) where
     lane_rose : (lane : LaneView) (cloud : ℕ) (old : ℕ → Peer) (request : Request) (reply : Reply) (new : ℕ → Peer) → lane_request lane.work lane.state ≡ Some request
         → Executes s cloud old request reply new → reply ≡ replies.Fault → Rose (old cloud).faults (new cloud).faults
     lane_rose lane cloud old request reply new asks x is =
-        fault_rose s.shape cloud (full_for s.rooms) (s.told cloud) lane.work lane.state request reply (old cloud) (new cloud) asks x.does is
+        fault_rose s.shape cloud (full_for s.shape s.rooms) (s.told cloud) lane.work lane.state request reply (old cloud) (new cloud) asks x.does is
 
     asks_of : (views : List LaneView) (cloud : ℕ) (request : Request) → lanes.request_at views cloud ≡ Some request → lane_request (lane_at views cloud).work (lane_at views cloud).state ≡ Some request
     asks_of [] cloud request e = absurd (let f : None ≡ Some request = e in cc)
@@ -296,10 +296,8 @@ module _ (event : Event) (c : ℕ) where
             by_told true x = x.1
             by_told false x = x.fault tt
         by_result (Err (errors.NotBegun len)) is opens = absurd (subst Says is.2 says)
-        by_result (Err (errors.OtherStore found asked)) is opens = absurd (subst Says is.2 says)
+        by_result (Err (errors.OtherStore found asked at)) is opens = absurd (subst Says is.2 says)
         by_result (Err (errors.Damaged at byte)) is opens = absurd (subst Says is.2 says)
-        by_result (Err (errors.RoomsTooSmall room limit at)) is opens = absurd (subst Says is.2 says)
-        by_result (Err errors.NoMemory) is opens = absurd (subst Says is.2 says)
 
     replace_says : (told : Bool) (cloud before after : ℕ) (only : Line) → IsReplaceLine told cloud before after only → Says only → (cloud ≡ c) × Rose before after
     replace_says told cloud before after (lines.Replaced at) is says = absurd says
@@ -320,6 +318,12 @@ module _ (event : Event) (c : ℕ) where
     replace_says told cloud before after (lines.Restarted at commands) is says = absurd is
     replace_says told cloud before after (lines.Rebuilt user at files skipped) is says = absurd is
     replace_says told cloud before after (lines.Skipped tag version why) is says = absurd is
+    replace_says told cloud before after (lines.Deleted at) is says = absurd is
+    replace_says told cloud before after (lines.Missing at) is says = absurd is
+    replace_says told cloud before after (lines.Full at room used need limit) is says = absurd is
+    replace_says told cloud before after (lines.Rotten at named found) is says = absurd is
+    replace_says told cloud before after (lines.NoMemory at) is says = absurd is
+    replace_says told cloud before after (lines.Strange at kind) is says = absurd is
 
     -- ---- a rebuild
 

@@ -8,15 +8,15 @@ use Rattle.std.proofs.lemmas.Bool.{cases_eq}
 use Rattle.cd_base.specs.declared.ids.Tag.{Tag}
 use Rattle.cd_base.specs.declared.ids.UserId.{UserId}
 use Rattle.cd_base.specs.declared.ids.Version.{Version}
-use Rattle.commit_journal.specs.declared.errors.OpenErr.{OpenErr}
-use Rattle.commit_journal.specs.declared.errors.OpenErr.TheVariants as errors
+use Rattle.half_journal.specs.declared.errors.OpenErr.{OpenErr}
+use Rattle.half_journal.specs.declared.errors.OpenErr.TheVariants as errors
 use Rattle.messages.specs.declared.request.Request.{Request}
 use Rattle.messages.specs.declared.reply.Reply.{Reply}
 use Rattle.user_dedup.specs.declared.command.Command.{Command}
 use Rattle.user_dedup.specs.Dedup.{Outcome}
 use Rattle.user_dedup.proofs.Growing.{Each, GrowsBy, IfCommand, AddsBy, AsksNoDelete, IsNoDelete, adds_no_delete, grows_then}
 use Rattle.user_dedup.specs.Exec.{Peer, MaySettleAs, Settles, Stays, IsCut, Exec, ExecTold, ExecUntold}
-use Rattle.share_server.specs.Serving.{ReopensAs}
+use Rattle.cloud_server.specs.Serving.{ReopensAs}
 use Rattle.upload_job.specs.Upload.{FileVersion}
 use Rattle.upload_job.specs.Lanes as lanes
 use Rattle.lane_steps.specs.Runs.{Turn, Progress, LaneRun, lane_at, progress_after}
@@ -25,7 +25,7 @@ use Rattle.rebuild.specs.Found.{Finding}
 use Rattle.rebuild.specs.Rebuilding.{Progressed, lane_of, BringsOne, BringsAll}
 use Rattle.rebuild.proofs.Lanes.{lane_asks_no_delete}
 use Rattle.rebuild.proofs.Telling.{own_no_delete}
-use Rattle.cloud_store.specs.Space.{full_for}
+use Rattle.user_dedup.specs.Spending.{full_for}
 use Rattle.session.specs.declared.event.Event.{Event}
 use Rattle.session.specs.declared.event.Event.TheVariants as events
 use Rattle.transcript.specs.declared.refusal.Refusal.{Refusal}
@@ -97,7 +97,7 @@ AskNoDelete {S} turns = (t : Turn S) → Contains turns t → AsksNoDelete t.req
 module _ (s : Setting) (c : ℕ) where
   -- what a cloud adds for a request that is no Delete
   adds_at : (request : Request) → AsksNoDelete request → AddsBy IsNoDelete (served_at s c) request
-  adds_at request asks = adds_no_delete s.shape c (full_for s.rooms) request asks
+  adds_at request asks = adds_no_delete s.shape c (full_for s.shape s.rooms) request asks
 
   -- what is brought to a told target of a rebuild
   grows_brings : (p : Peer) (request : Request) (reply : Reply) (q : Peer) → AsksNoDelete request → Exec s.shape true (served_at s c) p request reply q → Grows p q
@@ -192,10 +192,8 @@ module _ (s : Setting) (c : ℕ) (told : IsTrue (s.told c)) where
   grows_reopen (Ok commands) p q r = grows_in p q (settles_in p q r.0)
   grows_reopen (Err errors.Fault) p q r = grows_in p q (stays_in p q r.0)
   grows_reopen (Err (errors.NotBegun len)) p q r = grows_same p q r.0
-  grows_reopen (Err (errors.OtherStore found asked)) p q r = absurd r
+  grows_reopen (Err (errors.OtherStore found asked at)) p q r = absurd r
   grows_reopen (Err (errors.Damaged at byte)) p q r = absurd r
-  grows_reopen (Err (errors.RoomsTooSmall room limit at)) p q r = absurd r
-  grows_reopen (Err errors.NoMemory) p q r = absurd r
 
   pub grows_step : (v : FileVersion) (old : Vault) (event : Event) (answers : List Line) (moments : List Moment) (new : Vault) → VStep s old event answers moments new → ¬ Ends c v event → Grows (old.peers c) (new.peers c)
   grows_step v old (events.Upload user path version bytes) answers moments new x lasts = grows_same (old.peers c) (new.peers c) (ap (λ (f : ℕ → Peer). f c) x.2)

@@ -10,16 +10,16 @@ use Rattle.cd_base.specs.declared.ids.Version.{Version}
 use Rattle.cd_base.specs.declared.shape.Shape.{Shape}
 use Rattle.caont_rs.specs.Package.{share}
 use Rattle.file_recipe.specs.FileRecipe.{secrets}
-use Rattle.commit_journal.specs.declared.errors.OpenErr.{OpenErr}
-use Rattle.commit_journal.specs.declared.errors.OpenErr.TheVariants as errors
+use Rattle.half_journal.specs.declared.errors.OpenErr.{OpenErr}
+use Rattle.half_journal.specs.declared.errors.OpenErr.TheVariants as errors
 use Rattle.messages.specs.declared.request.Request.{Request}
 use Rattle.messages.specs.declared.reply.Reply.{Reply}
 use Rattle.user_dedup.specs.declared.command.Command.{Command}
 use Rattle.user_dedup.specs.Cloud.{fingerprint}
 use Rattle.user_dedup.specs.Exec.{Peer, MaySettleAs, ExecTold, ExecUntold}
 use Rattle.user_dedup.proofs.Owned.{contains_cases, contains_nothing, contains_here, contains_later}
-use Rattle.cloud_store.specs.Space.{full_for}
-use Rattle.cloud_store.specs.Contents.{strings_in}
+use Rattle.user_dedup.specs.Spending.{full_for}
+use Rattle.user_dedup.specs.Cloud.{strings_in}
 use Rattle.upload_job.specs.declared.news.LaneNews.{LaneNews}
 use Rattle.upload_job.specs.declared.news.LaneNews.TheVariants as lane_news
 use Rattle.upload_job.specs.Upload.{FileVersion, work_of}
@@ -154,7 +154,7 @@ module _ (s : Setting) (c : ℕ) (told : IsTrue (s.told c)) (v : FileVersion) (g
   commit_exec : (lane : LaneView) (request : Request) (old new : ℕ → Peer) (reply : Reply) → lane.work ≡ work_of s.shape v c → lane_request lane.work lane.state ≡ Some request
       → Executes s c old request reply new → news_of lane.state reply ≡ Some lane_news.Committed → ((string : List ℕ) → Contains (strings_in (new c).list) string → Known string) → KeepsAll (new c)
   commit_exec lane request old new reply work asks x told_is ok =
-      executed_keeps s.shape c (full_for s.rooms) v good Known apart lane request (old c) (new c) reply work asks
+      executed_keeps s.shape c (full_for s.shape s.rooms) v good Known apart lane request (old c) (new c) reply work asks
       (subst (λ (b : Bool). MatchBool b (ExecTold (served_at s c) (old c) request reply (new c)) (ExecUntold s.shape (old c) request reply (new c))) told x.does.does) told_is ok
 
   commit_run : (p : Progress) (old : ℕ → Peer) (turns : List (Turn (ℕ → Peer))) (last : Progress) (new : ℕ → Peer) (tells : List LaneNews) → LaneRun (Executes s c) p old turns last new → Tell p.lane turns tells
@@ -269,10 +269,8 @@ module _ (s : Setting) (c : ℕ) (told : IsTrue (s.told c)) (v : FileVersion) (g
         not_restart (Ok commands) line is e = let f : lines.Restarted (cloud_no cloud.0) commands ≡ lines.Step j (cloud_no c) news.Committed = sym is ∙ e in cc
         not_restart (Err errors.Fault) line is e = let f : lines.Fault (cloud_no cloud.0) ≡ lines.Step j (cloud_no c) news.Committed = sym is ∙ e in cc
         not_restart (Err (errors.NotBegun len)) line is e = let f : lines.Damaged (cloud_no cloud.0) is.0 is.1 ≡ lines.Step j (cloud_no c) news.Committed = sym is.2 ∙ e in cc
-        not_restart (Err (errors.OtherStore found asked)) line is e = let f : lines.Damaged (cloud_no cloud.0) is.0 is.1 ≡ lines.Step j (cloud_no c) news.Committed = sym is.2 ∙ e in cc
+        not_restart (Err (errors.OtherStore found asked at)) line is e = let f : lines.Damaged (cloud_no cloud.0) is.0 is.1 ≡ lines.Step j (cloud_no c) news.Committed = sym is.2 ∙ e in cc
         not_restart (Err (errors.Damaged at byte)) line is e = let f : lines.Damaged (cloud_no cloud.0) is.0 is.1 ≡ lines.Step j (cloud_no c) news.Committed = sym is.2 ∙ e in cc
-        not_restart (Err (errors.RoomsTooSmall room limit at)) line is e = let f : lines.Damaged (cloud_no cloud.0) is.0 is.1 ≡ lines.Step j (cloud_no c) news.Committed = sym is.2 ∙ e in cc
-        not_restart (Err errors.NoMemory) line is e = let f : lines.Damaged (cloud_no cloud.0) is.0 is.1 ≡ lines.Step j (cloud_no c) news.Committed = sym is.2 ∙ e in cc
 
         by_line : RestartStep s cloud.0 x.0 (old.peers cloud.0) (new.peers cloud.0) → x.0 ≡ lines.Step j (cloud_no c) news.Committed → ⊥
         by_line r = not_restart r.0 x.0 r.1

@@ -1,5 +1,5 @@
 -- Replies that speak of a user's own commands.
-use Rattle.std.proofs.Common.{◌≡◌, ℕ, Bool, List, [], ◌∷◌, ◌++◌, ◌-◌, length, map, Option, Some, None, Result, sym, ap, subst, inl, inr}
+use Rattle.std.proofs.Common.{◌≡◌, ℕ, Bool, List, [], ◌∷◌, ◌++◌, ◌-◌, length, map, Option, Some, None, Result, sym, ap, subst, ◌∙◌, inl, inr}
 use Rattle.std.specs.Prelude.{MatchOption, fold, slice_get}
 use Rattle.std.specs.Bool.{MatchBool}
 use Rattle.std.specs.List.{Contains}
@@ -9,17 +9,22 @@ use Rattle.cd_base.specs.declared.ids.UserId.{UserId}
 use Rattle.cd_base.specs.declared.ids.Version.{Version}
 use Rattle.cd_base.specs.declared.shape.Shape.{Shape}
 use Rattle.cd_edges.specs.Disk.{Cloud}
+use Rattle.journal_start.specs.declared.rooms.Rooms.{Rooms}
 use Rattle.messages.specs.declared.request.Request.{Request}
 use Rattle.messages.specs.declared.request.Request.TheVariants as requests
 use Rattle.messages.specs.declared.reply.Reply.{Reply}
 use Rattle.user_dedup.specs.declared.command.Command.{Command}
-use Rattle.user_dedup.specs.Cloud.{commands_of, no_view, view_after, user_view}
+use Rattle.user_dedup.specs.Cloud.{user_of, commands_of, no_view, view_after, user_view, held_string}
 use Rattle.user_dedup.specs.Requests.{asker}
 use Rattle.user_dedup.specs.Owning.{first_lacking}
-use Rattle.user_dedup.specs.Dedup.{Outcome, FullRoom, answer_by_view, shares_reply, answer_over, room_for, by_room}
+use Rattle.user_dedup.specs.Dedup.{Outcome, FullRoom, answer_by_view, shares_reply, answer_over, HeldAlike, room_for, by_room, unless_full}
 use Rattle.user_dedup.specs.Exec.{Peer, MaySettleAs, Exec, ExecTold, ExecUntold}
+use Rattle.user_dedup.specs.Served.{served_by}
+use Rattle.user_dedup.specs.Spending.{HoldsItself, full_for}
 use Rattle.user_dedup.proofs.Owned.{contains_cases, contains_nothing, contains_here}
-use Rattle.cloud_store.specs.Space.{full_for}
+use Rattle.user_dedup.proofs.Replies.{same_reply}
+use Rattle.user_dedup.proofs.Sound.{by_asker}
+use Rattle.user_dedup.proofs.Spending.{full_alone}
 use Rattle.upload_job.specs.Lanes as lanes
 use Rattle.lane_steps.specs.Runs.{Turn, Progress, LaneRun, progress_after}
 use Rattle.session.specs.declared.event.Event.{Event}
@@ -33,6 +38,9 @@ use Rattle.session_model.specs.Headline.{Session, Begun, IsRun, IsPartOf, IsOwnR
 use Rattle.session_model.proofs.With.{executes_with}
 
 -- ---- one reply
+
+abbrev no_command : Option Command
+no_command = None
 
 by_rooms : (o : Outcome) (room : Option FullRoom) (reply : Reply) → reply ≡ (by_room o room).reply → IsOwnReply reply → reply ≡ o.reply
 by_rooms o None reply e own = e
@@ -57,6 +65,35 @@ pub own_alone : (shape : Shape) (cloud : ℕ) (one two : List Command) (request 
 own_alone shape cloud one two request same =
     ap (λ (commands : List Command). (answer_by_view shape cloud (fold (view_after shape) no_view commands) (λ fp. None) request).reply) same
 
+-- what another user's strings are doesn't matter to a request that adds a command
+held_alike : (shape : Shape) (cloud : ℕ) (one two : List Command) (request : Request) (command : Command) → (answer_over shape cloud one request).adds ≡ Some command
+    → HeldAlike (user_view shape one (asker request)) (held_string one) (held_string two) request
+held_alike shape cloud one two requests.Hello command adds = tt
+held_alike shape cloud one two (requests.Query user fps) command adds = tt
+held_alike shape cloud one two (requests.Put user shares) command adds = tt
+held_alike shape cloud one two (requests.Commit user tag version recipe) command adds = tt
+held_alike shape cloud one two (requests.GetRecipe user tag version) command adds = tt
+held_alike shape cloud one two (requests.GetShares user fps) command adds = absurd (let none : no_command ≡ Some command = adds in cc)
+held_alike shape cloud one two (requests.List user after) command adds = tt
+held_alike shape cloud one two (requests.Delete user tag version) command adds = tt
+
+-- so what is served for it follows from the asking user's own commands, as does which of the user's rooms is full
+pub served_alone : (rooms : Rooms) (shape : Shape) (cloud : ℕ) (one two : List Command) (request : Request) (command : Command)
+    → commands_of (asker request) two ≡ commands_of (asker request) one → (answer_over shape cloud one request).adds ≡ Some command
+    → HoldsItself (one ++ command ∷ []) → HoldsItself (two ++ command ∷ [])
+    → served_by rooms shape cloud two request ≡ served_by rooms shape cloud one request
+served_alone rooms shape cloud one two request command same adds first second =
+    let view = ap (λ (commands : List Command). fold (view_after shape) no_view commands) same in
+    let answer : answer_over shape cloud two request ≡ answer_over shape cloud one request =
+    same_reply shape cloud one two request view (held_alike shape cloud one two request command adds) in
+    let asked : commands_of (user_of command) two ≡ commands_of (user_of command) one =
+    subst (λ (user : UserId). commands_of user two ≡ commands_of user one) (sym (by_asker shape cloud one request command adds)) same in
+    let room : full_for shape rooms two command ≡ full_for shape rooms one command = full_alone shape rooms two one command asked second first in
+    ap (unless_full (full_for shape rooms two)) answer
+    ∙ ap (λ (o : Option Command). by_room (answer_over shape cloud one request) (room_for (full_for shape rooms two) o)) adds
+    ∙ ap (λ (o : Option FullRoom). by_room (answer_over shape cloud one request) o) room
+    ∙ ap (λ (o : Option Command). by_room (answer_over shape cloud one request) (room_for (full_for shape rooms one) o)) (sym adds)
+
 module _ (s : Setting) where
   private_exec : (cloud : ℕ) (old new : ℕ → Peer) (request : Request) (reply : Reply) → Executes s cloud old request reply new → IsPrivate s (record { peers = old; event = Some (record { cloud = cloud; request = request; reply = reply }) })
   private_exec cloud old new request reply x told own =
@@ -67,7 +104,7 @@ module _ (s : Setting) where
         a.before,
         a.settled,
         by_view s.shape cloud a.before request reply
-            (by_rooms (answer_over s.shape cloud a.before request) (room_for (full_for s.rooms a.before) (answer_over s.shape cloud a.before request).adds) reply a.served own) own,
+            (by_rooms (answer_over s.shape cloud a.before request) (room_for (full_for s.shape s.rooms a.before) (answer_over s.shape cloud a.before request).adds) reply a.served own) own,
       )
       by_exec (inr f) = absurd (subst IsOwnReply f.reply_is own)
 

@@ -23,8 +23,8 @@ use Rattle.user_dedup.specs.Pages.{entry_at, sorted_keys, key_of as key_of_entry
 use Rattle.user_dedup.specs.Exec.{Peer, MaySettleAs, Exec, ExecTold}
 use Rattle.user_dedup.proofs.Owned.{contains_cases, contains_nothing, contains_here, contains_later}
 use Rattle.user_dedup.proofs.Sound.{found_entry}
-use Rattle.cloud_store.specs.Space.{full_for}
-use Rattle.cloud_store.specs.Contents.{strings_in}
+use Rattle.user_dedup.specs.Spending.{full_for}
+use Rattle.user_dedup.specs.Cloud.{strings_in}
 use Rattle.upload_job.specs.declared.news.LaneNews.TheVariants as lane_news
 use Rattle.upload_job.specs.Upload.{FileVersion, Work, work_of}
 use Rattle.upload_job.specs.Lane.{LaneState, Asking, Sending, Committing, Done, Refused, onward, past_known, lane_request, lane_after, news_of}
@@ -212,7 +212,7 @@ module _ (s : Setting) (c : ℕ) (told : IsTrue (s.told c)) (v : FileVersion) (g
       let does : ExecTold (served_at s c) old request reply mid = exec.does in
       let news : news_of p.lane.state reply ≡ Some lane_news.Committed =
       subst (λ (st : LaneState). news_of st reply ≡ Some lane_news.Committed) (sym at) (subst (λ (x : Reply). news_of Committing x ≡ Some lane_news.Committed) (sym said) refl) in
-      keeps_on s c told v good Known apart mid new (executed_keeps s.shape c (full_for s.rooms) v good Known apart p.lane request old mid reply work asks does news known)
+      keeps_on s c told v good Known apart mid new (executed_keeps s.shape c (full_for s.shape s.rooms) v good Known apart p.lane request old mid reply work asks does news known)
       (grows_lane_run s c (progress_after p reply) mid turns last new run)
 
   run_keeps : (p : Progress) (old : Peer) (turns : List (Turn Peer)) (last : Progress) (new : Peer) → LaneRun (Exec s.shape true (served_at s c)) p old turns last new → p.lane.work ≡ work_of s.shape v c
@@ -249,7 +249,7 @@ module _ (s : Setting) (c : ℕ) (told : IsTrue (s.told c)) (v : FileVersion) (g
       let next : Progressed = b.0 in
       let mid : Peer = b.1 in
       let m = goes_behind (λ p q. BringsAll s.shape c (served_at s c) gs q p b.3 after new) next mid b.3 after new next.stop refl goes b.6 in
-      let rest = brought_all s.shape c (full_for s.rooms) gs next after mid new b.3 m.1 goes in
+      let rest = brought_all s.shape c (full_for s.shape s.rooms) gs next after mid new b.3 m.1 goes in
       elim (contains_cases g gs f has) [
         | inr later ↦ walk gs next after mid new b.3 m.1 goes f later is absent known
         | inl same ↦ keeps_on s c told v good Known apart mid new
@@ -318,7 +318,7 @@ run_rose s c p old [] last new run said = absurd cc
 run_rose s c p old (t ∷ []) last new run said =
     let mid : Peer = run.3.0 in
     subst (λ (q : Peer). Rose old.faults q.faults) (sym run.3.2.2)
-    (fault_rose s.shape c (full_for s.rooms) true p.lane.work p.lane.state t.request t.reply old mid run.2 run.3.1 (same_Some t.reply replies.Fault said))
+    (fault_rose s.shape c (full_for s.shape s.rooms) true p.lane.work p.lane.state t.request t.reply old mid run.2 run.3.1 (same_Some t.reply replies.Fault said))
 run_rose s c p old (t ∷ u ∷ turns) last new run said =
     above old.faults run.3.0.faults new.faults run.3.1.counts.faults (run_rose s c (progress_after p t.reply) run.3.0 (u ∷ turns) last new run.3.2 said)
   where

@@ -9,7 +9,7 @@ use Rattle.cd_base.specs.declared.ids.Version.{Version}
 use Rattle.messages.specs.declared.request.Request.{Request}
 use Rattle.user_dedup.specs.Exec.{Peer}
 use Rattle.user_dedup.proofs.Owned.{contains_here}
-use Rattle.cloud_store.specs.Contents.{strings_in}
+use Rattle.user_dedup.specs.Cloud.{strings_in}
 use Rattle.upload_job.specs.Lanes as lanes
 use Rattle.lane_steps.specs.Runs.{Turn, Progress, LaneRun}
 use Rattle.session.specs.declared.event.Event.{Event}

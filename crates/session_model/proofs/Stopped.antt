@@ -12,7 +12,7 @@ use Rattle.messages.specs.declared.reply.Reply.TheVariants as replies
 use Rattle.user_dedup.specs.declared.command.Command.{Command}
 use Rattle.user_dedup.specs.Exec.{Peer, Stays, Settles, CountsOn}
 use Rattle.user_dedup.proofs.Owned.{contains_cases, contains_here, contains_later, contains_nothing}
-use Rattle.cloud_store.specs.Space.{full_for}
+use Rattle.user_dedup.specs.Spending.{full_for}
 use Rattle.upload_job.specs.Upload.{FileVersion, work_of}
 use Rattle.upload_job.specs.Lane.{beginning, lane_request}
 use Rattle.lane_steps.specs.Runs.{Turn}
@@ -188,7 +188,7 @@ module _ (s : Setting) (old : Vault) (user : UserId) (target : CloudNo) (from : 
 
     -- the reply that stopped it
     said_of : (would : Result Rebuilt RebuildErr) (later : ℕ → Peer) (x : Ends would later) (reply : Reply) → x.last.stop ≡ Some reply → SaidSo (turns ++ more) reply
-    said_of would later x reply stop = stop_said s.shape target.0 (full_for s.rooms) x.found nothing_yet x.last (old.peers target.0) (later target.0) (turns ++ more) reply refl x.brings stop
+    said_of would later x reply stop = stop_said s.shape target.0 (full_for s.shape s.rooms) x.found nothing_yet x.last (old.peers target.0) (later target.0) (turns ++ more) reply refl x.brings stop
 
     not_target : (c : CloudNo) → Contains from c.0 → target.0 ≢ c.0
     not_target c has same = apart (subst (Contains from) (sym same) has)
@@ -235,7 +235,7 @@ module _ (s : Setting) (old : Vault) (user : UserId) (target : CloudNo) (from : 
     part_told : (would : Result Rebuilt RebuildErr) (later : ℕ → Peer) → Ends would later → LeavesBut from target.0 old.peers later → ComesBefore more (later target.0) at → Part
     part_told (Ok rebuilt) later ends leaves comes =
         part_so (Ok rebuilt) later (lines.Rebuilt user target rebuilt.files (length rebuilt.skipped) ∷ map skip_line rebuilt.skipped) refl refl tt tt tt ends ends
-        (refills s.shape user target.0 (full_for s.rooms) from (turns ++ more) rebuilt old.peers later (are_choice s.shape from are) ends) leaves comes
+        (refills s.shape user target.0 (full_for s.shape s.rooms) from (turns ++ more) rebuilt old.peers later (are_choice s.shape from are) ends) leaves comes
     part_told (Err (errors.FromRestore (restore_errors.CloudFault c))) later ends leaves comes =
         part_so (Err (errors.FromRestore (restore_errors.CloudFault c))) later (lines.Refused (refusals.Fault c) ∷ []) (refusals.Fault c, refl, refl) refl (tt, ends.ends.1.0) ends.ends.1.1.0 tt ends ends tt leaves comes
     part_told (Err (errors.FromRestore (restore_errors.Lost c))) later ends leaves comes = part_lost c later ends leaves comes

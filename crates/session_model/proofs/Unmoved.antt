@@ -8,13 +8,13 @@ use Rattle.cd_base.specs.declared.ids.CloudNo.{CloudNo}
 use Rattle.cd_base.specs.declared.ids.UserId.{UserId}
 use Rattle.cd_base.specs.declared.ids.Version.{Version}
 use Rattle.cd_edges.specs.Causes.{Rose}
-use Rattle.commit_journal.specs.declared.errors.OpenErr.TheVariants as errors
+use Rattle.half_journal.specs.declared.errors.OpenErr.TheVariants as errors
 use Rattle.messages.specs.declared.request.Request.{Request}
 use Rattle.messages.specs.declared.request.Request.TheVariants as requests
 use Rattle.messages.specs.declared.reply.Reply.TheVariants as replies
 use Rattle.user_dedup.specs.Exec.{Peer, CountsOn}
 use Rattle.user_dedup.proofs.Owned.{contains_here}
-use Rattle.share_server.specs.Serving.{ReopensAs}
+use Rattle.cloud_server.specs.Serving.{ReopensAs}
 use Rattle.restore_job.specs.Asking.{MayRead}
 use Rattle.restore_job.specs.declared.error.RestoreErr.TheVariants as restore_errors
 use Rattle.rebuild.specs.declared.error.RebuildErr.TheVariants as rebuild_errors

@@ -12,12 +12,12 @@ use Rattle.user_dedup.specs.Cloud.{user_view}
 use Rattle.user_dedup.specs.Dedup.{answer_by_view}
 use Rattle.user_dedup.specs.Requests.{asker}
 use Rattle.user_dedup.specs.Exec.{Peer, MaySettleAs}
-use Rattle.cloud_store.specs.Store.{StandsFor}
+use Rattle.cloud_areas.specs.Standing.{StandsFor}
+use Rattle.cloud_server.specs.Names.{header_of}
 use Rattle.upload_job.specs.Upload.{FileVersion}
 use Rattle.restore_job.specs.Restored.{recipe_in}
 use Rattle.subset_restore.specs.Subsets.{IsSubset}
 use Rattle.kept_files.specs.Kept.{Keeps, key_of}
-use Rattle.local_link.specs.Calls.{header_of}
 use Rattle.session.specs.Scripts.{AreLines}
 use Rattle.session.specs.declared.event.Event.{Event}
 use Rattle.session.specs.declared.event.Event.TheVariants as events
@@ -141,7 +141,7 @@ DisksKeep run clouds =
     → StillKept run cloud v
     → ¬ Clashes run
     → IsImage (clouds cloud).now image → MaySettleAs (run.last cloud) list
-    → StandsFor image (header_of run.setting.shape cloud) list
+    → StandsFor image (header_of run.setting.shape run.setting.rooms cloud) list
     → Keeps run.setting.shape cloud list v.user v.path v.number v.file
 
 -- ---- disks
@@ -151,10 +151,10 @@ DisksKeep run clouds =
 pub record StandsForRun (run : Session) (old new : ℕ → Cloud) (cloud : ℕ) : Type 0 where
   pub now : (image : Image) → IsImage (new cloud).now image →
       (list : List Command) × MaySettleAs (run.last cloud) list
-      × StandsFor image (header_of run.setting.shape cloud) list
+      × StandsFor image (header_of run.setting.shape run.setting.rooms cloud) list
   pub each : (image : Image) → IsImageSince (new cloud) (moment (old cloud)) image →
       (list : List Command) × IsListIn run.setting cloud (moments_in run) run.last list
-      × StandsFor image (header_of run.setting.shape cloud) list
+      × StandsFor image (header_of run.setting.shape run.setting.rooms cloud) list
 
 abbrev pub DisksStand : Session → (ℕ → Cloud) → (ℕ → Cloud) → Type 0
 DisksStand run old new =

@@ -2,9 +2,8 @@
 use Rattle.std.specs.Prelude.{◌≡◌, ◌≢◌, ℕ, ◌+◌, ◌<◌, ◌⊎◌, IsTrue, List, [], ◌∷◌, reverse, slice_get, Some}
 use Rattle.std.specs.List.{Contains, flat_map}
 use Rattle.cd_base.specs.declared.shape.Shape.{Shape}
-use Rattle.user_dedup.specs.Cloud.{fingerprint}
+use Rattle.user_dedup.specs.Cloud.{fingerprint, strings_in}
 use Rattle.user_dedup.specs.Exec.{Peer}
-use Rattle.cloud_store.specs.Contents.{strings_in}
 use Rattle.upload_job.specs.Upload.{FileVersion, shares_for}
 use Rattle.kept_files.specs.Kept.{key_of}
 use Rattle.session.specs.declared.event.Event.{Event}

@@ -6,11 +6,15 @@ ghost use Rattle.cd_base.specs.declared.ids.CloudNo.{CloudNo};
 ghost use Rattle.cd_base.specs.declared.ids.UserId.{UserId};
 ghost use Rattle.cd_base.specs.declared.ids.Version.{Version};
 ghost use Rattle.cd_base.specs.declared.shape.Shape.{Shape};
+ghost use Rattle.journal_start.specs.declared.rooms.Rooms.{Rooms};
 ghost use Rattle.messages.specs.declared.request.Request.{Request};
 ghost use Rattle.user_dedup.specs.declared.command.Command.{Command};
 ghost use Rattle.user_dedup.specs.Cloud.{commands_of};
+ghost use Rattle.user_dedup.specs.Dedup.{answer_over};
 ghost use Rattle.user_dedup.specs.Requests.{asker};
 ghost use Rattle.user_dedup.specs.Exec.{Peer};
+ghost use Rattle.user_dedup.specs.Served.{served_by};
+ghost use Rattle.user_dedup.specs.Spending.{HoldsItself};
 ghost use Rattle.lane_steps.specs.Runs.{Turn};
 ghost use Rattle.rebuild.specs.Rebuilding.{IsCut};
 ghost use Rattle.rebuild.specs.Turns.{OwnLanes};
@@ -35,9 +39,16 @@ pub fn law_of_own_replies()
 /// Such a reply follows from the asking user's own commands alone: lists that have the same ones, in the same order, give the same reply,
 /// whatever commands of others lie between them.
 pub fn law_of_own_commands()
-    ensures { (shape : Shape) (cloud : ℕ) (one two : List Command) (request : Request)
+    ensures own { (shape : Shape) (cloud : ℕ) (one two : List Command) (request : Request)
         → commands_of (asker request) two ≡ commands_of (asker request) one
         → own_reply shape cloud two request ≡ own_reply shape cloud one request }
+    // So does all that comes of a request that would add a command, a full room among it, where no two strings have one
+    // SHA-256.
+    ensures rooms { (rooms : Rooms) (shape : Shape) (cloud : ℕ) (one two : List Command) (request : Request)
+        (command : Command) → commands_of (asker request) two ≡ commands_of (asker request) one
+        → (answer_over shape cloud one request).adds ≡ Some command
+        → HoldsItself (one ++ command ∷ []) → HoldsItself (two ++ command ∷ [])
+        → served_by rooms shape cloud two request ≡ served_by rooms shape cloud one request }
 {}
 
 /// A get gives each version that its clouds acknowledged, or some of them where the others have none; and each list that

@@ -61,7 +61,8 @@ impl UserCounts {
     /// A user gets one more.
     pub(crate) fn raise(&mut self, user: u32)
         requires { total self.old.counts < self.old.room }
-        ensures counts { self.new.counts ≡ map.insert self.old.counts (number_of user) (count_at self.old.counts user + 1) }
+        ensures counts { self.new.counts ≡ map.insert self.old.counts (number_of user)
+            (count_at self.old.counts user + 1) }
         ensures room { self.new.room ≡ self.old.room }
     {
         let key = UserNumber { value: user };

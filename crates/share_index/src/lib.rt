@@ -216,7 +216,8 @@ impl ShareIndex {
         ensures accounts { self.new.accounts ≡ self.old.accounts }
         ensures refuses { IsErr result ↔ used_by self.old user.0 ≡ limit_for self.old.accounts user.0 }
         ensures err { OnErr result (self.new ≡ self.old) }
-        ensures full { IfErr result (λ error. error ≡ Full (used_by self.old user.0) (limit_for self.old.accounts user.0)) }
+        ensures full { IfErr result (λ error. error
+            ≡ Full (used_by self.old user.0) (limit_for self.old.accounts user.0)) }
     {
         match self.owners.add(Owner::of(user, &fp)) {
             Ok(()) => {
@@ -242,7 +243,8 @@ impl ShareIndex {
     pub fn add_use(&mut self, user: UserId, fp: &Fp)
         requires owned { IsSome (map.get self.old.owners (owner_of user.0 fp.now.0)) }
         requires below { uses_at self.old.owners (owner_of user.0 fp.now.0) < 4294967295 }
-        ensures owners { self.new.owners ≡ map.insert self.old.owners (owner_of user.0 fp.now.0) (uses_at self.old.owners (owner_of user.0 fp.now.0) + 1) }
+        ensures owners { self.new.owners ≡ map.insert self.old.owners (owner_of user.0 fp.now.0)
+            (uses_at self.old.owners (owner_of user.0 fp.now.0) + 1) }
         ensures places { self.new.places ≡ self.old.places }
         ensures place_slots { self.new.place_slots ≡ self.old.place_slots }
         ensures owner_slots { length self.new.owner_slots ≡ length self.old.owner_slots }

@@ -70,7 +70,8 @@ impl OwnerTable {
         ensures slots { length self.new.slots ≡ length self.old.slots }
         ensures refuses { IsErr result ↔ used_of self.old owner.user ≡ limit_for self.old.accounts owner.user }
         ensures err { OnErr result (self.new ≡ self.old) }
-        ensures full { IfErr result (λ error. error ≡ Full (used_of self.old owner.user) (limit_for self.old.accounts owner.user)) }
+        ensures full { IfErr result (λ error. error
+            ≡ Full (used_of self.old owner.user) (limit_for self.old.accounts owner.user)) }
     {
         let account = match self.accounts.account_of(owner.user) {
             Some(account) => account,

@@ -149,7 +149,8 @@ pub(crate) fn load<V: Shelf>(
     ensures exact { IsTrue (V.cloud_at shelf.old cloud.0).told → (w : Where)
         → IsReading (state_of journal.old) ((V.cloud_at shelf.old cloud.0).now Area.Journal) w → w.bodies ≡ []
         → OnFault result (Unit {0})
-        (ReplaysAll header.now w.half w.start (reads (V.cloud_at shelf.old cloud.0).now) (memory_of memory.new) result) }
+        (ReplaysAll header.now w.half w.start (reads (V.cloud_at shelf.old cloud.0).now)
+        (memory_of memory.new) result) }
     ensures ended { IsTrue (V.cloud_at shelf.old cloud.0).told → (w : Where)
         → IsReading (state_of journal.old) ((V.cloud_at shelf.old cloud.0).now Area.Journal) w → w.bodies ≡ []
         → OnOk result (HasEnded (state_of journal.new) ((V.cloud_at shelf.old cloud.0).now Area.Journal) w) }

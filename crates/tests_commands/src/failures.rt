@@ -88,7 +88,7 @@ fn opens_or_says_why(alloc: Global, shelf: &mut MemShelf) -> Result<bool, Fail> 
             && first.has_sent(0, new.as_slice())
             && again.is(0, lines)
             && again.has_sent(0, known.as_slice())
-            && other.is(7, "other 2 1 4 3 2\n")
+            && other.is(7, "other 2 2 4 3 2\n")
             && other.has_sent(0, &[])
             && damaged.is(7, "damaged 2 8 55\n")
             && damaged.has_sent(0, &[]),

@@ -1,10 +1,12 @@
-//! Tests of the commands serve and backup.
+//! Tests of the commands serve, backup and delete.
 #![tactic(auto)]
 
 #[cfg(test)]
 mod command;
 #[cfg(test)]
 mod connections;
+#[cfg(test)]
+mod deletions;
 #[cfg(test)]
 mod failures;
 #[cfg(test)]

@@ -2,11 +2,12 @@
 //! a sync of its record, and a write and a sync of the record's gate; a stop keeps nothing of a write. The command is there
 //! exactly where the gate reads 1.
 
-use cd_base::{CloudNo, NoMemory, Rooms, Shape};
+use cd_base::{CloudNo, NoMemory, Shape};
 use cd_edges::{Area, Shelf};
 use cd_fakes::MemShelf;
+use cloud_server::Server;
 use frames::ReplyBuf;
-use share_server::Server;
+use journal_start::Rooms;
 use std::alloc::Global;
 use std::test::Fail;
 
@@ -17,10 +18,9 @@ const FAULT: &[u8] = &[0x8D];
 // A closed server of the cloud, of a store of four clouds of which three give a file back.
 fn server_of(alloc: Global) -> Result<Server, NoMemory> {
     let rooms = Rooms {
+        users: 10,
         shares: 9_000,
         recipes: 9_000,
-        journal: 9_000,
-        fps: 90,
         owners: 90,
         files: 90,
     };
@@ -163,7 +163,7 @@ const GATES: [(u32, u8, u8, u64); 4] = [
 
 fn reads_gate(ground: &mut Ground, gate: u8) -> bool {
     let mut bytes = [9; 1];
-    ground.shelf.read(TWO, Area::Journal, 13, &mut bytes) == Ok(1) && bytes == [gate]
+    ground.shelf.read(TWO, Area::Journal, 41, &mut bytes) == Ok(1) && bytes == [gate]
 }
 
 fn has_gates(ground: &mut Ground) -> bool {

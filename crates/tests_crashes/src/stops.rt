@@ -28,7 +28,7 @@ fn script(alloc: Global, stop: Stop) -> Result<String, Fail> {
     } = stop;
     let restart = if restarts { "restart 0\n" } else { "" };
     Ok(format!(in alloc;
-        "cdstore 1 4 3 9000 9000 9000 90 90 90\nupload 7 61 1 41\nstep 1 0\narm 0 {call} {keep}\nstep 1 0\n{restart}finish 1\nrestart 0\nfinish 1\nget 7 61 1 0,1,2\nlist 7 0\n"
+        "cdstore 1 4 3 10 9000 9000 90 90\nupload 7 61 1 41\nstep 1 0\narm 0 {call} {keep}\nstep 1 0\n{restart}finish 1\nrestart 0\nfinish 1\nget 7 61 1 0,1,2\nlist 7 0\n"
     )?)
 }
 
@@ -94,7 +94,7 @@ fn goes_on(alloc: Global, stop: Stop) -> Result<bool, Fail> {
     let text = text(alloc, stop)?;
     let mut shelf = MemShelf::of(alloc, 4, 1_024, 256, &[])?;
     let well = comes_to(alloc, script.as_bytes(), &mut shelf, text.as_bytes());
-    let as_ever = lengths(&mut shelf, 0) == [165, 11, 61];
+    let as_ever = lengths(&mut shelf, 0) == [193, 11, 61];
     drop(shelf);
     Ok(well? && as_ever)
 }

@@ -142,7 +142,7 @@ impl Session {
             script: Bytes::new(alloc),
             text: Bytes::new(alloc),
         };
-        session.add("cdstore 1 4 3 9000 9000 90000 90 90 90\n", "open 4 3\n")?;
+        session.add("cdstore 1 4 3 10 9000 9000 90 90\n", "open 4 3\n")?;
         for version in 1..24 {
             session.round(alloc, version)?;
         }

@@ -1,13 +1,14 @@
 //! Four clouds in memory, any three of which give a file back, and the steps of a lane.
 
-ghost use Rattle.std.specs.Prelude.{◌<◌, All, IfOk, IsTrue};
+ghost use Rattle.std.specs.Prelude.{◌<◌, ◌≤◌, All, IfOk, IsTrue};
 ghost use Rattle.cd_base.specs.Numbers.{numbers_of};
-ghost use Rattle.cloud_state.specs.State.{AreRooms};
+ghost use Rattle.journal_start.specs.Ranges.{AreRooms};
 
-use cd_base::{Bytes, CloudNo, Clouds, NoMemory, Rooms, Shape, UserId, Version, is_path};
+use cd_base::{Bytes, CloudNo, Clouds, NoMemory, Shape, UserId, Version, is_path};
 use cd_edges::{Area, Failed, Shelf};
 use cd_fakes::MemShelf;
 use frames::ReplyBuf;
+use journal_start::Rooms;
 use local_link::LocalLink;
 use restore_job::{RestoreErr, restore};
 use std::alloc::Global;
@@ -23,17 +24,17 @@ pub fn shape() -> Shape {
     Shape { n: 4, k: 3 }
 }
 
-/// Rooms for a few files.
-pub fn rooms() -> Rooms
+/// Rooms for so many files of each user, 100 at most.
+pub fn rooms(files: u32) -> Rooms
+    requires { files ≤ 100 }
     ensures { AreRooms result }
 {
     Rooms {
+        users: 16,
         shares: 100_000,
         recipes: 10_000,
-        journal: 10_000,
-        fps: 100,
         owners: 100,
-        files: 100,
+        files,
     }
 }
 
@@ -44,7 +45,7 @@ pub fn shelf(alloc: Global) -> Result<MemShelf, NoMemory> {
 
 /// A link over them.
 pub fn link(alloc: Global, shelf: &mut MemShelf) -> Result<LocalLink<'_, MemShelf>, NoMemory> {
-    LocalLink::over(alloc, shelf, shape(), rooms())
+    LocalLink::over(alloc, shelf, shape(), rooms(100))
 }
 
 // The upload of a user's first version of a file.

@@ -1,15 +1,16 @@
-//! Clouds that are cut, opened again, given less room and replaced.
+//! Clouds that are cut, opened again, served in other rooms and replaced.
 
-ghost use Rattle.cloud_state.specs.State.{AreRooms};
+ghost use Rattle.journal_start.specs.Ranges.{AreRooms};
 
 use crate::ground::{
     Upload, clear, go, go_on, have_commands, is_restored, is_stored, lengths, link, restored,
     rooms, shelf, upload_of,
 };
-use cd_base::{Bytes, CloudNo, Rooms};
+use cd_base::{Bytes, CloudNo};
 use cd_fakes::MemShelf;
+use cloud_server::OpenErr;
+use journal_start::Rooms;
 use local_link::LocalLink;
-use share_server::OpenErr;
 use std::alloc::Global;
 use std::test::Fail;
 
@@ -106,7 +107,7 @@ fn each_call_cut_once(rt: HostRuntime) -> Result<(), Fail> {
     let lengths = lengths(&mut shelf, 1);
     drop(shelf);
     assert!(rt; wrong? == None);
-    assert!(rt; lengths? == [165, 11, 61]);
+    assert!(rt; lengths? == [193, 11, 61]);
     Ok(())
 }
 
@@ -170,16 +171,12 @@ fn are_set(link: &mut LocalLink<'_, MemShelf>, rooms: Rooms) -> bool
     link.set_rooms(ONE, rooms).is_ok()
 }
 
-// Whether the cloud with a file isn't opened in rooms for none, and is in the first ones.
+// Whether the cloud isn't opened in other rooms than those that its header names, and is in the first ones.
 fn needs_rooms(alloc: Global, link: &mut LocalLink<'_, MemShelf>) -> Result<bool, Fail> {
-    let narrow = Rooms {
-        files: 0,
-        ..rooms()
-    };
     let stored = is_stored(alloc, link, 7, b"A")?;
-    let set = are_set(link, narrow);
-    let refused = opened(link, false)?.is_err();
-    let reset = are_set(link, rooms());
+    let set = are_set(link, rooms(99));
+    let refused = matches!(opened(link, false)?, Err(OpenErr::OtherStore { .. }));
+    let reset = are_set(link, rooms(100));
     Ok(stored && set && refused && reset && opens(link, Ok(2))?)
 }
 

@@ -53,15 +53,15 @@ fn has_lengths(
 
 // Of a byte: from one user, and then from the same one again and from another.
 fn has_lengths_of_a_byte(alloc: Global, shelf: &mut MemShelf) -> Result<bool, Fail> {
-    let one = has_lengths(alloc, shelf, &[7], b"A", [165, 11, 61])?;
-    let more = has_lengths(alloc, shelf, &[7, 8], b"A", [304, 11, 122])?;
+    let one = has_lengths(alloc, shelf, &[7], b"A", [193, 11, 61])?;
+    let more = has_lengths(alloc, shelf, &[7, 8], b"A", [332, 11, 122])?;
     Ok(one && more)
 }
 
 #[test]
 fn lengths_of_the_areas(rt: HostRuntime) -> Result<(), Fail> {
     let mut empty = shelf(rt.alloc())?;
-    let well = has_lengths(rt.alloc(), &mut empty, &[7], b"", [108, 0, 25]);
+    let well = has_lengths(rt.alloc(), &mut empty, &[7], b"", [136, 0, 25]);
     drop(empty);
     assert!(rt; well?);
     let mut one = shelf(rt.alloc())?;
@@ -139,7 +139,7 @@ fn first_wrong_of(alloc: Global, shelf: &mut MemShelf) -> Result<Option<(u8, u8)
 fn each_ask_lost_once(rt: HostRuntime) -> Result<(), Fail> {
     let mut shelf = shelf(rt.alloc())?;
     let wrong = first_wrong_of(rt.alloc(), &mut shelf);
-    let well = have(&mut shelf, [165, 11, 61]);
+    let well = have(&mut shelf, [193, 11, 61]);
     drop(shelf);
     assert!(rt; wrong? == None);
     assert!(rt; well?);

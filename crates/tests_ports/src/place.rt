@@ -2,12 +2,13 @@
 
 ghost use Rattle.std.specs.Prelude.{◌≡◌, ◌≤◌};
 
-use cd_base::{Bytes, CloudNo, NoMemory, Rooms, Shape};
+use cd_base::{Bytes, CloudNo, NoMemory, Shape};
 use cd_edges::{Ports, Shelf};
 use cd_fakes::{MemPorts, MemShelf};
+use cloud_server::Server;
 use frames::{Framer, ReplyBuf};
+use journal_start::Rooms;
 use serve_command::{Served, serve_connection};
-use share_server::Server;
 use std::alloc::Global;
 use std::test::Fail;
 
@@ -22,10 +23,9 @@ fn shape() -> Shape
 // A closed server, with rooms for a few files.
 fn server_of(alloc: Global) -> Result<Server, NoMemory> {
     let rooms = Rooms {
+        users: 16,
         shares: 100_000,
         recipes: 10_000,
-        journal: 10_000,
-        fps: 100,
         owners: 100,
         files: 100,
     };

@@ -7,7 +7,7 @@ use std::test::Fail;
 
 // The lines of the script, and what is written for each.
 const LINES: [(&str, &str); 4] = [
-    ("cdstore 1 4 3 9000 9000 9000 90 90 90\n", "open 4 3\n"),
+    ("cdstore 1 4 3 9 900 900 9 9\n", "open 4 3\n"),
     ("upload 7 61 1 41\n", "job 1\n"),
     (
         "finish 1\n",
@@ -73,7 +73,7 @@ fn source_calls(alloc: Global) -> Result<Option<u64>, Fail> {
 #[test]
 fn each_call_of_the_source(rt: HostRuntime) -> Result<(), Fail> {
     let count = source_calls(rt.alloc())?;
-    assert!(rt; count == Some(7), "{count:?}");
+    assert!(rt; count == Some(6), "{count:?}");
     Ok(())
 }
 

@@ -1,22 +1,23 @@
 //! Bytes of a session's areas that are changed, and what an opening finds.
 
 use crate::faults_place::replayed;
-use cd_base::{CloudNo, NoMemory, Rooms, Shape};
+use cd_base::{CloudNo, NoMemory, Shape};
 use cd_edges::{Area, Shelf};
 use cd_fakes::{MemShelf, MemSink, MemSource};
-use share_server::{OpenErr, Server};
+use cloud_server::{OpenErr, Server};
+use journal_start::Rooms;
 use std::alloc::Global;
 use std::test::Fail;
 
 const ZERO: CloudNo = CloudNo(0);
 
-const ONE_BYTE: &[u8] = b"cdstore 1 4 3 9000 9000 9000 90 90 90\nupload 7 61 1 41\nfinish 1\n";
+const ONE_BYTE: &[u8] = b"cdstore 1 4 3 9 900 900 9 9\nupload 7 61 1 41\nfinish 1\n";
 
 const ANOTHER_USER: &[u8] =
-    b"cdstore 1 4 3 9000 9000 9000 90 90 90\nupload 7 61 1 41\nfinish 1\nupload 8 61 1 41\nfinish 2\n";
+    b"cdstore 1 4 3 9 900 900 9 9\nupload 7 61 1 41\nfinish 1\nupload 8 61 1 41\nfinish 2\n";
 
 const SAME_USER: &[u8] =
-    b"cdstore 1 4 3 9000 9000 9000 90 90 90\nupload 7 61 1 41\nfinish 1\nupload 7 61 2 41\nfinish 2\n";
+    b"cdstore 1 4 3 9 900 900 9 9\nupload 7 61 1 41\nfinish 1\nupload 7 61 2 41\nfinish 2\n";
 
 // A place of cloud 0's journal, the byte that is set there, and the place and the byte of the damage that is found.
 type Change = (u64, u8, u64, u8);
@@ -24,25 +25,24 @@ type Change = (u64, u8, u64, u8);
 // In order: an open gate at the end; a length that is too long; a kind; a Put of nothing; a flag of 0 where the share has a
 // place, and one of 2; the share's place beyond the area, and the recipe's.
 const CHANGES: [Change; 8] = [
-    (164, 1, 164, 1),
-    (14, 1, 14, 1),
-    (18, 9, 18, 9),
-    (24, 0, 23, 0),
-    (57, 0, 58, 0),
-    (57, 2, 57, 2),
-    (65, 1, 58, 0),
-    (128, 1, 120, 0),
+    (192, 1, 192, 1),
+    (42, 1, 42, 1),
+    (46, 9, 46, 9),
+    (52, 0, 51, 0),
+    (85, 0, 86, 0),
+    (85, 2, 85, 2),
+    (93, 1, 86, 0),
+    (156, 1, 148, 0),
 ];
 
 // A closed server of cloud 0, of a store of four clouds of which three give a file back.
 fn server_of(alloc: Global) -> Result<Server, NoMemory> {
     let rooms = Rooms {
-        shares: 9_000,
-        recipes: 9_000,
-        journal: 9_000,
-        fps: 90,
-        owners: 90,
-        files: 90,
+        users: 9,
+        shares: 900,
+        recipes: 900,
+        owners: 9,
+        files: 9,
     };
     Server::make(alloc, ZERO, Shape { n: 4, k: 3 }, rooms)
 }
@@ -116,8 +116,8 @@ fn bytes_of_a_put_and_a_commit(rt: HostRuntime) -> Result<(), Fail> {
 #[test]
 fn a_fingerprint_that_is_the_users_own(rt: HostRuntime) -> Result<(), Fail> {
     let mut ground = make_ground(rt.alloc(), ANOTHER_USER)?;
-    let byte = byte_at(&mut ground.shelf, 176);
-    let well = ground.is_found((173, 7, 176, byte), 4);
+    let byte = byte_at(&mut ground.shelf, 204);
+    let well = ground.is_found((201, 7, 204, byte), 4);
     drop(ground);
     assert!(rt; well);
     Ok(())
@@ -127,8 +127,8 @@ fn a_fingerprint_that_is_the_users_own(rt: HostRuntime) -> Result<(), Fail> {
 #[test]
 fn a_version_that_is_there(rt: HostRuntime) -> Result<(), Fail> {
     let mut ground = make_ground(rt.alloc(), SAME_USER)?;
-    let byte = byte_at(&mut ground.shelf, 174);
-    let well = ground.is_found((213, 1, 174, byte), 3);
+    let byte = byte_at(&mut ground.shelf, 202);
+    let well = ground.is_found((241, 1, 202, byte), 3);
     drop(ground);
     assert!(rt; well);
     Ok(())
@@ -137,7 +137,7 @@ fn a_version_that_is_there(rt: HostRuntime) -> Result<(), Fail> {
 // A Put of user 8 is made whose flag gives the first user's share a place anew.
 fn is_placed_twice(ground: &mut Ground) -> bool {
     let mut fp = [0; 32];
-    let read = ground.shelf.read(ZERO, Area::Journal, 25, &mut fp) == Ok(32);
+    let read = ground.shelf.read(ZERO, Area::Journal, 53, &mut fp) == Ok(32);
     let mut record = [0; 58];
     record[..12].copy_from_slice(&[1, 0, 0, 0, 52, 1, 0, 0, 0, 8, 0, 1]);
     record[12..44].copy_from_slice(&fp);
@@ -145,9 +145,9 @@ fn is_placed_twice(ground: &mut Ground) -> bool {
     record[56] = 11;
     let written = ground
         .shelf
-        .write(ZERO, Area::Journal, 164, &record)
+        .write(ZERO, Area::Journal, 192, &record)
         .is_ok();
-    read && written && ground.opens(Err(OpenErr::Damaged { at: 208, byte: 1 }))
+    read && written && ground.opens(Err(OpenErr::Damaged { at: 236, byte: 1 }))
 }
 
 #[test]

@@ -1,17 +1,17 @@
-//! Clouds that don't open: not begun, of another store, with too many files, and with a device that fails.
+//! Clouds that don't open: not begun, of another store, and with a device that fails.
 
 use crate::cases::{Case, holds};
 use crate::read_place::{
     ONE_BYTE, are_read, come_to, is_copied, is_read, is_replayed, lengths, new_shelf,
 };
-use cd_base::{Bytes, CloudNo, NoMemory};
+use cd_base::CloudNo;
 use cd_edges::{Area, Shelf};
 use cd_fakes::MemShelf;
 use std::alloc::Global;
 use std::test::Fail;
 
 // A store of a cloud more.
-const OTHER: &str = "cdstore 1 5 3 9000 9000 9000 90 90 90\nupload 7 61 1 41\nfinish 1\n";
+const OTHER: &str = "cdstore 1 5 3\nupload 7 61 1 41\nfinish 1\n";
 
 // Clouds, and what a read from them comes to, where cloud 1 isn't begun.
 static NOT_BEGUN: [(&str, u8, &str); 2] = [("0,1,2", 7, "notbegun 1 0\n"), ("0,2,3", 0, "A")];
@@ -31,7 +31,7 @@ fn is_not_begun(
 pub fn are_not_begun(alloc: Global, shelf: &mut MemShelf) -> Result<bool, Fail> {
     let emptied = is_replayed(alloc, ONE_BYTE, shelf)? && shelf.fresh(CloudNo(1)).is_ok();
     let none = are_read(alloc, &NOT_BEGUN, shelf)?;
-    let stay = lengths(shelf, 1) == [0, 0, 0] && lengths(shelf, 0) == [165, 11, 61];
+    let stay = lengths(shelf, 1) == [0, 0, 0] && lengths(shelf, 0) == [193, 11, 61];
     let one = is_not_begun(alloc, &[1], "notbegun 1 1\n", shelf)?;
     let three = is_not_begun(alloc, &[0, 0, 0], "notbegun 1 3\n", shelf)?;
     Ok(emptied && none && stay && one && three && lengths(shelf, 1) == [3, 0, 0])
@@ -46,7 +46,7 @@ fn a_cloud_that_is_not_begun_is_7(rt: HostRuntime) -> Result<(), Fail> {
 static OTHER_SHAPE: [&str; 8] = ["read", "d", "4", "2", "7", "a", "1", "0,1"];
 
 // Clouds, and what a read from them comes to, where cloud 1 is one of the other store.
-static OF_OTHER: [(&str, u8, &str); 2] = [("0,1,2", 7, "other 1 1 5 3 1\n"), ("0,2,3", 0, "A")];
+static OF_OTHER: [(&str, u8, &str); 2] = [("0,1,2", 7, "other 1 2 5 3 1\n"), ("0,2,3", 0, "A")];
 
 // Puts a cloud in place of one.
 fn is_put(from: &mut MemShelf, cloud: u8, to: &mut MemShelf, target: u8) -> bool {
@@ -56,11 +56,11 @@ fn is_put(from: &mut MemShelf, cloud: u8, to: &mut MemShelf, target: u8) -> bool
 // Whether a cloud of another store, or another cloud of this one, is named as what it is.
 fn are_others(alloc: Global, shelf: &mut MemShelf, other: &mut MemShelf) -> Result<bool, Fail> {
     let stored = is_replayed(alloc, ONE_BYTE, shelf)? && is_replayed(alloc, OTHER, other)?;
-    let shape = come_to(alloc, &OTHER_SHAPE, &[], shelf, (7, "other 0 1 4 3 0\n"))?;
+    let shape = come_to(alloc, &OTHER_SHAPE, &[], shelf, (7, "other 0 2 4 3 0\n"))?;
     let put = is_put(other, 1, shelf, 1);
     let read = are_read(alloc, &OF_OTHER, shelf)?;
     let moved = is_put(shelf, 2, other, 3) && is_put(other, 3, shelf, 1);
-    let last = is_read(alloc, "0,1,2", shelf, (7, "other 1 1 4 3 2\n"))?;
+    let last = is_read(alloc, "0,1,2", shelf, (7, "other 1 2 4 3 2\n"))?;
     Ok(stored && shape && put && read && moved && last)
 }
 
@@ -72,61 +72,6 @@ fn a_cloud_of_another_store_is_7(rt: HostRuntime) -> Result<(), Fail> {
     drop(shelf);
     drop(other);
     assert!(rt; well?);
-    Ok(())
-}
-
-// A version of a file with a recipe of one byte, in a journal: the front, two times its number, and what is behind.
-static FRONT: [u8; 42] = [
-    1, 0, 0, 0, 89, 2, 0, 0, 0, 7, 9, 9, 9, 9, 9, 9, 9, 9, 9, 9, 9, 9, 9, 9, 9, 9, 9, 9, 9, 9, 9,
-    9, 9, 9, 9, 9, 9, 9, 9, 9, 9, 9,
-];
-
-static REST: [u8; 36] = [
-    0, 0, 0, 1, 9, 9, 9, 9, 9, 9, 9, 9, 9, 9, 9, 9, 9, 9, 9, 9, 9, 9, 9, 9, 9, 9, 9, 9, 9, 9, 9, 9,
-    9, 9, 9, 9,
-];
-
-fn add_version(journal: &mut Bytes, version: u64) -> Result<(), NoMemory> {
-    journal.extend(&FRONT)?;
-    journal.extend(&version.to_be_bytes())?;
-    journal.extend(&version.to_be_bytes())?;
-    journal.extend(&REST)
-}
-
-// A journal of cloud 0 with so many versions of one file.
-fn versions(alloc: Global, count: u64) -> Result<Bytes, NoMemory> {
-    let mut journal = Bytes::new(alloc);
-    journal.extend(&[1, 0, 0, 0, 8, 0x43, 0x44, 0x53, 0x54, 1, 4, 3, 0])?;
-    for version in 0..count {
-        add_version(&mut journal, version)?;
-    }
-    journal.extend(&[0])?;
-    Ok(journal)
-}
-
-// Whether cloud 0 is made such a cloud.
-fn is_filled(alloc: Global, count: u64, shelf: &mut MemShelf) -> Result<bool, NoMemory> {
-    let journal = versions(alloc, count)?;
-    let written = shelf
-        .write(CloudNo(0), Area::Journal, 0, journal.as_slice())
-        .is_ok();
-    Ok(written && shelf.write(CloudNo(0), Area::Recipes, count, &[0]).is_ok())
-}
-
-// Whether a read of such a cloud, and of two that aren't begun, comes to this.
-fn is_full(alloc: Global, count: u64, wanted: (u8, &str)) -> Result<bool, Fail> {
-    let mut shelf = MemShelf::of(alloc, 4, 1_600_000, 20, &[])?;
-    let filled = is_filled(alloc, count, &mut shelf);
-    let well = is_read(alloc, "0,1,2", &mut shelf, wanted);
-    drop(shelf);
-    let well = well?;
-    Ok(filled? && well)
-}
-
-#[test]
-fn a_cloud_with_too_many_files_is_7(rt: HostRuntime) -> Result<(), Fail> {
-    assert!(rt; is_full(rt.alloc(), 16_384, (7, "notbegun 1 0\n"))?);
-    assert!(rt; is_full(rt.alloc(), 16_385, (7, "rooms 0 files 16384\n"))?);
     Ok(())
 }
 

@@ -8,7 +8,7 @@ use std::alloc::Global;
 use std::test::Fail;
 
 /// A store of shape 4 3 with the one byte `A` in version 1 of user 7's path `a`.
-pub const ONE_BYTE: &str = "cdstore 1 4 3 9000 9000 9000 90 90 90\nupload 7 61 1 41\nfinish 1\n";
+pub const ONE_BYTE: &str = "cdstore 1 4 3\nupload 7 61 1 41\nfinish 1\n";
 
 /// Five empty clouds.
 pub fn new_shelf(alloc: Global) -> Result<MemShelf, NoMemory> {

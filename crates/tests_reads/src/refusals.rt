@@ -7,15 +7,15 @@ use std::alloc::Global;
 use std::test::Fail;
 
 // The version is at clouds 0 and 1 alone.
-const HALF: &str = "cdstore 1 4 3 9000 9000 9000 90 90 90\nupload 7 61 1 41\n\
+const HALF: &str = "cdstore 1 4 3\nupload 7 61 1 41\n\
 step 1 0\nstep 1 0\nstep 1 0\nstep 1 1\nstep 1 1\nstep 1 1\n";
 
 // Clouds 0 and 1 have a file of no bytes, and the others one of a byte.
-const LENGTHS: &str = "cdstore 1 4 3 9000 9000 9000 90 90 90\nupload 7 61 1 -\nupload 7 61 1 41\n\
+const LENGTHS: &str = "cdstore 1 4 3\nupload 7 61 1 -\nupload 7 61 1 41\n\
 step 1 0\nstep 1 1\nfinish 2\n";
 
 // Clouds 0 and 1 have the byte `A`, and the others the byte `B`.
-const BYTES: &str = "cdstore 1 4 3 9000 9000 9000 90 90 90\nupload 7 61 1 41\nupload 7 61 1 42\n\
+const BYTES: &str = "cdstore 1 4 3\nupload 7 61 1 41\nupload 7 61 1 42\n\
 step 1 0\nstep 1 0\nstep 1 0\nstep 1 1\nstep 1 1\nstep 1 1\nfinish 2\n";
 
 // What shares 0 and 1 of `A` and share 2 of `B` open to, and the hash that they carry.

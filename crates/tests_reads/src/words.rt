@@ -76,7 +76,7 @@ const PATH: &str =
     "\u{1}\u{2}\u{3}\u{4}\u{5}\u{6}\u{7}\u{8}\u{9}\u{a}\u{b}\u{c}\u{d}\u{e}\u{f}\u{10}\u{11}\u{12}\u{13}\u{14}\u{15}\u{16}\u{17}\u{18}\u{19}\u{1a}\u{1b}\u{1c}\u{1d}\u{1e}\u{1f} !\"#$%&'()*+,-./\\\u{7f}\u{80}\u{e9}\u{7ff}\u{800}\u{20ac}\u{ffff}\u{1d11e}\u{10ffff}";
 
 // Two versions of a file of that path.
-const VERSIONS: &str = "cdstore 1 4 3 9000 9000 9000 90 90 90\n\
+const VERSIONS: &str = "cdstore 1 4 3\n\
 upload 7 0102030405060708090a0b0c0d0e0f101112131415161718191a1b1c1d1e1f202122232425262728292a2b2c2d2e2f5c7fc280c3a9dfbfe0a080e282acefbfbff09d849ef48fbfbf 1 74776f2076657273696f6e73206f66206f6e652066696c65\nfinish 1\n\
 upload 7 0102030405060708090a0b0c0d0e0f101112131415161718191a1b1c1d1e1f202122232425262728292a2b2c2d2e2f5c7fc280c3a9dfbfe0a080e282acefbfbff09d849ef48fbfbf 2 616e6420746865207365636f6e64206f6e65\nfinish 2\n";
 

@@ -1,13 +1,14 @@
 //! Four clouds in memory, lanes to some of them, and a cloud that is filled again.
 
-ghost use Rattle.std.specs.Prelude.{◌<◌, ◌∷◌, All, IfOk, IsTrue};
+ghost use Rattle.std.specs.Prelude.{◌<◌, ◌≤◌, ◌∷◌, All, IfOk, IsTrue};
 ghost use Rattle.std.specs.List.{Contains};
 ghost use Rattle.cd_base.specs.Numbers.{numbers_of};
-ghost use Rattle.cloud_state.specs.State.{AreRooms};
+ghost use Rattle.journal_start.specs.Ranges.{AreRooms};
 
-use cd_base::{Bytes, CloudNo, Clouds, NoMemory, Rooms, Shape, UserId, Version, is_path};
+use cd_base::{Bytes, CloudNo, Clouds, NoMemory, Shape, UserId, Version, is_path};
 use cd_fakes::MemShelf;
 use frames::ReplyBuf;
+use journal_start::Rooms;
 use local_link::LocalLink;
 use rebuild::{RebuildErr, Rebuilt, rebuild};
 use restore_job::{RestoreErr, restore};
@@ -24,17 +25,17 @@ pub fn shape() -> Shape {
 /// The cloud that is filled.
 pub const TARGET: CloudNo = CloudNo(3);
 
-/// Rooms for some thousand files.
-pub fn rooms() -> Rooms
+/// Rooms for so many files of each user, 2,000 at most.
+pub fn rooms(files: u32) -> Rooms
+    requires { files ≤ 2000 }
     ensures { AreRooms result }
 {
     Rooms {
+        users: 8,
         shares: 300_000,
         recipes: 300_000,
-        journal: 600_000,
-        fps: 3000,
         owners: 3000,
-        files: 3000,
+        files,
     }
 }
 
@@ -45,7 +46,7 @@ pub fn shelf(alloc: Global) -> Result<MemShelf, NoMemory> {
 
 /// A link over them.
 pub fn link(alloc: Global, shelf: &mut MemShelf) -> Result<LocalLink<'_, MemShelf>, NoMemory> {
-    LocalLink::over(alloc, shelf, shape(), rooms())
+    LocalLink::over(alloc, shelf, shape(), rooms(2000))
 }
 
 // Asks the lane's requests to its end.

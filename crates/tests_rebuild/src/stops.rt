@@ -1,7 +1,9 @@
 //! A rebuild that is stopped, and run again.
 
+ghost use Rattle.std.specs.Prelude.{◌≤◌};
+
 use crate::ground::{End, TARGET, comes_back, filled, rooms, store};
-use cd_base::{Bytes, CloudNo, Room, Rooms, UserId, Version, is_path};
+use cd_base::{Bytes, CloudNo, Room, UserId, Version, is_path};
 use cd_fakes::MemShelf;
 use frames::ReplyBuf;
 use local_link::{Fate, LocalLink};
@@ -118,22 +120,26 @@ pub fn a_lost_ask_of_the_target(
     Ok(lost == Err(RebuildErr::TargetLost) && again == End::whole(2, 0) && other == Ok(false))
 }
 
-// The target's server is put into these rooms.
-fn put_in(link: &mut LocalLink<'_, MemShelf>, files: u32) -> Result<(), Fail> {
-    let rooms = Rooms { files, ..rooms() };
-    if link.reaches(TARGET) && link.set_rooms(TARGET, rooms).is_ok() {
+// An empty target, of which each user may have so many files.
+fn replaced_in(link: &mut LocalLink<'_, MemShelf>, files: u32) -> Result<(), Fail>
+    requires { files ≤ 2000 }
+{
+    if !link.reaches(TARGET) || link.replace(TARGET).is_err() {
+        return Err(Fail::new("not replaced"));
+    }
+    if link.reaches(TARGET) && link.set_rooms(TARGET, rooms(files)).is_ok() {
         Ok(())
     } else {
         Err(Fail::new("no such cloud"))
     }
 }
 
-/// A target with room for one file stops it, and with more it is run again.
+/// A target with room for one file stops it, and a new one with more is filled.
 pub fn a_full_target(alloc: Global, link: &mut LocalLink<'_, MemShelf>) -> Result<bool, Fail> {
     store_two(alloc, link)?;
-    put_in(link, 1)?;
+    replaced_in(link, 1)?;
     let full = filled(alloc, link, 7)?;
-    put_in(link, 1000)?;
+    replaced_in(link, 1000)?;
     let again = filled(alloc, link, 7)?;
     let due = RebuildErr::TargetFull {
         room: Room::Files,

@@ -1,11 +1,12 @@
 //! Four servers in memory that keep a file, and what they reply to requests that were sent as frames.
 
 ghost use Rattle.std.specs.Prelude.{◌≤◌};
-ghost use Rattle.cloud_state.specs.State.{AreRooms};
+ghost use Rattle.journal_start.specs.Ranges.{AreRooms};
 
-use cd_base::{Bytes, CloudNo, NoMemory, Rooms, Shape, UserId, Version, is_path};
+use cd_base::{Bytes, CloudNo, NoMemory, Shape, UserId, Version, is_path};
 use cd_fakes::MemShelf;
 use frames::ReplyBuf;
+use journal_start::Rooms;
 use local_link::LocalLink;
 use std::alloc::Global;
 use std::test::Fail;
@@ -20,10 +21,9 @@ fn rooms() -> Rooms
     ensures { AreRooms result }
 {
     Rooms {
+        users: 16,
         shares: 100_000,
         recipes: 10_000,
-        journal: 10_000,
-        fps: 100,
         owners: 100,
         files: 100,
     }

@@ -1,6 +1,6 @@
 //! Requests of three users to a server and to a cloud that is a plain list of commands: each reply is the same.
 
-use crate::requests::{commit_of, fps_of, list_of, put_of, recipe_of, recipe_request};
+use crate::requests::{commit_of, delete_of, fps_of, list_of, put_of, recipe_of, recipe_request};
 use crate::{Cloud, TWO, WIDE, shape};
 use cd_base::{Bytes, Fp, NoMemory, sha256};
 use frames::ReplyBuf;
@@ -78,7 +78,7 @@ fn fps_request(alloc: Global, dice: &mut Dice, kind: u8, user: u8) -> Result<Byt
 fn request(alloc: Global, dice: &mut Dice) -> Result<Bytes, NoMemory> {
     let user = (dice.roll(3) % 256) as u8;
     let key = ((dice.roll(2) % 256) as u8, (dice.roll(3) % 256) as usize);
-    match dice.roll(9) {
+    match dice.roll(10) {
         0 => fps_request(alloc, dice, 2, user),
         1 | 2 => put_request(alloc, dice, user),
         3 | 4 => commit_request(alloc, dice, user, key, 0),
@@ -89,6 +89,7 @@ fn request(alloc: Global, dice: &mut Dice) -> Result<Bytes, NoMemory> {
             user,
             if dice.roll(2) == 0 { None } else { Some(key) },
         ),
+        8 => delete_of(alloc, user, key.0, key.1),
         _ => commit_request(alloc, dice, user, key, 1),
     }
 }

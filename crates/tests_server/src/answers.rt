@@ -1,8 +1,8 @@
 //! What a server answers in turn, and how long its areas are then.
 
 use crate::replies::{
-    COMMITTED, EXISTS, HELLO, KNOWN, LACKING, MALFORMED, MISSING, NO_ENTRIES, NONE_NEW, NOT_YOURS,
-    ONE_NEW, UNKNOWN, full_reply,
+    COMMITTED, DELETED, EXISTS, HELLO, KNOWN, LACKING, MALFORMED, MISSING, NO_ENTRIES, NONE_NEW,
+    NOT_YOURS, ONE_NEW, UNKNOWN,
 };
 use crate::requests::{
     commit_of, delete_of, fps_of, list_of, put_of, recipe_of, recipe_request, share_of,
@@ -55,7 +55,7 @@ fn is_entered_once(alloc: Global, cloud: &mut Cloud) -> Result<bool, NoMemory> {
         (commit.as_slice(), COMMITTED),
         (other.as_slice(), EXISTS),
     ] {
-        well = cloud.answers(&[(content, reply)]) && cloud.lengths() == (108, 0, 25) && well;
+        well = cloud.answers(&[(content, reply)]) && cloud.lengths() == (136, 0, 25) && well;
     }
     Ok(well)
 }
@@ -69,25 +69,26 @@ fn an_empty_file(rt: HostRuntime) -> Result<(), Fail> {
     Ok(())
 }
 
-// Whether the deletion of a version that is there finds no room in the journal, and changes nothing.
-fn has_no_deletion(alloc: Global, cloud: &mut Cloud) -> Result<bool, NoMemory> {
+// Whether a version that is there is deleted once, and may be committed again.
+fn is_deleted_once(alloc: Global, cloud: &mut Cloud) -> Result<bool, NoMemory> {
     let recipe = recipe_of(alloc, 5, &[])?;
     let commit = commit_of(alloc, 7, 1, 1, recipe.as_slice())?;
     let delete = delete_of(alloc, 7, 1, 1)?;
-    let full = full_reply(alloc, (3, 108, 200_001, 200_000))?;
     let well = cloud.answers(&[
         (delete.as_slice(), MISSING),
         (commit.as_slice(), COMMITTED),
-        (delete.as_slice(), full.as_slice()),
-        (commit.as_slice(), COMMITTED),
+        (delete.as_slice(), DELETED),
+        (delete.as_slice(), MISSING),
     ]);
-    Ok(well && cloud.lengths() == (108, 0, 25))
+    let lengths = cloud.lengths();
+    let again = cloud.answers(&[(commit.as_slice(), COMMITTED)]);
+    Ok(well && lengths == (186, 0, 25) && again && cloud.lengths() == (280, 0, 50))
 }
 
 #[test]
 fn a_deletion(rt: HostRuntime) -> Result<(), Fail> {
     let mut cloud = Cloud::make(rt.alloc(), SMALL, WIDE)?;
-    let well = has_no_deletion(rt.alloc(), &mut cloud);
+    let well = is_deleted_once(rt.alloc(), &mut cloud);
     drop(cloud);
     assert!(rt; well?);
     Ok(())
@@ -98,7 +99,7 @@ fn are_stored(alloc: Global, cloud: &mut Cloud) -> Result<bool, NoMemory> {
     let first = is_stored(alloc, cloud, 7, share.as_slice())?;
     let lengths = cloud.lengths();
     let second = is_stored(alloc, cloud, 8, share.as_slice())?;
-    Ok(first && lengths == (165, 11, 61) && second && cloud.lengths() == (304, 11, 122))
+    Ok(first && lengths == (193, 11, 61) && second && cloud.lengths() == (332, 11, 122))
 }
 
 #[test]

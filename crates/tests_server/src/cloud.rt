@@ -2,11 +2,12 @@
 
 ghost use Rattle.std.specs.Prelude.{◌≡◌};
 
-use cd_base::{CloudNo, NoMemory, Rooms, Shape};
+use cd_base::{CloudNo, NoMemory, Shape};
 use cd_edges::{Area, Shelf};
 use cd_fakes::MemShelf;
+use cloud_server::{OpenErr, Server};
 use frames::ReplyBuf;
-use share_server::{OpenErr, Server};
+use journal_start::Rooms;
 use std::alloc::Global;
 
 /// The number of the cloud.
@@ -14,10 +15,9 @@ pub const TWO: CloudNo = CloudNo(2);
 
 /// Rooms that these tests don't fill.
 pub const WIDE: Rooms = Rooms {
+    users: 10,
     shares: 10_000_000,
     recipes: 10_000_000,
-    journal: 200_000,
-    fps: 2_000,
     owners: 2_000,
     files: 1_000,
 };
@@ -35,16 +35,13 @@ pub fn shape() -> Shape
 /// A content and the reply to it.
 pub type Row<'a> = (&'a [u8], &'a [u8]);
 
-/// A closed server with these rooms, and with the greatest where they are greater. The only error is want of memory.
+/// A closed server with these rooms, or with the usual ones where they aren't allowed. The only error is want of memory.
 pub fn server_of(alloc: Global, rooms: Rooms) -> Result<Server, NoMemory> {
-    let greatest = Rooms::greatest();
-    let rooms = Rooms {
-        shares: rooms.shares.min(greatest.shares),
-        recipes: rooms.recipes.min(greatest.recipes),
-        journal: rooms.journal.min(greatest.journal),
-        ..rooms
-    };
-    Server::make(alloc, TWO, shape(), rooms)
+    if rooms.are_allowed() {
+        Server::make(alloc, TWO, shape(), rooms)
+    } else {
+        Server::make(alloc, TWO, shape(), Rooms::usual())
+    }
 }
 
 /// A cloud, its server and that server's last reply.

@@ -3,7 +3,8 @@
 use crate::replies::{COMMITTED, MOST_NEW, NO_ENTRIES, NOT_YOURS, full_reply};
 use crate::requests::{commit_of, fps_of, list_of, put_many, recipe_of, recipe_request, share_of};
 use crate::{Cloud, WIDE};
-use cd_base::{Bytes, Fp, NoMemory, Rooms, sha256};
+use cd_base::{Bytes, Fp, NoMemory, sha256};
+use journal_start::Rooms;
 use std::alloc::Global;
 use std::test::Fail;
 
@@ -31,7 +32,7 @@ fn are_put(alloc: Global, cloud: &mut Cloud) -> Result<bool, NoMemory> {
     let lengths = cloud.lengths();
     let two = cloud.answers(&[(second.as_slice(), MOST_NEW)]);
     let (_, shares, _) = cloud.lengths();
-    Ok(one && lengths == (11_546, SHARES, 0) && two && shares == 4_194_304 + 8_208)
+    Ok(one && lengths == (11_574, SHARES, 0) && two && shares == 4_194_304 + 8_208)
 }
 
 // Whether the shares come back, and to their user alone.
@@ -47,7 +48,11 @@ fn come_back(alloc: Global, cloud: &mut Cloud) -> Result<bool, NoMemory> {
 #[test]
 fn the_greatest_put_and_its_shares(rt: HostRuntime) -> Result<(), Fail> {
     let a = rt.alloc();
-    let mut cloud = Cloud::make(a, ROOM, WIDE)?;
+    let rooms = Rooms {
+        shares: 2 * SHARES,
+        ..WIDE
+    };
+    let mut cloud = Cloud::make(a, ROOM, rooms)?;
     let taken = are_put(a, &mut cloud);
     let given = come_back(a, &mut cloud);
     drop(cloud);
@@ -55,12 +60,13 @@ fn the_greatest_put_and_its_shares(rt: HostRuntime) -> Result<(), Fail> {
     Ok(())
 }
 
-const LIMIT: u64 = 4_194_304 + 8_207;
+const LIMIT: u64 = 2 * SHARES - 1;
 
-fn needs_zeros(alloc: Global, cloud: &mut Cloud) -> Result<bool, NoMemory> {
+// Whether a room of one byte less than both Puts take refuses the second. Zeros before a container aren't counted.
+fn lacks_a_byte(alloc: Global, cloud: &mut Cloud) -> Result<bool, NoMemory> {
     let first = put_many(alloc, 7, 0, 256, 8_208)?;
     let second = put_many(alloc, 7, 256, 256, 8_208)?;
-    let full = full_reply(alloc, (1, SHARES, LIMIT + 1 - SHARES, LIMIT))?;
+    let full = full_reply(alloc, (1, SHARES, SHARES, LIMIT))?;
     Ok(cloud.answers(&[
         (first.as_slice(), MOST_NEW),
         (second.as_slice(), full.as_slice()),
@@ -68,13 +74,13 @@ fn needs_zeros(alloc: Global, cloud: &mut Cloud) -> Result<bool, NoMemory> {
 }
 
 #[test]
-fn zeros_before_a_container_are_needed_too(rt: HostRuntime) -> Result<(), Fail> {
+fn a_room_that_lacks_a_byte(rt: HostRuntime) -> Result<(), Fail> {
     let rooms = Rooms {
         shares: LIMIT,
         ..WIDE
     };
     let mut cloud = Cloud::make(rt.alloc(), ROOM, rooms)?;
-    let well = needs_zeros(rt.alloc(), &mut cloud);
+    let well = lacks_a_byte(rt.alloc(), &mut cloud);
     drop(cloud);
     assert!(rt; well?);
     Ok(())

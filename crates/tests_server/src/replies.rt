@@ -27,6 +27,8 @@ pub const LACKING: &[u8] = &[0x86, 0, 0, 0, 0];
 
 pub const MISSING: &[u8] = &[0x88];
 
+pub const DELETED: &[u8] = &[0x92];
+
 /// For the first fingerprint.
 pub const NOT_YOURS: &[u8] = &[0x8A, 0, 0];
 

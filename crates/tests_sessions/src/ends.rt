@@ -8,10 +8,10 @@ use std::test::Fail;
 
 // One byte, uploaded and got.
 const ONE_BYTE: &str =
-    "cdstore 1 4 3 9000 9000 9000 90 90 90\nupload 7 61 1 41\nfinish 1\nget 7 61 1 1,2,3\n";
+    "cdstore 1 4 3 10 9000 9000 90 90\nupload 7 61 1 41\nfinish 1\nget 7 61 1 1,2,3\n";
 
-// An empty file. Its journal has 108 bytes.
-const EMPTY: &str = "cdstore 1 4 3 9000 9000 9000 90 90 90\nupload 7 61 1 -\nfinish 1\n";
+// An empty file. Its journal has 136 bytes.
+const EMPTY: &str = "cdstore 1 4 3 10 9000 9000 90 90\nupload 7 61 1 -\nfinish 1\n";
 
 const EMPTY_STORED: &str =
     "open 4 3\njob 1\nstep 1 0 committed\nstep 1 1 committed\nstep 1 2 committed\nstep 1 3 committed\nstored 1\n\
@@ -19,7 +19,7 @@ const EMPTY_STORED: &str =
 
 // Whether the read behind the first line fails with status 3.
 fn is_unread(alloc: Global, shelf: &mut MemShelf) -> Result<bool, Fail> {
-    let script = "cdstore 1 4 3 9000 9000 9000 90 90 90\nupload 7 61 1 41\n";
+    let script = "cdstore 1 4 3 10 9000 9000 90 90\nupload 7 61 1 41\n";
     let wanted = (3, "open 4 3\n");
     come_to(alloc, &["replay", "d"], script, 38, &[2], shelf, wanted)
 }
@@ -57,7 +57,7 @@ fn is_refused(alloc: Global, shelf: &mut MemShelf) -> Result<bool, Fail> {
                 alloc,
                 "cdstore 1 4 3\n",
                 shelf,
-                (7, "store 0 journal 108\n"),
+                (7, "store 0 journal 136\n"),
             )?,
     )
 }
@@ -105,7 +105,7 @@ fn a_get_asks_the_disks(rt: HostRuntime) -> Result<(), Fail> {
 
 // What comes where cloud 2 is replaced: whether the session ends there, and whether the line says that it wasn't opened.
 fn replaced(alloc: Global, shelf: &mut MemShelf) -> Result<(bool, bool), Fail> {
-    let script = b"cdstore 1 4 3 9000 9000 9000 90 90 90\nreplace 2\n";
+    let script = b"cdstore 1 4 3 10 9000 9000 90 90\nreplace 2\n";
     let mut source = MemSource::of(alloc, script, 7, &[])?;
     let mut sink = MemSink::of(alloc, 4_096, 7, &[])?;
     let status = status_of(alloc, &["replay", "d"], &mut source, &mut sink, shelf)?;

@@ -1,11 +1,12 @@
 //! The ground of these tests: a script's lines over four clouds in memory.
 
 ghost use Rattle.std.specs.Prelude.{◌≡◌};
-ghost use Rattle.cloud_state.specs.State.{AreRooms};
+ghost use Rattle.journal_start.specs.Ranges.{AreRooms};
 ghost use Rattle.script_lines.specs.Jobs.{AreReached};
 
-use cd_base::{Bytes, Rooms, Shape};
+use cd_base::{Bytes, Shape};
 use cd_fakes::{MemShelf, MemSink};
+use journal_start::Rooms;
 use local_link::LocalLink;
 use script_lines::{Buffers, Jobs, carry_out};
 use session::read_line;
@@ -18,10 +19,9 @@ fn rooms() -> Rooms
     ensures { AreRooms result }
 {
     Rooms {
+        users: 10,
         shares: 100_000,
         recipes: 10_000,
-        journal: 10_000,
-        fps: 100,
         owners: 100,
         files: 100,
     }

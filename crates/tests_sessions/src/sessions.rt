@@ -17,36 +17,36 @@ struct Row {
 const ROWS: [Row; 18] = [
     // empty file
     Row {
-        script: "cdstore 1 4 3 9000 9000 9000 90 90 90\nupload 7 61 1 -\nstep 1 0\nstep 1 1\nstep 1 2\nstep 1 3\n\
+        script: "cdstore 1 4 3 10 9000 9000 90 90\nupload 7 61 1 -\nstep 1 0\nstep 1 1\nstep 1 2\nstep 1 3\n\
             get 7 61 1 0,1,2\n",
         text: "open 4 3\njob 1\nstep 1 0 committed\nstep 1 1 committed\nstep 1 2 committed\nstep 1 3 committed\n\
             stored 1\ngot -\ndone 6\n",
         status: 0,
-        areas: Some([108, 0, 25]),
+        areas: Some([136, 0, 25]),
     },
     // one byte
     Row {
-        script: "cdstore 1 4 3 9000 9000 9000 90 90 90\nupload 7 61 1 41\nfinish 1\nget 7 61 1 1,2,3\n",
+        script: "cdstore 1 4 3 10 9000 9000 90 90\nupload 7 61 1 41\nfinish 1\nget 7 61 1 1,2,3\n",
         text: "open 4 3\njob 1\nstep 1 0 known 0 1\nstep 1 0 stored 1 1\nstep 1 0 committed\nstep 1 1 known 0 1\n\
             step 1 1 stored 1 1\nstep 1 1 committed\nstep 1 2 known 0 1\nstep 1 2 stored 1 1\nstep 1 2 committed\n\
             step 1 3 known 0 1\nstep 1 3 stored 1 1\nstep 1 3 committed\nstored 1\nend 1 stored\ngot 41\ndone 3\n",
         status: 0,
-        areas: Some([165, 11, 61]),
+        areas: Some([193, 11, 61]),
     },
     // the same user again
     Row {
-        script: "cdstore 1 4 3 9000 9000 9000 90 90 90\nupload 7 61 1 41\nfinish 1\nupload 7 61 2 41\nfinish 2\n",
+        script: "cdstore 1 4 3 10 9000 9000 90 90\nupload 7 61 1 41\nfinish 1\nupload 7 61 2 41\nfinish 2\n",
         text: "open 4 3\njob 1\nstep 1 0 known 0 1\nstep 1 0 stored 1 1\nstep 1 0 committed\nstep 1 1 known 0 1\n\
             step 1 1 stored 1 1\nstep 1 1 committed\nstep 1 2 known 0 1\nstep 1 2 stored 1 1\nstep 1 2 committed\n\
             step 1 3 known 0 1\nstep 1 3 stored 1 1\nstep 1 3 committed\nstored 1\nend 1 stored\njob 2\n\
             step 2 0 known 1 1\nstep 2 0 committed\nstep 2 1 known 1 1\nstep 2 1 committed\nstep 2 2 known 1 1\n\
             step 2 2 committed\nstep 2 3 known 1 1\nstep 2 3 committed\nstored 2\nend 2 stored\ndone 4\n",
         status: 0,
-        areas: Some([259, 11, 122]),
+        areas: Some([287, 11, 122]),
     },
     // another user
     Row {
-        script: "cdstore 1 4 3 9000 9000 9000 90 90 90\nupload 7 61 1 41\nfinish 1\nupload 8 61 1 41\nfinish 2\n",
+        script: "cdstore 1 4 3 10 9000 9000 90 90\nupload 7 61 1 41\nfinish 1\nupload 8 61 1 41\nfinish 2\n",
         text: "open 4 3\njob 1\nstep 1 0 known 0 1\nstep 1 0 stored 1 1\nstep 1 0 committed\nstep 1 1 known 0 1\n\
             step 1 1 stored 1 1\nstep 1 1 committed\nstep 1 2 known 0 1\nstep 1 2 stored 1 1\nstep 1 2 committed\n\
             step 1 3 known 0 1\nstep 1 3 stored 1 1\nstep 1 3 committed\nstored 1\nend 1 stored\njob 2\n\
@@ -54,18 +54,18 @@ const ROWS: [Row; 18] = [
             step 2 1 committed\nstep 2 2 known 0 1\nstep 2 2 stored 1 1\nstep 2 2 committed\nstep 2 3 known 0 1\n\
             step 2 3 stored 1 1\nstep 2 3 committed\nstored 2\nend 2 stored\ndone 4\n",
         status: 0,
-        areas: Some([304, 11, 122]),
+        areas: Some([332, 11, 122]),
     },
     // lost
     Row {
-        script: "cdstore 1 4 3 9000 9000 9000 90 90 90\nupload 7 61 1 -\nlose 1 0\ndrop 1 0\nstep 1 0\nstep 1 0\n",
+        script: "cdstore 1 4 3 10 9000 9000 90 90\nupload 7 61 1 -\nlose 1 0\ndrop 1 0\nstep 1 0\nstep 1 0\n",
         text: "open 4 3\njob 1\nlost 1 0\nlost 1 0\nstep 1 0 committed\nstep 1 0 done\ndone 5\n",
         status: 0,
         areas: None,
     },
     // two jobs for one version
     Row {
-        script: "cdstore 1 4 3 9000 9000 9000 90 90 90\nupload 7 61 1 -\nupload 7 61 1 41\nstep 1 0\nstep 1 1\n\
+        script: "cdstore 1 4 3 10 9000 9000 90 90\nupload 7 61 1 -\nupload 7 61 1 41\nstep 1 0\nstep 1 1\n\
             finish 2\nfinish 1\nget 7 61 1 0,1,2\n",
         text: "open 4 3\njob 1\njob 2\nstep 1 0 committed\nstep 1 1 committed\nstep 2 0 known 0 1\n\
             step 2 0 stored 1 1\nstep 2 0 exists\nstep 2 1 known 0 1\nstep 2 1 stored 1 1\nstep 2 1 exists\n\
@@ -77,14 +77,14 @@ const ROWS: [Row; 18] = [
     },
     // a full room
     Row {
-        script: "cdstore 1 4 3 10 1000 1000 10 10 10\nupload 7 61 1 41\nstep 1 0\nstep 1 0\nstep 1 0\n",
+        script: "cdstore 1 4 3 10 10 1000 10 10\nupload 7 61 1 41\nstep 1 0\nstep 1 0\nstep 1 0\n",
         text: "open 4 3\njob 1\nstep 1 0 known 0 1\nstep 1 0 full shares 0 11 10\nstep 1 0 done\ndone 4\n",
         status: 0,
         areas: None,
     },
     // room for it
     Row {
-        script: "cdstore 1 4 3 11 1000 1000 10 10 10\nupload 7 61 1 41\nstep 1 0\nstep 1 0\nstep 1 0\n",
+        script: "cdstore 1 4 3 10 11 1000 10 10\nupload 7 61 1 41\nstep 1 0\nstep 1 0\nstep 1 0\n",
         text: "open 4 3\njob 1\nstep 1 0 known 0 1\nstep 1 0 stored 1 1\nstep 1 0 committed\ndone 4\n",
         status: 0,
         areas: None,
@@ -98,7 +98,7 @@ const ROWS: [Row; 18] = [
     },
     // the widest shape
     Row {
-        script: "cdstore 1 16 15 1000 1000 1000 10 10 10\n",
+        script: "cdstore 1 16 15 10 1000 1000 10 10\n",
         text: "open 16 15\ndone 0\n",
         status: 0,
         areas: None,
@@ -112,39 +112,39 @@ const ROWS: [Row; 18] = [
     },
     // an absent version
     Row {
-        script: "cdstore 1 4 3 9000 9000 9000 90 90 90\nget 7 61 1 0,1,2\n",
+        script: "cdstore 1 4 3 10 9000 9000 90 90\nget 7 61 1 0,1,2\n",
         text: "open 4 3\nrefused missing 0\ndone 1\n",
         status: 0,
         areas: None,
     },
     // no last newline
     Row {
-        script: "cdstore 1 4 3 9000 9000 9000 90 90 90\nget 7 61 1 0,1,2",
+        script: "cdstore 1 4 3 10 9000 9000 90 90\nget 7 61 1 0,1,2",
         text: "open 4 3\nscript 2 16 end\n",
         status: 2,
         areas: None,
     },
     // nothing to bring
     Row {
-        script: "cdstore 1 4 3 9000 9000 9000 90 90 90\nrebuild 7 3 0,1,2\n",
+        script: "cdstore 1 4 3 10 9000 9000 90 90\nrebuild 7 3 0,1,2\n",
         text: "open 4 3\nrebuilt 7 3 0 0\ndone 1\n",
         status: 0,
         areas: None,
     },
     // a replaced cloud is filled again
     Row {
-        script: "cdstore 1 4 3 9000 9000 9000 90 90 90\nupload 7 61 1 41\nfinish 1\nreplace 2\nget 7 61 1 0,1,2\n\
+        script: "cdstore 1 4 3 10 9000 9000 90 90\nupload 7 61 1 41\nfinish 1\nreplace 2\nget 7 61 1 0,1,2\n\
             rebuild 7 2 0,1,3\nget 7 61 1 1,2,3\nlist 8 2\n",
         text: "open 4 3\njob 1\nstep 1 0 known 0 1\nstep 1 0 stored 1 1\nstep 1 0 committed\nstep 1 1 known 0 1\n\
             step 1 1 stored 1 1\nstep 1 1 committed\nstep 1 2 known 0 1\nstep 1 2 stored 1 1\nstep 1 2 committed\n\
             step 1 3 known 0 1\nstep 1 3 stored 1 1\nstep 1 3 committed\nstored 1\nend 1 stored\nreplaced 2\n\
             refused missing 2\nrebuilt 7 2 1 0\ngot 41\nentries 8 2 0\ndone 7\n",
         status: 0,
-        areas: Some([165, 11, 61]),
+        areas: Some([193, 11, 61]),
     },
     // a rebuild skips what isn't whole
     Row {
-        script: "cdstore 1 4 3 9000 9000 9000 90 90 90\nupload 7 61 1 -\nupload 7 61 1 41\nstep 1 0\nstep 1 1\n\
+        script: "cdstore 1 4 3 10 9000 9000 90 90\nupload 7 61 1 -\nupload 7 61 1 41\nstep 1 0\nstep 1 1\n\
             finish 2\nfinish 1\nget 7 61 1 0,1,2\nrebuild 7 3 0,1,2\n",
         text: "open 4 3\njob 1\njob 2\nstep 1 0 committed\nstep 1 1 committed\nstep 2 0 known 0 1\n\
             step 2 0 stored 1 1\nstep 2 0 exists\nstep 2 1 known 0 1\nstep 2 1 stored 1 1\nstep 2 1 exists\n\
@@ -157,7 +157,7 @@ const ROWS: [Row; 18] = [
     },
     // listing
     Row {
-        script: "cdstore 1 4 3 9000 9000 9000 90 90 90\nupload 7 61 1 41\nfinish 1\nget 7 61 1 1,2,3\nlist 7 0\n",
+        script: "cdstore 1 4 3 10 9000 9000 90 90\nupload 7 61 1 41\nfinish 1\nget 7 61 1 1,2,3\nlist 7 0\n",
         text: "open 4 3\njob 1\nstep 1 0 known 0 1\nstep 1 0 stored 1 1\nstep 1 0 committed\nstep 1 1 known 0 1\n\
             step 1 1 stored 1 1\nstep 1 1 committed\nstep 1 2 known 0 1\nstep 1 2 stored 1 1\nstep 1 2 committed\n\
             step 1 3 known 0 1\nstep 1 3 stored 1 1\nstep 1 3 committed\nstored 1\nend 1 stored\ngot 41\n\
@@ -167,7 +167,7 @@ const ROWS: [Row; 18] = [
     },
     // a cloud that is replaced
     Row {
-        script: "cdstore 1 4 3 9000 9000 9000 90 90 90\nupload 7 61 1 41\nfinish 1\nreplace 0\nget 7 61 1 0,1,2\n\
+        script: "cdstore 1 4 3 10 9000 9000 90 90\nupload 7 61 1 41\nfinish 1\nreplace 0\nget 7 61 1 0,1,2\n\
             list 7 0\nget 7 61 1 1,2,3\n",
         text: "open 4 3\njob 1\nstep 1 0 known 0 1\nstep 1 0 stored 1 1\nstep 1 0 committed\nstep 1 1 known 0 1\n\
             step 1 1 stored 1 1\nstep 1 1 committed\nstep 1 2 known 0 1\nstep 1 2 stored 1 1\nstep 1 2 committed\n\

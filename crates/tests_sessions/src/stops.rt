@@ -15,7 +15,7 @@ fn is_stopped(
     wanted: &str,
 ) -> Result<bool, Fail> {
     let script = format!(in alloc;
-        "cdstore 1 4 3 9000 9000 9000 90 90 90\nupload 7 61 1 41\nstep 1 0\n{front}arm 0 {call}\nstep 1 0\n\
+        "cdstore 1 4 3 10 9000 9000 90 90\nupload 7 61 1 41\nstep 1 0\n{front}arm 0 {call}\nstep 1 0\n\
             restart 0\nstep 1 0\n"
     )?;
     is_replayed(alloc, script.as_str(), shelf, (0, wanted))

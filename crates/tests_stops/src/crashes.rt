@@ -3,7 +3,7 @@
 use crate::damage::empty_commit;
 use cd_base::{Bytes, NoMemory};
 use cd_edges::{Area, Shelf};
-use share_server::{OpenErr, Server};
+use cloud_server::{OpenErr, Server};
 use std::alloc::Global;
 use std::test::Fail;
 use tests_server::replies::{COMMITTED, FAULT, HELLO, NONE_NEW, ONE_NEW};
@@ -129,7 +129,7 @@ fn begins_again(cloud: &mut Cloud, call: u32, keep: u32) -> bool {
     let cleared = cloud.is_cleared();
     cloud.arm(call, keep);
     let rows = [(hello.as_slice(), FAULT), (hello.as_slice(), HELLO)];
-    cleared && cloud.answers(&rows) && cloud.lengths() == (14, 0, 0) && cloud.reopen(false) == Ok(0)
+    cleared && cloud.answers(&rows) && cloud.lengths() == (42, 0, 0) && cloud.reopen(false) == Ok(0)
 }
 
 fn all_begin_again(cloud: &mut Cloud) -> bool {
@@ -177,11 +177,17 @@ fn stops_in_an_opening(rt: HostRuntime) -> Result<(), Fail> {
     Ok(())
 }
 
+// The journal of no commands: format 2, four clouds, of which three give a file back, cloud 2, and the rooms; and a place
+// behind it.
+const HEADER: [u8; 43] = [
+    1, 0, 0, 0, 36, 67, 68, 83, 84, 2, 4, 3, 2, 0, 0, 0, 10, 0, 0, 0, 0, 0, 152, 150, 128, 0, 0, 0,
+    0, 0, 152, 150, 128, 0, 0, 7, 208, 0, 0, 3, 232, 0, 9,
+];
+
 // Whether the journal begins so.
 fn has_header(cloud: &mut Cloud) -> bool {
-    let mut bytes = [9; 15];
-    cloud.shelf.read(TWO, Area::Journal, 0, &mut bytes) == Ok(14)
-        && bytes == [1, 0, 0, 0, 8, 67, 68, 83, 84, 1, 4, 3, 2, 0, 9]
+    let mut bytes = [9; 43];
+    cloud.shelf.read(TWO, Area::Journal, 0, &mut bytes) == Ok(42) && bytes == HEADER
 }
 
 // Whether a byte of the journal's header that is another one is found.

@@ -2,17 +2,17 @@
 
 use cd_base::{Bytes, Fp, NoMemory, sha256};
 use cd_edges::{Area, Shelf};
-use share_server::OpenErr;
+use cloud_server::OpenErr;
 use std::alloc::Global;
 use std::test::Fail;
-use tests_server::replies::{COMMITTED, ONE_NEW};
-use tests_server::requests::{commit_of, fp_of, put_of, recipe_of, share_of};
+use tests_server::replies::{COMMITTED, DELETED, ONE_NEW};
+use tests_server::requests::{commit_of, delete_of, fp_of, put_of, recipe_of, share_of};
 use tests_server::{Cloud, Row, TWO, WIDE, is_stored};
 
 // The place of the gate behind the two commands below, and of the body behind that.
-const GATE: u64 = 164;
+const GATE: u64 = 192;
 
-const BODY: u64 = 169;
+const BODY: u64 = 197;
 
 /// Room in each area for the two commands below and for what they are moved behind.
 pub const FILLED: u64 = 6_000_000;
@@ -154,14 +154,14 @@ type Change = (u64, u8, u64);
 // end; a length that is too long, and one that is too short; a Put of nothing; a flag of 0 where the share has a place,
 // and one of 2; the share's place beyond the area, and the recipe's.
 const CHANGES: [Change; 8] = [
-    (164, 1, 164),
-    (14, 1, 14),
-    (18, 9, 18),
-    (24, 0, 23),
-    (57, 0, 58),
-    (57, 2, 57),
-    (65, 1, 58),
-    (128, 1, 120),
+    (192, 1, 192),
+    (42, 1, 42),
+    (46, 9, 46),
+    (52, 0, 51),
+    (85, 0, 86),
+    (85, 2, 85),
+    (93, 1, 86),
+    (156, 1, 148),
 ];
 
 // Whether an opening finds the damage that a change makes. The byte is put back.
@@ -192,7 +192,7 @@ fn commit_of_share(alloc: Global, share: &[u8]) -> Result<Bytes, NoMemory> {
 // Whether a second version of the file is taken, and is found once it is made the first.
 fn is_second_found(alloc: Global, cloud: &mut Cloud, share: &[u8]) -> Result<bool, NoMemory> {
     let commit = commit_of_share(alloc, share)?;
-    Ok(cloud.answers(&[(commit.as_slice(), COMMITTED)]) && is_damage(cloud, (213, 1, 174)))
+    Ok(cloud.answers(&[(commit.as_slice(), COMMITTED)]) && is_damage(cloud, (241, 1, 202)))
 }
 
 // Whether another user is found once they are made the same, in an empty cloud.
@@ -200,18 +200,36 @@ fn is_same_found(alloc: Global, cloud: &mut Cloud, share: &[u8]) -> Result<bool,
     let cleared = cloud.is_cleared();
     let one = is_stored(alloc, cloud, 7, share)?;
     let other = is_stored(alloc, cloud, 8, share)?;
-    Ok(cleared && one && other && is_damage(cloud, (173, 7, 176)))
+    Ok(cleared && one && other && is_damage(cloud, (201, 7, 204)))
+}
+
+// Whether a byte of the recipe that is another one is found where the Commit names the recipe's fingerprint.
+fn is_recipe_found(cloud: &mut Cloud) -> bool {
+    let byte = byte_at(cloud, 160);
+    cloud.shelf.set_byte(TWO, Area::Recipes, 2, 9);
+    let found = cloud.reopen(false) == damaged(160, byte);
+    cloud.shelf.set_byte(TWO, Area::Recipes, 2, 5);
+    found
+}
+
+// Whether the deletion of a version is found once it is made another user's.
+fn is_deletion_found(alloc: Global, cloud: &mut Cloud) -> Result<bool, NoMemory> {
+    let delete = delete_of(alloc, 7, 1, 1)?;
+    Ok(cloud.answers(&[(delete.as_slice(), DELETED)]) && is_damage(cloud, (201, 8, 202)))
 }
 
 fn has_changes_of(alloc: Global, cloud: &mut Cloud, share: &[u8]) -> Result<bool, NoMemory> {
     let stored = is_stored(alloc, cloud, 7, share)?;
-    let well = are_damages(cloud);
+    let well = are_damages(cloud) && is_recipe_found(cloud);
+    let deleted = is_deletion_found(alloc, cloud)?;
+    let cleared = cloud.is_cleared();
+    let stored = is_stored(alloc, cloud, 7, share)? && stored && deleted && cleared;
     let second = is_second_found(alloc, cloud, share)?;
     let same = is_same_found(alloc, cloud, share)?;
     Ok(stored && well && second && same)
 }
 
-// Whether each change of a byte is found, and then a second version of the file that is made the first, and another
+// Whether each change of a byte is found, one of the recipe and one of a deletion, and then a second version of the file that is made the first, and another
 // user who is made the same.
 fn has_changes(alloc: Global, cloud: &mut Cloud) -> Result<bool, NoMemory> {
     let share = share_of(alloc, 1, 11)?;
@@ -231,7 +249,7 @@ fn bytes_of_a_journal(rt: HostRuntime) -> Result<(), Fail> {
 fn has_grammar(alloc: Global, cloud: &mut Cloud) -> Result<bool, NoMemory> {
     let filled = is_filled(alloc, cloud)?;
     let kind = is_found(cloud, alloc, &[9], damaged(BODY, 9))?;
-    let short = is_found(cloud, alloc, &[1, 0, 0], damaged(165, 0))?;
+    let short = is_found(cloud, alloc, &[1, 0, 0], damaged(193, 0))?;
     let none = is_put_found(cloud, alloc, 7, &[], damaged(BODY + 5, 0))?;
     let parts = [(fp_of(66), Some((1, 0)))];
     let empty = is_put_found(cloud, alloc, 8, &parts, damaged(BODY + 7 + 41, 0))?;
@@ -316,7 +334,7 @@ fn has_places_of_recipes(alloc: Global, cloud: &mut Cloud) -> Result<bool, NoMem
         (2, 4_194_301, 5, wrong),
         (2, 4_999_999, 5, wrong),
         (2, 25, 1_180_191, wrong),
-        (2, 25, 1_180_190, Ok(3)),
+        (2, 25, 1_180_190, damaged(BODY + 57, 3)),
         (1, 25, 5, damaged(BODY + 5, 1)),
     ] {
         well = is_commit_found(cloud, alloc, (version, at, len), &[], found)? && well;

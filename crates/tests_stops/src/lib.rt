@@ -5,5 +5,3 @@
 mod crashes;
 #[cfg(test)]
 mod damage;
-#[cfg(test)]
-mod small;

@@ -31,6 +31,7 @@ fn one_of_each(rt: HostRuntime) -> Result<(), Fail> {
         "serve d 3 4 3 127.0.0.1:1 4294967295",
         "backup 7 a 1 w x y",
         "restore 7 a 1 w x",
+        "delete 7 a 1 w x y",
         "gen 18446744073709551615 1000 131 d",
     ] {
         assert!(rt; is_command(alloc, line)?);
@@ -63,6 +64,7 @@ fn one_word_wrong(rt: HostRuntime) -> Result<(), Fail> {
         "backup 7 a 1 w x",
         "backup 7 a 1 a b c d e f g h i j k l m n o p q",
         "restore 7 a 1 w",
+        "delete 7 a 1 w x",
         "restore -7 a 1 w x",
         "gen 1 0 1 d",
         "gen 1 1001 1 d",

@@ -1,8 +1,9 @@
 ghost use Rattle.std.specs.Prelude.{None};
 
-use cd_base::{Bytes, Clouds, NoMemory, Rooms, Shape};
+use cd_base::{Bytes, Clouds, NoMemory, Shape};
 use cd_edges::{Failed, Source};
 use grammar::encode;
+use journal_start::Rooms;
 use session::{Event, LineErr, LineReader, ScriptErr, read_header, read_line};
 use std::alloc::Global;
 use std::test::Fail;
@@ -234,31 +235,34 @@ fn is_header(line: &[u8], wanted: (u8, u8, Rooms)) -> bool {
 
 #[test]
 fn first_lines(rt: HostRuntime) {
-    let rows: [Row; 10] = [
+    let rows: [Row; 14] = [
         (b"", 0, None),
         (b"cdstore 2 4 3", 8, Some(b'2')),
         (b"cdstore 1 04 3", 10, Some(b'0')),
         (b"cdstore 1 3 3", 12, Some(b'3')),
         (b"cdstore 1 99999999999999999999 3", 31, Some(b'3')),
         (b"cdstore 1 4 3 ", 14, None),
-        (b"cdstore 1 4 3 0 0 63 0 0 0", 18, Some(b'6')),
-        (b"cdstore 1 4 3 0 0 64 0 0", 24, None),
-        (b"cdstore 1 4 3 0 0 64 0 0 16385", 25, Some(b'1')),
-        (b"cdstore 1 4 3 0 0 64 0 0 1 1", 26, Some(b' ')),
+        (b"cdstore 1 4 3 0 1 1 1 1", 14, Some(b'0')),
+        (b"cdstore 1 4 3 257 1 1 1 1", 14, Some(b'2')),
+        (b"cdstore 1 4 3 16 536870913 1 1 1", 17, Some(b'5')),
+        (b"cdstore 1 4 3 1 0 1073741825 1 1", 18, Some(b'1')),
+        (b"cdstore 1 4 3 3 0 0 174763 9999", 20, Some(b'1')),
+        (b"cdstore 1 4 3 1 0 0 0", 21, None),
+        (b"cdstore 1 4 3 1 0 0 0 16385", 22, Some(b'1')),
+        (b"cdstore 1 4 3 1 0 0 0 1 1", 23, Some(b' ')),
     ];
     for (line, place, byte) in &rows {
         assert!(rt; header_fails(line, *place, *byte), "{place}");
     }
-    assert!(rt; is_header(b"cdstore 1 16 15", (16, 15, Rooms::greatest())));
+    assert!(rt; is_header(b"cdstore 1 16 15", (16, 15, Rooms::usual())));
     let rooms = Rooms {
-        shares: 1000,
+        users: 256,
+        shares: 33_554_432,
         recipes: 1001,
-        journal: 1002,
-        fps: 10,
         owners: 11,
         files: 12,
     };
-    assert!(rt; is_header(b"cdstore 1 16 15 1000 1001 1002 10 11 12", (16, 15, rooms)));
+    assert!(rt; is_header(b"cdstore 1 16 15 256 33554432 1001 11 12", (16, 15, rooms)));
 }
 
 // Hands out bytes in pieces, and fails at one call.

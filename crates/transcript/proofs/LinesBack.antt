@@ -175,6 +175,13 @@ line_back (lines.Fault cloud) h = rw (back_8 cloud.0 h) refl
 line_back (lines.Damaged cloud at byte) h = rw (back_8 cloud.0 h.0, back_64 at h.1, back_byte byte h.2) refl
 line_back (lines.Rebuilt user cloud files skipped) h = rw (back_32 user.0 h.0, back_8 cloud.0 h.1, back_32 files h.2, back_32 skipped h.3) refl
 line_back (lines.Skipped tag version why) h = rw (back_print tag.0 h.0, back_64 version.0 h.1, skip_back why) refl
+line_back (lines.Deleted cloud) h = rw (back_8 cloud.0 h) refl
+line_back (lines.Missing cloud) h = rw (back_8 cloud.0 h) refl
+line_back (lines.Full cloud room used need limit) h =
+    rw (back_8 cloud.0 h.0, room_back room, back_64 used h.1.0, back_64 need h.1.1, back_64 limit h.1.2) refl
+line_back (lines.Rotten cloud named found) h = rw (back_8 cloud.0 h.0, back_print named.0 h.1, back_print found.0 h.2) refl
+line_back (lines.NoMemory cloud) h = rw (back_8 cloud.0 h) refl
+line_back (lines.Strange cloud kind) h = rw (back_8 cloud.0 h.0, back_byte kind h.1) refl
 
 pub line_solid : (x : Line) → Fits x → all_solid (line_words x) ≡ true
 line_solid (lines.Opened shape) h =
@@ -197,3 +204,10 @@ line_solid (lines.Fault cloud) h = rw (solid_8 cloud.0 h) refl
 line_solid (lines.Damaged cloud at byte) h = rw (solid_8 cloud.0 h.0, solid_64 at h.1, solid_hex (byte ∷ [])) refl
 line_solid (lines.Rebuilt user cloud files skipped) h = rw (solid_32 user.0 h.0, solid_8 cloud.0 h.1, solid_32 files h.2, solid_32 skipped h.3) refl
 line_solid (lines.Skipped tag version why) h = rw (solid_hex tag.0, solid_64 version.0 h.1, skip_solid why) refl
+line_solid (lines.Deleted cloud) h = rw (solid_8 cloud.0 h) refl
+line_solid (lines.Missing cloud) h = rw (solid_8 cloud.0 h) refl
+line_solid (lines.Full cloud room used need limit) h =
+    rw (solid_8 cloud.0 h.0, room_solid room, solid_64 used h.1.0, solid_64 need h.1.1, solid_64 limit h.1.2) refl
+line_solid (lines.Rotten cloud named found) h = rw (solid_8 cloud.0 h.0, solid_hex named.0, solid_hex found.0) refl
+line_solid (lines.NoMemory cloud) h = rw (solid_8 cloud.0 h) refl
+line_solid (lines.Strange cloud kind) h = rw (solid_8 cloud.0 h.0, solid_hex (kind ∷ [])) refl

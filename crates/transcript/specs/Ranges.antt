@@ -82,3 +82,9 @@ Fits (lines.Damaged cloud at byte) = (cloud.0 < 2 ^ 8) × (at < 2 ^ 64) × (byte
 Fits (lines.Rebuilt user cloud files skipped) =
     (user.0 < 2 ^ 32) × (cloud.0 < 2 ^ 8) × (files < 2 ^ 32) × (skipped < 2 ^ 32)
 Fits (lines.Skipped tag version why) = IsPrint tag.0 × (version.0 < 2 ^ 64)
+Fits (lines.Deleted cloud) = cloud.0 < 2 ^ 8
+Fits (lines.Missing cloud) = cloud.0 < 2 ^ 8
+Fits (lines.Full cloud room used need limit) = (cloud.0 < 2 ^ 8) × AreLimits used need limit
+Fits (lines.Rotten cloud named found) = (cloud.0 < 2 ^ 8) × IsPrint named.0 × IsPrint found.0
+Fits (lines.NoMemory cloud) = cloud.0 < 2 ^ 8
+Fits (lines.Strange cloud kind) = (cloud.0 < 2 ^ 8) × (kind < 2 ^ 8)

@@ -217,6 +217,16 @@ line_named name =
     else if bytes_eq name (codes "skipped") then
     two_then print_in number_64 (λ tag version. word_then skip_in (λ why.
     ended_by (lines.Skipped (record { 0 = tag }) (record { 0 = version }) why)))
+    else if bytes_eq name (codes "deleted") then cloud_by (λ cloud. lines.Deleted (record { 0 = cloud }))
+    else if bytes_eq name (codes "missing") then cloud_by (λ cloud. lines.Missing (record { 0 = cloud }))
+    else if bytes_eq name (codes "full") then
+    word_then number_8 (λ cloud. full_by (λ room used need limit. lines.Full (record { 0 = cloud }) room used need limit))
+    else if bytes_eq name (codes "rotten") then
+    word_then number_8 (λ cloud. rotten_by (λ named found.
+    lines.Rotten (record { 0 = cloud }) (record { 0 = named }) (record { 0 = found })))
+    else if bytes_eq name (codes "nomemory") then cloud_by (λ cloud. lines.NoMemory (record { 0 = cloud }))
+    else if bytes_eq name (codes "strange") then
+    two_then number_8 byte_in (λ cloud kind. ended_by (lines.Strange (record { 0 = cloud }) kind))
     else λ words. None
 
 -- the line of some words

@@ -55,7 +55,8 @@ impl Job {
     ) -> Result<Job, NoMemory>
         requires path { IsPath path.now }
         requires few { length bytes.now ≤ file_limit }
-        ensures { IfOk result (λ job. job ≡ lanes_begun shape (record { user = user; path = path.now; number = version; file = bytes.now })) }
+        ensures { IfOk result (λ job. job ≡ lanes_begun shape
+            (record { user = user; path = path.now; number = version; file = bytes.now })) }
     {
         let tag = tag_of(alloc, shape, path)?;
         let files = disperse_file(alloc, shape, path, bytes)?;
@@ -159,7 +160,8 @@ impl Job {
         requires { IsSome (request_at self.old lane.0) }
         ensures answers { AnswersAt self.old lane.0 reply.now result self.new }
         // Want of memory is no answer to content that is no reply, but to entries, which are read one by one.
-        ensures malformed { (at : ℕ) → reply_at reply.now ≡ Err at → is_of_entries reply.now ≡ false → result ≢ Err LaneErr.NoMemory }
+        ensures malformed { (at : ℕ) → reply_at reply.now ≡ Err at → is_of_entries reply.now ≡ false
+            → result ≢ Err LaneErr.NoMemory }
         ensures others { (i : ℕ) → i ≢ lane.0 → slice_get self.new i ≡ slice_get self.old i }
     {
         let place = lane.0 as usize;

@@ -119,7 +119,8 @@ fn past(from: usize, next: usize, flags: Bytes) -> Stage
 fn after_known(from: usize, next: usize, asked: u16, flags: Bytes) -> Option<Step>
     ensures { (w : Work) (all : List (List ℕ)) → length (take batch_limit (drop from all)) ≡ asked
         → drop next all ≡ drop batch_limit (drop from all)
-        → StepIs w all (Asking (take batch_limit (drop from all)) (in_batches (drop batch_limit (drop from all)))) (Known flags) result }
+        → StepIs w all (Asking (take batch_limit (drop from all)) (in_batches (drop batch_limit (drop from all))))
+        (Known flags) result }
 {
     if flags.len() != asked as usize {
         return None;
@@ -132,7 +133,8 @@ fn after_known(from: usize, next: usize, asked: u16, flags: Bytes) -> Option<Ste
 fn after_query(from: usize, next: usize, asked: u16, reply: Reply) -> Option<Step>
     ensures { (w : Work) (all : List (List ℕ)) → length (take batch_limit (drop from all)) ≡ asked
         → drop next all ≡ drop batch_limit (drop from all)
-        → StepIs w all (Asking (take batch_limit (drop from all)) (in_batches (drop batch_limit (drop from all)))) reply result }
+        → StepIs w all (Asking (take batch_limit (drop from all))
+        (in_batches (drop batch_limit (drop from all)))) reply result }
 {
     match reply {
         Reply::Known { flags } => after_known(from, next, asked, flags),

@@ -20,9 +20,12 @@ pub fn law_of_recipes()
 /// The batches that a lane asks for.
 pub fn law_of_batches()
     // joined they are the wanted shares
-    ensures joined { (shape : Shape) (v : FileVersion) (cloud : ℕ) → flat_map (λ (batch : List (List ℕ)). batch) (work_of shape v cloud).batches ≡ wanted_for shape cloud v.file }
+    ensures joined { (shape : Shape) (v : FileVersion) (cloud : ℕ)
+        → flat_map (λ (batch : List (List ℕ)). batch) (work_of shape v cloud).batches ≡ wanted_for shape cloud v.file }
     // which are the first of each fingerprint of the lane's shares, no two with one fingerprint
-    ensures first { (shape : Shape) (v : FileVersion) (cloud : ℕ) → AreNew [] (shares_for shape cloud v.file) (wanted_for shape cloud v.file) }
+    ensures first { (shape : Shape) (v : FileVersion) (cloud : ℕ)
+        → AreNew [] (shares_for shape cloud v.file) (wanted_for shape cloud v.file) }
     // a batch has 1 to 256 of them
-    ensures sizes { (shape : Shape) (v : FileVersion) (cloud i : ℕ) (batch : List (List ℕ)) → slice_get (work_of shape v cloud).batches i ≡ Some batch → IsBatch batch }
+    ensures sizes { (shape : Shape) (v : FileVersion) (cloud i : ℕ) (batch : List (List ℕ))
+        → slice_get (work_of shape v cloud).batches i ≡ Some batch → IsBatch batch }
 {}

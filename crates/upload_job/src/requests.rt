@@ -52,7 +52,8 @@ fn put_share(out: &mut Bytes, share: &[u8]) -> Result<(), NoMemory>
 // A share, where its flag is 0.
 fn put_if_lacking(out: &mut Bytes, shares: &[u8], w: Wanted, flag: u8) -> Result<(), NoMemory>
     requires { IsIn shares.now w }
-    ensures { OnOk result (out.new ≡ out.old ++ flat_map share_bytes (if flag == 0 then share_in shares.now w ∷ [] else [])) }
+    ensures { OnOk result (out.new ≡ out.old ++ flat_map share_bytes
+        (if flag == 0 then share_in shares.now w ∷ [] else [])) }
 {
     if flag == 0 {
         put_share(out, &shares[w.start..w.end])
@@ -69,7 +70,8 @@ fn put_unflagged(
     flags: &[u8],
 ) -> Result<(), NoMemory>
     requires { AreIn shares.now batch.now }
-    ensures { OnOk result (out.new ≡ out.old ++ flat_map share_bytes (unflagged (shares_in shares.now batch.now) flags.now)) }
+    ensures { OnOk result (out.new ≡ out.old ++ flat_map share_bytes
+        (unflagged (shares_in shares.now batch.now) flags.now)) }
 {
     for i in 0..batch.len().min(flags.len()) {
         put_if_lacking(out, shares, batch[i], flags[i])?;
@@ -86,7 +88,8 @@ fn put_put(
 ) -> Result<(), NoMemory>
     requires few { length batch.now ≤ batch_limit }
     requires inside { AreIn shares.now batch.now }
-    ensures { OnOk result (out.new ≡ out.old ++ request_bytes (Put user (unflagged (shares_in shares.now batch.now) flags.now))) }
+    ensures { OnOk result (out.new ≡ out.old ++ request_bytes
+        (Put user (unflagged (shares_in shares.now batch.now) flags.now))) }
 {
     put_head(out, 3, user)?;
     out.extend(&(zeros(batch.len(), flags) as u16).to_be_bytes())?;
@@ -94,7 +97,8 @@ fn put_put(
 }
 
 fn put_commit(out: &mut Bytes, key: &FileKey, recipe: &[u8]) -> Result<(), NoMemory>
-    ensures { OnOk result (out.new ≡ out.old ++ request_bytes (Commit key.now.user key.now.tag key.now.version recipe.now)) }
+    ensures { OnOk result (out.new ≡ out.old ++ request_bytes
+        (Commit key.now.user key.now.tag key.now.version recipe.now)) }
 {
     put_head(out, 4, key.user)?;
     out.extend(&key.tag.0)?;
@@ -106,7 +110,8 @@ fn put_commit(out: &mut Bytes, key: &FileKey, recipe: &[u8]) -> Result<(), NoMem
 fn put_bringing(out: &mut Bytes, key: &FileKey, lane: &Lane, from: usize) -> Result<(), NoMemory>
     requires empty { out.old ≡ [] }
     requires inside { AreIn lane.now.shares lane.now.wanted.items }
-    ensures { OnOk result (IsAsked (lane_request (work_in key.now lane.now) (state_in (shares_in lane.now.shares lane.now.wanted.items) (stages.Bringing from))) true out.old out.new) }
+    ensures { OnOk result (IsAsked (lane_request (work_in key.now lane.now)
+        (state_in (shares_in lane.now.shares lane.now.wanted.items) (stages.Bringing from))) true out.old out.new) }
 {
     if from < lane.wanted.len() {
         put_query(out, key.user, batch_at(lane.wanted.as_slice(), from))
@@ -119,7 +124,8 @@ fn put_bringing(out: &mut Bytes, key: &FileKey, lane: &Lane, from: usize) -> Res
 pub fn put_request(out: &mut Bytes, key: &FileKey, lane: &Lane) -> Result<bool, NoMemory>
     requires empty { out.old ≡ [] }
     requires inside { AreIn lane.now.shares lane.now.wanted.items }
-    ensures { IfOk result (λ more. IsAsked (lane_request (work_in key.now lane.now) (state_in (shares_in lane.now.shares lane.now.wanted.items) lane.now.stage)) more out.old out.new) }
+    ensures { IfOk result (λ more. IsAsked (lane_request (work_in key.now lane.now)
+        (state_in (shares_in lane.now.shares lane.now.wanted.items) lane.now.stage)) more out.old out.new) }
 {
     match &lane.stage {
         Stage::Bringing { from } => {

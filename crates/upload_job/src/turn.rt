@@ -66,9 +66,12 @@ fn turn_by(content: &[u8], step: Option<Step>) -> Turn
 
 /// What content does to a lane.
 pub fn turn_of(alloc: Global, lane: &Lane, content: &[u8]) -> Turn
-    ensures turns { (w : Work) (all : List (List ℕ)) → length all ≡ vec_len lane.now.wanted → w.items ≡ lane.now.items → w.batches ≡ in_batches all
-        → Answers (record { work = w; state = state_in all lane.now.stage }) content.now result.result (next_in all (state_in all lane.now.stage) result.next) }
-    ensures malformed { (at : ℕ) → reply_at content.now ≡ Err at → is_of_entries content.now ≡ false → result.result ≢ Err LaneErr.NoMemory }
+    ensures turns { (w : Work) (all : List (List ℕ)) → length all ≡ vec_len lane.now.wanted → w.items ≡ lane.now.items
+        → w.batches ≡ in_batches all
+        → Answers (record { work = w; state = state_in all lane.now.stage }) content.now result.result
+        (next_in all (state_in all lane.now.stage) result.next) }
+    ensures malformed { (at : ℕ) → reply_at content.now ≡ Err at → is_of_entries content.now ≡ false
+        → result.result ≢ Err LaneErr.NoMemory }
 {
     match read_reply(alloc, content) {
         Ok(Some(reply)) => turn_by(content, step_of(lane, reply)),

@@ -27,7 +27,8 @@ fn note(
     wanted: &mut Vec<Wanted>,
     share: Wanted,
 ) -> Result<(), NoMemory>
-    ensures list { OnOk result (wanted.new.items ≡ noted (contains (slice_cmp nat_cmp) seen.old share.fp.0) wanted.old.items share) }
+    ensures list { OnOk result (wanted.new.items
+        ≡ noted (contains (slice_cmp nat_cmp) seen.old share.fp.0) wanted.old.items share) }
     ensures keys { OnOk result (Updates (slice_cmp nat_cmp) seen.old seen.new share.fp.0 true) }
 {
     if seen.insert(share.fp.0)? {
@@ -44,7 +45,8 @@ pub fn wanted_of(
     shares: &[u8],
 ) -> Result<Vec<Wanted>, NoMemory>
     requires { AreNamed shape.k items.now shares.now }
-    ensures first { IfOk result (λ wanted. shares_in shares.now wanted.items ≡ new_strings [] (pieces shape.k items.now shares.now)) }
+    ensures first { IfOk result (λ wanted. shares_in shares.now wanted.items
+        ≡ new_strings [] (pieces shape.k items.now shares.now)) }
     ensures inside { IfOk result (λ wanted. AreIn shares.now wanted.items) }
 {
     let mut seen = BTreeSet::new(alloc);

@@ -13,6 +13,7 @@ pub mod Owned
 pub mod Pages
 pub mod Replies
 mod Rows
+mod Served
 pub mod Sorting
 pub mod Sound
 pub mod Spending

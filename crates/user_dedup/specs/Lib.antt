@@ -6,5 +6,6 @@ pub mod Link
 pub mod Owning
 pub mod Pages
 pub mod Requests
+pub mod Served
 pub mod Spending
 pub mod Strings

@@ -25,10 +25,12 @@ ghost use Rattle.user_dedup.specs.Dedup.{answer_over, HeldAlike, IsSound, IsAdde
 /// A user's view is made of that user's commands alone, each in its turn.
 pub fn law_of_views()
     ensures begun { (shape : Shape) (user : UserId) → user_view shape [] user ≡ no_view }
-    ensures own { (shape : Shape) (list : List Command) (command : Command) (user : UserId) → (user_of command).0 ≡ user.0
+    ensures own { (shape : Shape) (list : List Command) (command : Command) (user : UserId)
+        → (user_of command).0 ≡ user.0
         → user_view shape (list ++ command ∷ []) user ≡ view_after shape (user_view shape list user) command }
     // A command of one user leaves the view of every other user.
-    ensures others { (shape : Shape) (list : List Command) (command : Command) (user : UserId) → (user_of command).0 ≢ user.0
+    ensures others { (shape : Shape) (list : List Command) (command : Command) (user : UserId)
+        → (user_of command).0 ≢ user.0
         → user_view shape (list ++ command ∷ []) user ≡ user_view shape list user }
 {}
 
@@ -71,7 +73,8 @@ pub fn law_of_holding()
     ensures held { (list : List Command) (fp : Fp) (string : List ℕ) → held_string list fp ≡ Some string
         → (fingerprint string ≡ fp) × Contains (flat_map strings_of list) string }
     // A fingerprint that some user owns is held.
-    ensures is_held { (shape : Shape) (list : List Command) (user : UserId) (fp : Fp) → Contains (user_view shape list user).own fp
+    ensures is_held { (shape : Shape) (list : List Command) (user : UserId) (fp : Fp)
+        → Contains (user_view shape list user).own fp
         → (string : List ℕ) × (held_string list fp ≡ Some string) × (fingerprint string ≡ fp) }
     // What is held stays held, whichever commands follow.
     ensures stays { (list more : List Command) (fp : Fp) (string : List ℕ) → held_string list fp ≡ Some string
@@ -96,8 +99,10 @@ pub fn law_of_isolation()
 
 /// The reply of a cloud with a sound list is one that fits its request and can be written.
 pub fn law_of_replies()
-    ensures { (shape : Shape) (cloud : ℕ) (list : List Command) (request : Request) → IsSound shape cloud list → cloud < 256
-        → FitsRequest request → HasRecipe shape request → Suits shape request (answer_over shape cloud list request).reply }
+    ensures { (shape : Shape) (cloud : ℕ) (list : List Command) (request : Request) → IsSound shape cloud list
+        → cloud < 256
+        → FitsRequest request → HasRecipe shape request
+        → Suits shape request (answer_over shape cloud list request).reply }
 {}
 
 /// So is the reply of a cloud that may have no room for a command.
@@ -110,7 +115,8 @@ pub fn law_of_served_replies()
 /// A cloud whose list is told executes a request of sound lists, and its lists stay sound, whatever happens on the way.
 pub fn law_of_execution()
     ensures { (shape : Shape) (cloud : ℕ) (full : List Command → Command → Option FullRoom) (old new : Peer)
-        (request : Request) (reply : Reply) → StandsSound shape cloud old → FitsRequest request → HasRecipe shape request
+        (request : Request) (reply : Reply) → StandsSound shape cloud old → FitsRequest request
+        → HasRecipe shape request
         → Exec shape true (served shape cloud full) old request reply new → StandsSound shape cloud new }
 {}
 
@@ -138,7 +144,8 @@ pub fn law_of_sound_lists()
         → IsSound shape cloud (list ++ command ∷ []) → IsAdded shape cloud list command }
     // What is deleted was there.
     ensures there { (shape : Shape) (cloud : ℕ) (list : List Command) (user : UserId) (key : Tag × Version)
-        → IsSound shape cloud (list ++ deletion user key ∷ []) → IsSome (entry_at (user_view shape list user).files key) }
+        → IsSound shape cloud (list ++ deletion user key ∷ [])
+        → IsSome (entry_at (user_view shape list user).files key) }
     // A key has one entry.
     ensures apart { (shape : Shape) (cloud : ℕ) (list : List Command) (user : UserId) → IsSound shape cloud list
         → AreApart (user_view shape list user).files }

@@ -17,7 +17,9 @@ ghost use Rattle.user_dedup.specs.Requests.{fps_of};
 ghost use Rattle.user_dedup.specs.declared.command.Command.{Command};
 ghost use Rattle.user_dedup.specs.Cloud.{user_of, commands_of, counted, view_after, user_view, without_entry, deletion};
 ghost use Rattle.user_dedup.specs.Cloud.{IsNamedBeside, strings_in, held_string};
+ghost use Rattle.messages.specs.declared.request.Request.{Request};
 ghost use Rattle.user_dedup.specs.Dedup.{IsSound};
+ghost use Rattle.user_dedup.specs.Served.{served_by};
 ghost use Rattle.user_dedup.specs.Spending.{nothing, spent_of, full_for, HoldsItself, UsesWithin, IsWithin};
 ghost use Rattle.user_dedup.specs.Compact.{compact};
 
@@ -46,6 +48,13 @@ pub fn law_of_rooms()
     // One command more for which no room is full keeps it so.
     ensures next { (shape : Shape) (rooms : Rooms) (list : List Command) (command : Command) → IsWithin shape rooms list
         → full_for shape rooms list command ≡ None → IsWithin shape rooms (list ++ command ∷ []) }
+{}
+
+/// What a cloud of these rooms serves keeps its list within them: it adds no command for which a room has no place.
+pub fn law_of_served_rooms()
+    ensures { (shape : Shape) (rooms : Rooms) (cloud : ℕ) (list : List Command) (request : Request) (command : Command)
+        → IsWithin shape rooms list → (served_by rooms shape cloud list request).adds ≡ Some command
+        → IsWithin shape rooms (list ++ command ∷ []) }
 {}
 
 /// The number of a list's commands, as an opening answers it: one more for each, as far as 64 bits reach.

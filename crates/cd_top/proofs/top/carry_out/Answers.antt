@@ -15,5 +15,8 @@ returns-in-Backup g c = promised_as _ _ (ap asked_of c.in-Backup.is) _ (refl, c.
 pub returns-in-Restore : goal.returns-in-Restore
 returns-in-Restore g c = promised_as _ _ (ap asked_of c.in-Restore.is) _ (refl, refl, c.restore_from.ensures)
 
+pub returns-in-Delete : goal.returns-in-Delete
+returns-in-Delete g c = promised_as _ _ (ap asked_of c.in-Delete.is) _ (refl, refl, c.delete_at.ensures)
+
 pub returns-in-Generate : goal.returns-in-Generate
 returns-in-Generate g c = promised_as _ _ (ap asked_of c.in-Generate.is) _ (refl, refl, c.generate_in.ensures)

@@ -1,6 +1,6 @@
-use Rattle.command_words.specs.Asked.{ForReplay, ForRead, ForServe, ForBackup, ForRestore, ForGenerate}
+use Rattle.command_words.specs.Asked.{ForReplay, ForRead, ForServe, ForBackup, ForRestore, ForDelete, ForGenerate}
 use Rattle.cd_top.proofs.Completing.{completes}
-use Rattle.cd_top.proofs.Dispatching.{is_replayed, is_read, is_served, is_backed_up, is_restored, is_generated}
+use Rattle.cd_top.proofs.Dispatching.{is_replayed, is_read, is_served, is_backed_up, is_restored, is_deleted, is_generated}
 use Rattle.cd_top.proofs.top.run.Goals as goal
 
 pub returns-in-Ok-None-clause-headline : goal.returns-in-Ok-None-clause-headline
@@ -26,6 +26,10 @@ returns-in-Ok-None-clause-backup g c = λ asked is.
 pub returns-in-Ok-None-clause-restore : goal.returns-in-Ok-None-clause-restore
 returns-in-Ok-None-clause-restore g c = λ asked is.
     absurd ((rw c.in-Ok-None.field-0-is at c.in-Ok-None.ensures.none) (ForRestore asked) is)
+
+pub returns-in-Ok-None-clause-delete : goal.returns-in-Ok-None-clause-delete
+returns-in-Ok-None-clause-delete g c = λ asked is.
+    absurd ((rw c.in-Ok-None.field-0-is at c.in-Ok-None.ensures.none) (ForDelete asked) is)
 
 pub returns-in-Ok-None-clause-generate : goal.returns-in-Ok-None-clause-generate
 returns-in-Ok-None-clause-generate g c = λ asked is.
@@ -68,6 +72,11 @@ returns-clause-backup g c = λ asked other.
 pub returns-clause-restore : goal.returns-clause-restore
 returns-clause-restore g c = λ asked other.
     is_restored c.law_of_words.ensures.one _ _
+    (rw c.in-Ok-Some.field-0-is at c.in-Ok-Some.ensures.some) _ c.carry_out.ensures asked other
+
+pub returns-clause-delete : goal.returns-clause-delete
+returns-clause-delete g c = λ asked other.
+    is_deleted c.law_of_words.ensures.one _ _
     (rw c.in-Ok-Some.field-0-is at c.in-Ok-Some.ensures.some) _ c.carry_out.ensures asked other
 
 pub returns-clause-generate : goal.returns-clause-generate

@@ -2,9 +2,10 @@ use Rattle.std.proofs.Common.{◌≡◌, ◌*◌, ◌≤◌, ◌∙◌, ℕ, Lis
 use Rattle.cd_base.specs.declared.shape.Shape.{Shape}
 use Rattle.cd_edges.specs.Disk.{Cloud}
 use Rattle.session_model.specs.Kept.{uploads}
-use Rattle.replay_core.specs.Opening.{PreparesAll, EndsUnopened, before_first}
-use Rattle.replay_core.proofs.Clouds.{all_same}
-use Rattle.replay_core.proofs.Begins.{same_all}
+use Rattle.script_lines.specs.At.{header_in}
+use Rattle.replay_core.specs.Opening.{EndsUnopened, before_first}
+use Rattle.replay_core.proofs.Clouds.{empty_stands, all_same}
+use Rattle.replay_core.proofs.Begins.{same_all, all_ready}
 use Rattle.generated_session.specs.Lines.{generated_lines}
 use Rattle.generated_session.specs.Numbers.{summary_text}
 use Rattle.generated_session.specs.Generates.{Order, Passing}
@@ -27,7 +28,8 @@ returns-in_default-clause-generates g c = λ begun s ready rooms.
     } in
     ends_unmade (record { given = c.law_of_acknowledged.ensures.given; more = c.law_of_acknowledged.ensures.more; kept = c.law_of_acknowledged.ensures.kept; private = c.law_of_own_replies.ensures }) order call s
     (ap (λ (sh : Shape). sh.n) (sym ready.shape) ∙ c.requires.shape.0, ap (λ (sh : Shape). sh.k) (sym ready.shape) ∙ c.requires.shape.1, rooms) ready.told
-    (all_same s.shape begun (clouds c.args.link.now.shelf.now) ready.same) refl refl
+    (all_same (empty_stands c.law_of_no_commands.ensures.unbegun c.law_of_no_commands.ensures.stands) (header_in s) s.shape begun
+    (clouds c.args.link.now.shelf.now) ready.same) refl refl
 
 pub returns-in-Err-clause-generates : goal.returns-in-Err-clause-generates
 returns-in-Err-clause-generates g c = λ begun s ready rooms.
@@ -45,7 +47,7 @@ returns-in-Err-clause-generates g c = λ begun s ready rooms.
     let same = same_all clouds (record { given = c.law_of_acknowledged.ensures.given; more = c.law_of_acknowledged.ensures.more; kept = c.law_of_acknowledged.ensures.kept; private = c.law_of_own_replies.ensures }) (start_of begun) s c.args.link.now before_first None 0 None 0 ready in
     ends_unopened (record { given = c.law_of_acknowledged.ensures.given; more = c.law_of_acknowledged.ensures.more; kept = c.law_of_acknowledged.ensures.kept; private = c.law_of_own_replies.ensures }) order call s
     (ap (λ (sh : Shape). sh.n) (sym ready.shape) ∙ c.requires.shape.0, ap (λ (sh : Shape). sh.k) (sym ready.shape) ∙ c.requires.shape.1, rooms) ready.told
-    (subst (λ (sh : Shape). PreparesAll sh begun (clouds new.shelf.now)) ready.shape (subst (λ (f : ℕ → Cloud). PreparesAll c.args.link.now.servers.shape f (clouds new.shelf.now)) same c.in-Err.ensures.prepares)) refl refl
+    (all_ready clouds (record { given = c.law_of_acknowledged.ensures.given; more = c.law_of_acknowledged.ensures.more; kept = c.law_of_acknowledged.ensures.kept; private = c.law_of_own_replies.ensures }) (start_of begun) s c.args.link.now before_first None 0 None 0 ready (clouds new.shelf.now) c.in-Err.ensures.prepares) refl refl
     c.in-Err.end
     (subst (λ (sh : Shape). EndsUnopened sh begun (clouds new.shelf.now) c.in-Err.end) ready.shape (subst (λ (f : ℕ → Cloud). EndsUnopened c.args.link.now.servers.shape f (clouds new.shelf.now) c.in-Err.end) same c.in-Err.ensures.end))
 

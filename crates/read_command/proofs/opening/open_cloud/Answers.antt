@@ -1,10 +1,6 @@
-use Rattle.std.proofs.Common.{◌≡◌, ◌<◌, refl, sym, ◌∙◌, subst}
-use Rattle.std.specs.Prelude.{IsSomeAnd, Err}
-use Rattle.cd_base.specs.declared.rooms.Rooms.{Rooms}
-use Rattle.cd_base.specs.declared.shape.Shape.{Shape}
-use Rattle.local_link.specs.Steps.{IsClosedIn}
-use Rattle.local_link.specs.Tells.{server_at}
-use Rattle.read_command.proofs.Disks.{came_by, opening_by, opening_none, opening_from}
+use Rattle.std.proofs.Common.{◌≡◌, refl, sym, ◌∙◌}
+use Rattle.std.specs.Prelude.{Err}
+use Rattle.read_command.proofs.Disks.{came_by, opening_by, opening_none, opening_from, rooms_in}
 use Rattle.read_command.proofs.opening.open_cloud.Goals as goal
 
 pub returns-in-Ok-reopen-clause-opens : goal.returns-in-Ok-reopen-clause-opens
@@ -17,9 +13,8 @@ returns-in-Ok-reopen-clause-opens g c =
     opening_from clouds mid.servers.shape c.args.link.now.servers.shape (clouds mid.shelf.now c.args.cloud.0) (clouds c.args.link.now.shelf.now c.args.cloud.0) _ _ new _ c.args.cloud.0 _
     s.others.shape_stays (λ i. clouds (s.still.0 i).now c.args.cloud.0) (λ i. g.V.Shelf.faults (s.still.0 i).now)
     (opening_by clouds mid new c.args.cloud (g.V.Shelf.faults mid.shelf.now) (g.V.Shelf.faults new.shelf.now) c.reopen.result _
-    (subst (λ (x : Shape). c.args.cloud.0 < x.n) (sym s.others.shape_stays) c.requires.reached)
-    (subst (λ (x : Rooms). IsSomeAnd (server_at mid.servers c.args.cloud.0) (IsClosedIn x)) c.greatest.ensures s.closed)
-    r.exact r.not_begun r.other_store r.whole r.loaded r.counts r.areas r.images (λ i. came_by c.args.cloud (sym c.in-Ok-reopen.is i)))
+    (rooms_in _ mid.servers c.args.cloud.0 s.closed ∙ c.usual.ensures.rooms)
+    r.exact r.not_begun r.other_store r.whole r.loaded r.counts r.areas r.images r.rooms (λ i. came_by c.args.cloud (sym c.in-Ok-reopen.is i)))
 
 pub returns-in-Err-reopen-clause-opens : goal.returns-in-Err-reopen-clause-opens
 returns-in-Err-reopen-clause-opens g c =
@@ -32,9 +27,8 @@ returns-in-Err-reopen-clause-opens g c =
     opening_from clouds mid.servers.shape c.args.link.now.servers.shape (clouds mid.shelf.now c.args.cloud.0) (clouds c.args.link.now.shelf.now c.args.cloud.0) _ _ new _ c.args.cloud.0 _
     s.others.shape_stays (λ i. clouds (s.still.0 i).now c.args.cloud.0) (λ i. g.V.Shelf.faults (s.still.0 i).now)
     (opening_by clouds mid new c.args.cloud (g.V.Shelf.faults mid.shelf.now) (g.V.Shelf.faults new.shelf.now) c.reopen.result _
-    (subst (λ (x : Shape). c.args.cloud.0 < x.n) (sym s.others.shape_stays) c.requires.reached)
-    (subst (λ (x : Rooms). IsSomeAnd (server_at mid.servers c.args.cloud.0) (IsClosedIn x)) c.greatest.ensures s.closed)
-    r.exact r.not_begun r.other_store r.whole r.loaded r.counts r.areas r.images (ended ∙ (λ i. came_by c.args.cloud (sym c.in-Err-reopen.is i))))
+    (rooms_in _ mid.servers c.args.cloud.0 s.closed ∙ c.usual.ensures.rooms)
+    r.exact r.not_begun r.other_store r.whole r.loaded r.counts r.areas r.images r.rooms (ended ∙ (λ i. came_by c.args.cloud (sym c.in-Err-reopen.is i))))
 
 pub returns-in-Err-clause-opens : goal.returns-in-Err-clause-opens
 returns-in-Err-clause-opens g c =

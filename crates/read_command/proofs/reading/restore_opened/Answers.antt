@@ -3,9 +3,7 @@ use Rattle.cd_base.specs.declared.ids.Tag.{Tag}
 use Rattle.cd_base.specs.declared.shape.Shape.{Shape}
 use Rattle.cd_base.specs.Numbers.{numbers_of}
 use Rattle.caont_rs.specs.Package.{tag as tag_at}
-use Rattle.local_link.specs.Calls.{header_of}
-use Rattle.local_link.proofs.Passing.{read_same}
-use Rattle.read_command.specs.Disks.{AreReadable, IsOpened, KeepsDisks}
+use Rattle.read_command.specs.Disks.{AreReadable, IsOpened, KeepsDisks, usual_header}
 use Rattle.read_command.specs.Opening.{AreOpened}
 use Rattle.read_command.proofs.Restoring.{came_to, is_due, kept_on}
 use Rattle.read_command.proofs.reading.restore_opened.Goals as goal
@@ -32,7 +30,7 @@ returns-clause-came g c =
     let e = c.restore_any.ensures in
     let tag : Tag = record { 0 = tag_at r.shape r.path.now } in
     record {
-      opened = λ cloud has told. subst (λ (s : Shape). IsOpened (header_of s cloud) (clouds old.shelf.now cloud)) c.requires.shape ((opened.each cloud has).opened told);
+      opened = λ cloud has told. subst (λ (s : Shape). IsOpened (usual_header s cloud) (clouds old.shelf.now cloud)) c.requires.shape ((opened.each cloud has).opened told);
       came_to = came_to clouds named r.shape before between now old mid new c.requires.shape opened r.user tag r.version _
           c.restore_any.result c.args.file.now c.restore_any.new.out c.requires.empty c.requires.fate e.asked e.named e.restored;
       due = is_due clouds named r.shape before between now old mid new c.requires.shape opened r.user tag r.version _
@@ -51,11 +49,14 @@ returns-clause-kept g c =
     let between = g.V.Shelf.faults mid.shelf.now in
     let now = g.V.Shelf.faults new.shelf.now in
     let opened = subst (AreOpened clouds before between old mid) c.as_slice.ensures c.in-Ok.ensures.opened in
-    kept_on clouds named r.shape before between now old mid new c.requires.shape opened c.restore_any.ensures.asked.asks c.restore_any.ensures.asked.passed c.requires.within
+    let went = c.restore_any.ensures.asked in
+    let law = c.law_of_readings.ensures in
+    kept_on clouds named r.shape before between now old mid new c.requires.shape opened (λ cloud p. law.images named went.asks mid new cloud p went.passed)
+    (λ cloud. law.others named went.asks mid new cloud went.passed) c.requires.within
     (λ cloud told. g.met.V.Shelf.reads_image old.shelf.now cloud told)
     (subst (λ (l : List ℕ). KeepsDisks old.servers.shape l (clouds old.shelf.now) (clouds mid.shelf.now)) c.as_slice.ensures c.in-Ok.ensures.kept)
 
 pub returns-clause-same_reference : goal.returns-clause-same_reference
 returns-clause-same_reference g c =
-    read_same g.V.Shelf.cloud_at c.args.wanted.now.clouds.now c.restore_any.ensures.asked.asks c.open_clouds.new.link c.restore_any.new.link c.restore_any.ensures.asked.passed
+    c.law_of_readings.ensures.same_reference c.args.wanted.now.clouds.now c.restore_any.ensures.asked.asks c.open_clouds.new.link c.restore_any.new.link c.restore_any.ensures.asked.passed
     ∙ c.in-Ok.ensures.same_reference

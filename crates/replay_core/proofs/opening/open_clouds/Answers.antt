@@ -1,17 +1,16 @@
 use Rattle.std.specs.Prelude.{Err}
 use Rattle.std.proofs.Common.{rules, ◌≡◌, [], refl, sym, ap, subst, ◌∙◌, arith}
 use Rattle.cd_base.specs.declared.shape.Shape.{Shape}
-use Rattle.cloud_store.specs.Space.{IsWithin}
-use Rattle.share_server.specs.declared.server.Server.{Server}
-use Rattle.local_link.specs.Tells.{server_at}
-use Rattle.local_link.proofs.Standing.{some_server, said_of}
 use Rattle.replay_core.specs.Opening.{IsEmpty, OpensTo}
-use Rattle.replay_core.proofs.Clouds.{on_err, if_err, ends_unopened}
+use Rattle.replay_core.proofs.Clouds.{empty_stands, on_err, if_err, ends_unopened}
 use Rattle.replay_core.proofs.Links.{none_opened, one_opened, stops_opening}
 use Rattle.replay_core.proofs.opening.open_clouds.Goals as goal
 
 pub loop-number-init : goal.loop-number-init
-loop-number-init g c = record { to = none_opened g.V.Shelf.cloud_at c.args.link.now; same_reference = refl }
+loop-number-init g c = record {
+  to = none_opened g.V.Shelf.cloud_at (empty_stands c.law_of_no_commands.ensures.unbegun c.law_of_no_commands.ensures.stands) c.args.link.now;
+  same_reference = refl;
+}
 
 pub open_cloud-requires-clause-below : goal.open_cloud-requires-clause-below
 open_cloud-requires-clause-below g c =
@@ -22,17 +21,11 @@ open_cloud-requires-clause-empty g c =
     let e = ap (λ (s : Shape). s.n) c.shape-shape.ensures in
     subst IsEmpty (sym (c.loop-number.invariant.to.clouds_wait c.loop-number.number (omega arith))) (c.requires.empty c.loop-number.number (omega arith))
 
-pub open_cloud-requires-clause-room : goal.open_cloud-requires-clause-room
-open_cloud-requires-clause-room g c =
-    let e = ap (λ (s : Shape). s.n) c.shape-shape.ensures in
-    let here = some_server c.args.link.now.servers c.loop-number.number (omega arith) in
-    said_of (server_at c.loop-number.link.servers c.loop-number.number) here.0 (λ (server : Server). IsWithin server.state.rooms [])
-    (c.loop-number.invariant.to.servers_wait c.loop-number.number (omega arith) ∙ here.1) (c.requires.room c.loop-number.number here.0 here.1)
-
 pub loop-number-preserved : goal.loop-number-preserved
 loop-number-preserved g c = record {
-  to = one_opened g.V.Shelf.cloud_at c.args.link.now c.loop-number.link c.open_cloud.new.link c.loop-number.number c.loop-number.invariant.to c.open_cloud.ensures.rest
-      c.open_cloud.ensures.prepares c.in_ok-open_cloud.ensures.opens c.open_cloud.ensures.full c.open_cloud.ensures.fate;
+  to = one_opened g.V.Shelf.cloud_at (empty_stands c.law_of_no_commands.ensures.unbegun c.law_of_no_commands.ensures.stands)
+      c.args.link.now c.loop-number.link c.open_cloud.new.link c.loop-number.number c.loop-number.invariant.to c.open_cloud.ensures.rest
+      c.open_cloud.ensures.prepares c.in_ok-open_cloud.ensures.opens c.open_cloud.ensures.rooms c.open_cloud.ensures.fate;
   same_reference = c.open_cloud.ensures.same_reference ∙ c.loop-number.invariant.same_reference;
 }
 
@@ -41,7 +34,7 @@ returns-in_err-open_cloud-clause-prepares g c =
     let residual : c.from_residual.result ≡ Err c.in_err-open_cloud.field-0.0 = search rules in
     let e = ap (λ (s : Shape). s.n) c.shape-shape.ensures in
     on_err c.from_residual.result c.in_err-open_cloud.field-0.0 _ residual
-    (stops_opening g.V.Shelf.cloud_at c.args.link.now c.loop-number.link c.open_cloud.new.link c.loop-number.number c.loop-number.invariant.to c.open_cloud.ensures.rest
+    (stops_opening g.V.Shelf.cloud_at (empty_stands c.law_of_no_commands.ensures.unbegun c.law_of_no_commands.ensures.stands) c.args.link.now c.loop-number.link c.open_cloud.new.link c.loop-number.number c.loop-number.invariant.to c.open_cloud.ensures.rest
     (omega arith) c.open_cloud.ensures.prepares)
 
 pub returns-in_err-open_cloud-clause-end : goal.returns-in_err-open_cloud-clause-end

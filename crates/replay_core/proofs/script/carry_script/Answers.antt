@@ -1,10 +1,12 @@
+use Rattle.replay_core.proofs.Clouds.{empty_stands}
 use Rattle.replay_core.proofs.Begins.{ends_ready, ends_unready, come_open, ends_open}
 use Rattle.replay_core.proofs.script.carry_script.Goals as goal
 
 pub returns-in_default-clause-replays : goal.returns-in_default-clause-replays
 returns-in_default-clause-replays g c = λ start s ready.
     ends_unready g.V.Shelf.cloud_at (record { given = c.law_of_acknowledged.ensures.given; more = c.law_of_acknowledged.ensures.more; kept = c.law_of_acknowledged.ensures.kept; private = c.law_of_own_replies.ensures })
-    start s c.args.link.now c.args.reader.now (g.S.Source.left c.args.source.now) (g.S.Source.faults c.args.source.now) (g.K.Sink.written c.args.sink.now) (g.K.Sink.faults c.args.sink.now) ready (g.V.Shelf.faults c.args.link.now.shelf.now)
+    start s c.args.link.now c.args.reader.now (g.S.Source.left c.args.source.now) (g.S.Source.faults c.args.source.now) (g.K.Sink.written c.args.sink.now) (g.K.Sink.faults c.args.sink.now) ready
+    (empty_stands c.law_of_no_commands.ensures.unbegun c.law_of_no_commands.ensures.stands) (g.V.Shelf.faults c.args.link.now.shelf.now)
 
 pub returns-in-Err-clause-replays : goal.returns-in-Err-clause-replays
 returns-in-Err-clause-replays g c = λ start s ready.

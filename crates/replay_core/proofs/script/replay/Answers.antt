@@ -1,9 +1,10 @@
 use Rattle.std.proofs.Common.{rules, ◌≡◌, refl, subst}
 use Rattle.replay_core.specs.declared.end.ReplayEnd.TheVariants as ends
 use Rattle.session_model.specs.Vault.{Setting}
+use Rattle.script_lines.specs.At.{header_in}
 use Rattle.replay_core.specs.Going.{Start, call_of}
 use Rattle.replay_core.specs.Replayed.{Replays}
-use Rattle.replay_core.proofs.Clouds.{all_same}
+use Rattle.replay_core.proofs.Clouds.{empty_stands, all_same}
 use Rattle.replay_core.proofs.Begins.{ends_first, ends_unmade, ends_closed, ready_by}
 use Rattle.replay_core.proofs.script.replay.Goals as goal
 
@@ -17,7 +18,7 @@ returns-in_default g c =
       total = g.V.Shelf.faults c.args.shelf.now;
       written = g.K.Sink.written c.args.sink.now;
     } in
-    ends_first ends.NoMemory (record { given = c.law_of_acknowledged.ensures.given; more = c.law_of_acknowledged.ensures.more; kept = c.law_of_acknowledged.ensures.kept; private = c.law_of_own_replies.ensures })
+    ends_first (empty_stands c.law_of_no_commands.ensures.unbegun c.law_of_no_commands.ensures.stands) ends.NoMemory (record { given = c.law_of_acknowledged.ensures.given; more = c.law_of_acknowledged.ensures.more; kept = c.law_of_acknowledged.ensures.kept; private = c.law_of_own_replies.ensures })
     start (g.S.Source.left c.args.source.now) (g.S.Source.faults c.args.source.now) (g.K.Sink.faults c.args.sink.now) (g.V.Shelf.faults c.args.shelf.now)
     (g.V.Shelf.cloud_at c.args.shelf.now) (g.K.Sink.written c.args.sink.now) (λ cloud. refl) refl refl tt
 
@@ -31,7 +32,7 @@ returns-in-Err g c =
       total = g.V.Shelf.faults c.args.shelf.now;
       written = g.K.Sink.written c.args.sink.now;
     } in
-    ends_first c.in-Err.end (record { given = c.law_of_acknowledged.ensures.given; more = c.law_of_acknowledged.ensures.more; kept = c.law_of_acknowledged.ensures.kept; private = c.law_of_own_replies.ensures })
+    ends_first (empty_stands c.law_of_no_commands.ensures.unbegun c.law_of_no_commands.ensures.stands) c.in-Err.end (record { given = c.law_of_acknowledged.ensures.given; more = c.law_of_acknowledged.ensures.more; kept = c.law_of_acknowledged.ensures.kept; private = c.law_of_own_replies.ensures })
     start (g.S.Source.left c.first_line.new.source) (g.S.Source.faults c.first_line.new.source) (g.K.Sink.faults c.args.sink.now) (g.V.Shelf.faults c.args.shelf.now)
     (g.V.Shelf.cloud_at c.args.shelf.now) (g.K.Sink.written c.args.sink.now) (λ cloud. refl) refl refl c.in-Err.ensures.end
 
@@ -52,7 +53,7 @@ returns-in-Err-empty_clouds g c =
     } in
     ends_closed (record { given = c.law_of_acknowledged.ensures.given; more = c.law_of_acknowledged.ensures.more; kept = c.law_of_acknowledged.ensures.kept; private = c.law_of_own_replies.ensures })
     start s c.first_line.new.reader (g.S.Source.left c.first_line.new.source) (g.S.Source.faults c.first_line.new.source) (g.K.Sink.faults c.args.sink.now) (g.V.Shelf.faults c.empty_clouds.new.shelf)
-    (g.V.Shelf.cloud_at c.empty_clouds.new.shelf) (g.K.Sink.written c.args.sink.now) (λ cloud. refl) c.in-Ok-first_line.ensures.header c.in-Err-empty_clouds.ensures.prepares refl refl
+    (g.V.Shelf.cloud_at c.empty_clouds.new.shelf) (g.K.Sink.written c.args.sink.now) (λ cloud. refl) c.in-Ok-first_line.ensures.header (c.in-Err-empty_clouds.ensures.prepares (header_in s)) refl refl
     c.in-Err-empty_clouds.end c.in-Err-empty_clouds.ensures.end
 
 pub returns-in_default-make : goal.returns-in_default-make
@@ -73,7 +74,7 @@ returns-in_default-make g c =
     ends_unmade (record { given = c.law_of_acknowledged.ensures.given; more = c.law_of_acknowledged.ensures.more; kept = c.law_of_acknowledged.ensures.kept; private = c.law_of_own_replies.ensures })
     start s c.first_line.new.reader (g.S.Source.left c.first_line.new.source) (g.S.Source.faults c.first_line.new.source) (g.K.Sink.faults c.args.sink.now) (g.V.Shelf.faults c.empty_clouds.new.shelf)
     (g.V.Shelf.cloud_at c.empty_clouds.new.shelf) (g.K.Sink.written c.args.sink.now) (λ cloud. refl) c.in-Ok-first_line.ensures.header
-    (all_same s.shape start.old (g.V.Shelf.cloud_at c.empty_clouds.new.shelf) c.in-Ok-empty_clouds.ensures.same) refl refl
+    (all_same (empty_stands c.law_of_no_commands.ensures.unbegun c.law_of_no_commands.ensures.stands) (header_in s) s.shape start.old (g.V.Shelf.cloud_at c.empty_clouds.new.shelf) c.in-Ok-empty_clouds.ensures.same) refl refl
 
 pub returns : goal.returns
 returns g c =

@@ -8,5 +8,5 @@ returns-then-has_request g c =
     let e = c.ask_cloud-lost.ensures in
     record {
       dropped = subst (λ (b : Bool). Drops g.V.Shelf.cloud_at c.args.lane.0 b c.args.request.now c.args.link.now c.ask_cloud-lost.new.self) (sym c.if-has_request.true)
-          (dropped g.V.Shelf.cloud_at c.args.lane.0 c.args.request.now c.args.link.now c.next_fate.new.self c.ask_cloud-lost.new.self c.next_fate.ensures c.requires.below e.next e.others e.rest e.same_reference e.executed e.images);
+          (dropped g.V.Shelf.cloud_at c.args.lane.0 c.args.request.now c.args.link.now c.next_fate.new.self c.ask_cloud-lost.new.self c.next_fate.ensures c.requires.below e.next e.others e.rest e.same_reference e.executed e.images e.rooms);
     }

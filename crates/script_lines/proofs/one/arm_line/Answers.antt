@@ -11,7 +11,7 @@ returns-clause-does g c =
     let e = c.arm.ensures in
     on_ok c.put_line.result _ _ (λ said s v is. (
       lines.Armed c.args.cloud ∷ [],
-      arm_goes g.V.Shelf.cloud_at s c.args.link.now c.arm.new.self c.args.cloud c.args.calls c.args.keep c.args.jobs.now v c.requires.below e.arms e.armed e.others e.rest e.still.1 is,
+      arm_goes g.V.Shelf.cloud_at s c.args.link.now c.arm.new.self c.args.cloud c.args.calls c.args.keep c.args.jobs.now v c.requires.below e.arms e.armed e.others e.rest e.still.0 e.still.1 is,
       said,
     )) c.put_line.ensures.ok
 
@@ -20,4 +20,4 @@ returns-clause-cut g c =
     let e = c.arm.ensures in
     on_err c.put_line.result _ (λ s v is.
     cut_behind g.V.Shelf.cloud_at s (events.Arm c.args.cloud c.args.calls c.args.keep) c.args.link.now c.arm.new.self c.args.jobs.now v (lines.Armed c.args.cloud ∷ [])
-    (arm_goes g.V.Shelf.cloud_at s c.args.link.now c.arm.new.self c.args.cloud c.args.calls c.args.keep c.args.jobs.now v c.requires.below e.arms e.armed e.others e.rest e.still.1 is))
+    (arm_goes g.V.Shelf.cloud_at s c.args.link.now c.arm.new.self c.args.cloud c.args.calls c.args.keep c.args.jobs.now v c.requires.below e.arms e.armed e.others e.rest e.still.0 e.still.1 is))

@@ -26,7 +26,7 @@ returns-in-Ok-put_line-clause-does g c s v is =
       c.new_store_line.result ∷ [],
       replace_goes g.V.Shelf.cloud_at s c.args.link.now c.replace.new.self c.reopen-begun.new.self c.args.cloud.0 c.reopen-begun.result c.new_store_line.result c.in-Ok.field-0
           (g.V.Shelf.faults c.replace.new.self.shelf.now) (g.V.Shelf.faults c.reopen-begun.new.self.shelf.now)
-          (record { below = c.requires.below; replaced = λ p stands. one.replaced p stands; refreshed = one.refreshed; others = one.others; rest = one.rest; fate = one.still.0; opened = record { peer = λ p told stands. two.peer p told stands; untold = λ p told stands. two.untold p told stands; counts = two.counts; images = two.images }; others_open = two.others; rest_open = two.rest; fate_open = two.still.0; said = c.new_store_line.ensures })
+          (record { below = c.requires.below; replaced = λ p stands. one.replaced p stands; refreshed = one.refreshed; others = one.others; rest = one.rest; rooms = one.rooms; fate = one.still.0; opened = record { peer = λ p told stands. two.peer p told stands; untold = λ p told stands. two.untold p told stands; counts = two.counts; images = two.images; rooms = two.rooms }; others_open = two.others; rest_open = two.rest; fate_open = two.still.0; said = c.new_store_line.ensures })
           v is.link_at c.args.jobs.now is,
       c.in-Ok-put_line.ensures.ok,
     )
@@ -38,5 +38,5 @@ returns-in-Err-put_line-clause-cut g c s v is =
     cut_behind g.V.Shelf.cloud_at s (events.Replace c.args.cloud) c.args.link.now c.reopen-begun.new.self c.args.jobs.now v (c.new_store_line.result ∷ [])
     (replace_goes g.V.Shelf.cloud_at s c.args.link.now c.replace.new.self c.reopen-begun.new.self c.args.cloud.0 c.reopen-begun.result c.new_store_line.result c.in-Ok.field-0
     (g.V.Shelf.faults c.replace.new.self.shelf.now) (g.V.Shelf.faults c.reopen-begun.new.self.shelf.now)
-    (record { below = c.requires.below; replaced = λ p stands. one.replaced p stands; refreshed = one.refreshed; others = one.others; rest = one.rest; fate = one.still.0; opened = record { peer = λ p told stands. two.peer p told stands; untold = λ p told stands. two.untold p told stands; counts = two.counts; images = two.images }; others_open = two.others; rest_open = two.rest; fate_open = two.still.0; said = c.new_store_line.ensures })
+    (record { below = c.requires.below; replaced = λ p stands. one.replaced p stands; refreshed = one.refreshed; others = one.others; rest = one.rest; rooms = one.rooms; fate = one.still.0; opened = record { peer = λ p told stands. two.peer p told stands; untold = λ p told stands. two.untold p told stands; counts = two.counts; images = two.images; rooms = two.rooms }; others_open = two.others; rest_open = two.rest; fate_open = two.still.0; said = c.new_store_line.ensures })
     v is.link_at c.args.jobs.now is)

@@ -8,7 +8,8 @@ pub returns-in-Ok-clause-served : goal.returns-in-Ok-clause-served
 returns-in-Ok-clause-served g c =
     let made = c.args.desk.now.server in
     let server = c.reopen.new.self in
-    let shape = made.state.header.shape in
+    let shape = made.store.header.shape in
+    let rooms = made.store.header.rooms in
     let r = c.reopen.ensures in
     let old = g.V.Shelf.cloud_at c.args.shelf.now in
     let mid = g.V.Shelf.cloud_at c.reopen.new.shelf in
@@ -16,8 +17,7 @@ returns-in-Ok-clause-served g c =
     let opening = reopened made server c.args.cloud old mid total (g.V.Shelf.faults c.reopen.new.shelf) c.reopen.result
     (Ok c.in-Ok.field-0)
     c.requires.of c.in-Ok.is (record {
-      header_is = r.same.header;
-      rooms_are = r.same.rooms;
+      header_is = r.same;
       kept = r.kept;
       loaded = r.loaded;
       whole = r.whole;
@@ -37,10 +37,10 @@ returns-in-Ok-clause-served g c =
     let before = g.P.Ports.faults c.args.ports.now in
     let now = g.P.Ports.faults c.serve_all-served.new.ports in
     let status = status_by c.serve_all-served.result in
-    inr (by_status shape c.args.cloud c.args.address.now c.args.count out old total before now opened new
+    inr (by_status shape rooms c.args.cloud c.args.address.now c.args.count out old total before now opened new
     c.in-Ok.field-0 status c.status_of.result opening
     (served_by_own status _ opened new c.args.address.now c.args.count out before now opening.header_is
-    opening.rooms_are c.serve_all-served.ensures)
+    c.serve_all-served.ensures)
     (sym c.status_of.ensures))
 
 pub returns-in-Err-clause-served : goal.returns-in-Err-clause-served
@@ -48,12 +48,11 @@ returns-in-Err-clause-served g c =
     let made = c.args.desk.now.server in
     let server = c.reopen.new.self in
     let r = c.reopen.ensures in
-    inl (unopened _ server c.in-Err.error
+    inl (unopened _ _ server c.in-Err.error
     (reopened made server c.args.cloud (g.V.Shelf.cloud_at c.args.shelf.now) (g.V.Shelf.cloud_at c.reopen.new.shelf)
     (g.V.Shelf.faults c.args.shelf.now) (g.V.Shelf.faults c.reopen.new.shelf) c.reopen.result (Err c.in-Err.error)
     c.requires.of c.in-Err.is (record {
-      header_is = r.same.header;
-      rooms_are = r.same.rooms;
+      header_is = r.same;
       kept = r.kept;
       loaded = r.loaded;
       whole = r.whole;

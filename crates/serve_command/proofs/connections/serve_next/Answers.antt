@@ -1,7 +1,7 @@
 use Rattle.std.proofs.Common.{sym, ap, ◌∙◌, subst}
 use Rattle.cd_edges.specs.Ports.{Telling}
 use Rattle.serve_command.specs.Serving.{RepliesOne, ServesOne}
-use Rattle.share_server.specs.Serving.{server_serves}
+use Rattle.cloud_server.specs.Serving.{server_serves}
 use Rattle.serve_command.specs.Steps.{OneServed}
 use Rattle.serve_command.proofs.Passing.{one_served}
 use Rattle.serve_command.proofs.connections.serve_next.Goals as goal
@@ -15,7 +15,7 @@ returns-clause-goes g c =
     let mid = g.P.Ports.tells c.accept.new.self in
     let new = g.P.Ports.tells c.serve_connection-served.new.ports in
     let ended = c.serve_connection-served.result in
-    let shape = c.args.desk.now.server.state.header.shape in
+    let shape = c.args.desk.now.server.store.header.shape in
     let serves = ServesOne shape (server_serves c.args.desk.now.server) in
     record {
       same = b.same;

@@ -10,13 +10,13 @@ returns-clause-answers g c =
       same = e.same;
       exec = e.exec;
       malformed = λ at is. let m = e.malformed at is in (m.0, m.1, ap g.V.Shelf.cloud_at m.2);
-      replied = replied c.args.server.now.state.header.shape c.args.request.now c.execute.new.reply c.execute.new.self.state _ _ _ _ e.untold (λ at is. (e.malformed at is).0);
+      replied = replied c.args.server.now.store.header.shape c.args.request.now c.execute.new.reply c.execute.new.self.store _ _ _ _ e.untold (λ at is. (e.malformed at is).0);
       call = e.call;
     }
 
 pub returns-clause-content : goal.returns-clause-content
 returns-clause-content g c =
     let e = c.execute.ensures in
-    let shape = c.args.server.now.state.header.shape in
-    let one : RepliesOne shape tt c.args.request.now c.execute.new.reply tt = replied shape c.args.request.now c.execute.new.reply c.execute.new.self.state _ _ _ _ e.untold (λ at is. (e.malformed at is).0) in
+    let shape = c.args.server.now.store.header.shape in
+    let one : RepliesOne shape tt c.args.request.now c.execute.new.reply tt = replied shape c.args.request.now c.execute.new.reply c.execute.new.self.store _ _ _ _ e.untold (λ at is. (e.malformed at is).0) in
     (some_content shape c.args.request.now c.execute.new.reply one, c.content-content.ensures.few)

@@ -1,10 +1,10 @@
 use Rattle.std.proofs.Common.{refl, sym, subst, arith, inl, inr}
 use Rattle.std.proofs.lemmas.Bool.{ltb-true}
 use Rattle.user_dedup.specs.Link.{LeavesOthers, serves}
-use Rattle.cloud_store.specs.Standing.{MayBecome}
-use Rattle.local_link.specs.Tells.{server_at, telling, LeavesRest}
-use Rattle.local_link.proofs.Standing.{rest_by, others_by, full_same, here_now}
-use Rattle.local_link.proofs.Executing.{goes_on, refused_clouds, clouds_counted, refuses, refused_reply, images_since, images_stay, peer_counted, images_counted, replied_here, uncounted_here, called_here, closed_here, none_called, calls_counted, replied_counted, closed_counted, total_counted, opened_here, found_here, opened_counted, found_counted}
+use Rattle.cloud_areas.specs.Peers.{MayBecome}
+use Rattle.local_link.specs.Tells.{server_at, rooms_at, header_at, telling, LeavesRest}
+use Rattle.local_link.proofs.Standing.{rest_by, others_by, rooms_same, here_now, images_now}
+use Rattle.local_link.proofs.Executing.{goes_on, refused_clouds, clouds_counted, refuses, refused_reply, images_since, images_stay, peer_counted, images_counted, replied_here, uncounted_here, called_here, closed_here, none_called, calls_counted, replied_counted, closed_counted, total_counted, opened_here, found_here, opened_counted, found_counted, rooms_counted, behind_here, behind_counted, first_here, first_counted}
 use Rattle.local_link.proofs.link.LocalLink.ask_cloud.Goals as goal
 
 pub returns-in-Deliver-clause-executed : goal.returns-in-Deliver-clause-executed
@@ -38,7 +38,7 @@ returns-in-Deliver-clause-others g c =
     let e = c.execute.ensures in
     let lt = ltb-true c.args.cloud.0 c.args.self.now.servers.shape.n c.requires.reached in
     others_by g.V.Shelf.cloud_at c.args.cloud.0 c.args.self.now _ (rest_by g.V.Shelf.cloud_at c.args.cloud.0 c.args.self.now _ e.0 e.1 _ _ e.2 e.3.call)
-    (full_same _ _ e.0 e.1 e.2.here (here_now c.args.self.now.servers c.execute.new.self c.args.cloud.0 e.0 e.1 e.2 lt) e.3.same.rooms)
+    (rooms_same _ _ e.0 e.1 e.2.here (here_now c.args.self.now.servers c.execute.new.self c.args.cloud.0 e.0 e.1 e.2 lt) e.3.same)
 
 pub returns-in-Deliver-clause-images : goal.returns-in-Deliver-clause-images
 returns-in-Deliver-clause-images g c = λ p r told is asked.
@@ -55,9 +55,10 @@ returns-in-LoseRequest-clause-exec g c = λ r asked p is. (
 
 pub returns-in-LoseRequest-clause-images : goal.returns-in-LoseRequest-clause-images
 returns-in-LoseRequest-clause-images g c = λ p r told is asked.
-    images_counted g.V.Shelf.cloud_at _ c.lose.new.self c.args.cloud.0 (g.V.Shelf.cloud_at c.args.self.now.shelf.now c.args.cloud.0) (server_at c.args.self.now.servers c.args.cloud.0)
+    images_counted g.V.Shelf.cloud_at _ c.lose.new.self c.args.cloud.0 (g.V.Shelf.cloud_at c.args.self.now.shelf.now c.args.cloud.0) (header_at c.args.self.now.servers c.args.cloud.0)
     (MayBecome (serves (telling g.V.Shelf.cloud_at) c.args.self.now c.args.cloud.0) p r) c.lose.ensures.counted
-    (images_stay (server_at c.args.self.now.servers c.args.cloud.0) (serves (telling g.V.Shelf.cloud_at) c.args.self.now c.args.cloud.0) (g.V.Shelf.cloud_at c.args.self.now.shelf.now c.args.cloud.0) p r (is.serving told))
+    (images_stay (header_at c.args.self.now.servers c.args.cloud.0) (serves (telling g.V.Shelf.cloud_at) c.args.self.now c.args.cloud.0) (g.V.Shelf.cloud_at c.args.self.now.shelf.now c.args.cloud.0) p r
+    (images_now c.args.self.now.servers c.args.cloud.0 (g.V.Shelf.cloud_at c.args.self.now.shelf.now c.args.cloud.0) p (ltb-true c.args.cloud.0 c.args.self.now.servers.shape.n c.requires.reached) told is))
 
 pub returns-in-LoseReply-clause-executed : goal.returns-in-LoseReply-clause-executed
 returns-in-LoseReply-clause-executed g c = λ ne r asked p is.
@@ -93,12 +94,12 @@ returns-in-LoseReply-clause-others g c =
     let lt = ltb-true c.args.cloud.0 c.args.self.now.servers.shape.n c.requires.reached in
     subst (LeavesOthers (telling g.V.Shelf.cloud_at) c.args.cloud.0 c.args.self.now) (sym c.lose-in-LoseReply.ensures.counted)
     (others_by g.V.Shelf.cloud_at c.args.cloud.0 c.args.self.now _ (rest_by g.V.Shelf.cloud_at c.args.cloud.0 c.args.self.now _ e.0 e.1 _ _ e.2 e.3.call)
-    (full_same _ _ e.0 e.1 e.2.here (here_now c.args.self.now.servers c.execute-in-LoseReply.new.self c.args.cloud.0 e.0 e.1 e.2 lt) e.3.same.rooms))
+    (rooms_same _ _ e.0 e.1 e.2.here (here_now c.args.self.now.servers c.execute-in-LoseReply.new.self c.args.cloud.0 e.0 e.1 e.2 lt) e.3.same))
 
 pub returns-in-LoseReply-clause-images : goal.returns-in-LoseReply-clause-images
 returns-in-LoseReply-clause-images g c = λ p r told is asked.
     let e = c.execute-in-LoseReply.ensures in
-    images_counted g.V.Shelf.cloud_at _ c.lose-in-LoseReply.new.self c.args.cloud.0 (g.V.Shelf.cloud_at c.args.self.now.shelf.now c.args.cloud.0) (server_at c.args.self.now.servers c.args.cloud.0)
+    images_counted g.V.Shelf.cloud_at _ c.lose-in-LoseReply.new.self c.args.cloud.0 (g.V.Shelf.cloud_at c.args.self.now.shelf.now c.args.cloud.0) (header_at c.args.self.now.servers c.args.cloud.0)
     (MayBecome (serves (telling g.V.Shelf.cloud_at) c.args.self.now c.args.cloud.0) p r) c.lose-in-LoseReply.ensures.counted
     (images_since c.args.self.now.servers c.execute-in-LoseReply.new.self c.args.cloud.0 e.0 e.1 e.2 (ltb-true c.args.cloud.0 c.args.self.now.servers.shape.n c.requires.reached)
     (g.V.Shelf.cloud_at c.args.self.now.shelf.now) (g.V.Shelf.cloud_at c.execute-in-LoseReply.new.shelf) _ _ c.args.request.now c.execute-in-LoseReply.new.reply e.3 p r told is asked)
@@ -222,4 +223,51 @@ returns-in-LoseReply-clause-found g c = λ ne r asked.
       found_counted g.V.Shelf.cloud_at _ c.lose-in-LoseReply.new.self c.args.cloud.0 r _ c.lose-in-LoseReply.ensures.counted
           (found_here c.args.self.now.servers c.execute-in-LoseReply.new.self c.args.cloud.0 e.0 e.1 e.2 (ltb-true c.args.cloud.0 c.args.self.now.servers.shape.n c.requires.reached)
           (g.V.Shelf.cloud_at c.args.self.now.shelf.now) (g.V.Shelf.cloud_at c.execute-in-LoseReply.new.shelf) _ _ c.args.request.now c.execute-in-LoseReply.new.reply e.3 r asked),
+    )
+
+pub returns-in-Deliver-clause-rooms : goal.returns-in-Deliver-clause-rooms
+returns-in-Deliver-clause-rooms g c =
+    let e = c.execute.ensures in
+    rooms_same _ _ e.0 e.1 e.2.here (here_now c.args.self.now.servers c.execute.new.self c.args.cloud.0 e.0 e.1 e.2 (ltb-true c.args.cloud.0 c.args.self.now.servers.shape.n c.requires.reached)) e.3.same
+
+pub returns-in-LoseRequest-clause-rooms : goal.returns-in-LoseRequest-clause-rooms
+returns-in-LoseRequest-clause-rooms g c =
+    rooms_counted _ c.lose.new.self c.args.cloud.0 (rooms_at c.args.self.now.servers c.args.cloud.0) c.lose.ensures.counted refl
+
+pub returns-in-LoseReply-clause-rooms : goal.returns-in-LoseReply-clause-rooms
+returns-in-LoseReply-clause-rooms g c =
+    let e = c.execute-in-LoseReply.ensures in
+    rooms_counted _ c.lose-in-LoseReply.new.self c.args.cloud.0 (rooms_at c.args.self.now.servers c.args.cloud.0) c.lose-in-LoseReply.ensures.counted
+    (rooms_same _ _ e.0 e.1 e.2.here (here_now c.args.self.now.servers c.execute-in-LoseReply.new.self c.args.cloud.0 e.0 e.1 e.2 (ltb-true c.args.cloud.0 c.args.self.now.servers.shape.n c.requires.reached)) e.3.same)
+
+pub returns-in-Deliver-clause-behind : goal.returns-in-Deliver-clause-behind
+returns-in-Deliver-clause-behind g c = λ ne r asked.
+    let e = c.execute.ensures in
+    behind_here c.args.self.now.servers c.execute.new.self c.args.cloud.0 e.0 e.1 e.2 (ltb-true c.args.cloud.0 c.args.self.now.servers.shape.n c.requires.reached)
+    (g.V.Shelf.cloud_at c.args.self.now.shelf.now) (g.V.Shelf.cloud_at c.execute.new.shelf) _ _ c.args.request.now c.execute.new.reply e.3 r asked
+
+pub returns-in-LoseReply-clause-behind : goal.returns-in-LoseReply-clause-behind
+returns-in-LoseReply-clause-behind g c = λ ne r asked.
+    let e = c.execute-in-LoseReply.ensures in
+    behind_counted g.V.Shelf.cloud_at _ c.lose-in-LoseReply.new.self c.args.cloud.0 (server_at c.args.self.now.servers c.args.cloud.0) (g.V.Shelf.cloud_at c.args.self.now.shelf.now c.args.cloud.0) r c.lose-in-LoseReply.ensures.counted
+    (behind_here c.args.self.now.servers c.execute-in-LoseReply.new.self c.args.cloud.0 e.0 e.1 e.2 (ltb-true c.args.cloud.0 c.args.self.now.servers.shape.n c.requires.reached)
+    (g.V.Shelf.cloud_at c.args.self.now.shelf.now) (g.V.Shelf.cloud_at c.execute-in-LoseReply.new.shelf) _ _ c.args.request.now c.execute-in-LoseReply.new.reply e.3 r asked)
+
+pub returns-in-Deliver-clause-first : goal.returns-in-Deliver-clause-first
+returns-in-Deliver-clause-first g c = λ ne r told asked.
+    let e = c.execute.ensures in (
+      c.execute.new.reply,
+      refl,
+      first_here c.args.self.now.servers c.execute.new.self c.args.cloud.0 e.0 e.1 e.2 (ltb-true c.args.cloud.0 c.args.self.now.servers.shape.n c.requires.reached)
+          (g.V.Shelf.cloud_at c.args.self.now.shelf.now) (g.V.Shelf.cloud_at c.execute.new.shelf) _ _ c.args.request.now c.execute.new.reply e.3 r told asked,
+    )
+
+pub returns-in-LoseReply-clause-first : goal.returns-in-LoseReply-clause-first
+returns-in-LoseReply-clause-first g c = λ ne r told asked.
+    let e = c.execute-in-LoseReply.ensures in (
+      c.execute-in-LoseReply.new.reply,
+      tt,
+      first_counted g.V.Shelf.cloud_at _ c.lose-in-LoseReply.new.self c.args.cloud.0 (server_at c.args.self.now.servers c.args.cloud.0) (g.V.Shelf.cloud_at c.args.self.now.shelf.now c.args.cloud.0) r _ c.lose-in-LoseReply.ensures.counted
+          (first_here c.args.self.now.servers c.execute-in-LoseReply.new.self c.args.cloud.0 e.0 e.1 e.2 (ltb-true c.args.cloud.0 c.args.self.now.servers.shape.n c.requires.reached)
+          (g.V.Shelf.cloud_at c.args.self.now.shelf.now) (g.V.Shelf.cloud_at c.execute-in-LoseReply.new.shelf) _ _ c.args.request.now c.execute-in-LoseReply.new.reply e.3 r told asked),
     )

@@ -1,5 +1,5 @@
 use Rattle.std.proofs.lemmas.Bool.{ltb-true}
-use Rattle.local_link.proofs.Standing.{rest_by, others_by, full_same, here_now}
+use Rattle.local_link.proofs.Standing.{rest_by, others_by, rooms_same, here_now}
 use Rattle.local_link.proofs.Calling.{reopens, loaded_here, whole_here, opens_here, shut_here, not_begun_here, counts_here, untold_here, opened_images, exact_here, other_here, areas_here, call_here}
 use Rattle.local_link.proofs.link.LocalLink.reopen.Goals as goal
 
@@ -23,7 +23,7 @@ returns-clause-others g c =
     let e = c.reopen.ensures in
     let lt = ltb-true c.args.cloud.0 c.args.self.now.servers.shape.n c.requires in
     others_by g.V.Shelf.cloud_at c.args.cloud.0 c.args.self.now _ (rest_by g.V.Shelf.cloud_at c.args.cloud.0 c.args.self.now _ e.0 e.1 _ _ e.2 e.3.call)
-    (full_same _ _ e.0 e.1 e.2.here (here_now c.args.self.now.servers c.reopen.new.self c.args.cloud.0 e.0 e.1 e.2 lt) e.3.same.rooms)
+    (rooms_same _ _ e.0 e.1 e.2.here (here_now c.args.self.now.servers c.reopen.new.self c.args.cloud.0 e.0 e.1 e.2 lt) e.3.same)
 
 pub returns-clause-opens : goal.returns-clause-opens
 returns-clause-opens g c =
@@ -48,9 +48,6 @@ returns-clause-untold g c =
     let e = c.reopen.ensures in
     untold_here c.args.self.now.servers c.reopen.new.self c.args.cloud.0 e.0 e.1 e.2 (ltb-true c.args.cloud.0 c.args.self.now.servers.shape.n c.requires)
     (g.V.Shelf.cloud_at c.args.self.now.shelf.now) (g.V.Shelf.cloud_at c.reopen.new.shelf) _ _ c.args.begin c.reopen.result e.3
-
-pub returns-clause-memory : goal.returns-clause-memory
-returns-clause-memory g c = c.reopen.ensures.3.memory
 
 pub returns-clause-counts : goal.returns-clause-counts
 returns-clause-counts g c =
@@ -96,3 +93,9 @@ returns-clause-call g c =
     let e = c.reopen.ensures in
     call_here c.args.self.now.servers c.reopen.new.self c.args.cloud.0 e.0 e.1 e.2 (ltb-true c.args.cloud.0 c.args.self.now.servers.shape.n c.requires)
     (g.V.Shelf.cloud_at c.args.self.now.shelf.now) (g.V.Shelf.cloud_at c.reopen.new.shelf) _ _ c.args.begin c.reopen.result e.3
+
+pub returns-clause-rooms : goal.returns-clause-rooms
+returns-clause-rooms g c =
+    let e = c.reopen.ensures in
+    let lt = ltb-true c.args.cloud.0 c.args.self.now.servers.shape.n c.requires in
+    rooms_same _ _ e.0 e.1 e.2.here (here_now c.args.self.now.servers c.reopen.new.self c.args.cloud.0 e.0 e.1 e.2 lt) e.3.same

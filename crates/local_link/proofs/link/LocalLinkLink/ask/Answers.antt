@@ -7,4 +7,4 @@ pub returns-clause-passes : goal.returns-clause-passes
 returns-clause-passes g c =
     let e = c.ask_cloud.ensures in
     passes_by g.V.Shelf.cloud_at c.args.self.now c.ask_cloud.new.self c.args.cloud.0 c.args.request.now c.ask_cloud.new.reply c.ask_cloud.result
-    (ltb-true c.args.cloud.0 c.args.self.now.servers.shape.n c.requires.reached) (λ i. omega (arith, c.type_inv.request i)) e.rest e.others e.next e.same_reference e.exec e.images
+    (ltb-true c.args.cloud.0 c.args.self.now.servers.shape.n c.requires.reached) (λ i. omega (arith, c.type_inv.request i)) e.rest e.rooms e.next e.same_reference e.exec e.images

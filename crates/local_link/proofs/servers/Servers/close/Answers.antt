@@ -1,4 +1,5 @@
-use Rattle.std.proofs.Common.{refl}
+use Rattle.std.proofs.Common.{refl, ap}
+use Rattle.open_store.specs.declared.store.OpenStore.{OpenStore}
 use Rattle.local_link.proofs.Placing.{stands_at}
 use Rattle.local_link.proofs.servers.Servers.close.Goals as goal
 
@@ -11,5 +12,5 @@ returns c = (
     list = refl;
     shape = refl;
   },
-  record { same = c.close.ensures.same; shut = c.close.ensures.shut },
+  record { same = ap (λ (s : OpenStore). s.header) c.close.ensures.same; shut = c.close.ensures.closed },
 )

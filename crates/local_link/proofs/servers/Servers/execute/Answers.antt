@@ -19,6 +19,8 @@ returns g c = (
     uncounted = λ at asked. ap g.V.Shelf.faults (c.execute.ensures.malformed at asked).2;
     untold = λ r asked. let e = c.execute.ensures.untold r asked in record { answer = e.0; is = e.1; kind = e.2; memory = e.3; fault = λ f. (e.4 f).0; still = e.5 };
     closed = c.execute.ensures.closed;
+    first = c.execute.ensures.first;
+    behind = c.execute.ensures.behind;
     opened = λ r is_open asked. record {
       undamaged = λ at byte damaged. c.execute.ensures.undamaged r at byte is_open asked damaged;
       untouched = λ answer leaves is.

@@ -1,5 +1,5 @@
 use Rattle.std.proofs.Common.{◌+◌, refl, subst, sym, arith, List}
-use Rattle.share_server.specs.declared.server.Server.{Server}
+use Rattle.cloud_server.specs.declared.server.Server.{Server}
 use Rattle.local_link.proofs.Placing.{Made, none_made, one_made}
 use Rattle.local_link.proofs.servers.Servers.make.Goals as goal
 
@@ -9,7 +9,7 @@ loop-number-init c = none_made c.args.shape c.args.rooms c.new-list.result.items
 pub loop-number-preserved : goal.loop-number-preserved
 loop-number-preserved c =
     subst (λ (l : List Server). Made c.args.shape c.args.rooms l (c.loop-number.number + 1)) (sym c.in_ok-push.ensures.items)
-    (one_made c.args.shape c.args.rooms c.loop-number.list.items c.loop-number.number (record { 0 = c.loop-number.number }) c.in_ok-make.field-0 c.loop-number.invariant refl c.in_ok-make.ensures.of c.in_ok-make.ensures.shut)
+    (one_made c.args.shape c.args.rooms c.loop-number.list.items c.loop-number.number (record { 0 = c.loop-number.number }) c.in_ok-make.field-0 c.loop-number.invariant refl c.in_ok-make.ensures.of c.in_ok-make.ensures.closed)
 
 pub invariant_of-result : goal.invariant_of-result
 invariant_of-result c = record {

@@ -15,7 +15,6 @@ returns g c = (
     same = c.reopen.ensures.same;
     opens = c.reopen.ensures.open;
     shut = c.reopen.ensures.shut;
-    memory = c.reopen.ensures.memory;
     counts = c.reopen.ensures.counts;
     not_begun = c.reopen.ensures.not_begun;
     peer = c.reopen.ensures.peer;

@@ -1,4 +1,0 @@
-pub mod Memory
-pub mod News
-pub mod Taking
-pub mod Steps

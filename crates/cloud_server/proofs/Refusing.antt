@@ -1,0 +1,149 @@
+-- What the replies aren't that say that a server isn't opened, or that a device failed.
+use Rattle.std.proofs.Common.{◌≡◌, ℕ, List, ◌∷◌, get_or, refl, sym, ap, ◌∙◌, subst, arith}
+use Rattle.std.specs.Prelude.{◌≢◌}
+use Rattle.cd_base.specs.declared.ids.Fp.{Fp}
+use Rattle.cd_base.specs.declared.shape.Shape.{Shape}
+use Rattle.cd_edges.specs.Causes.{Rose}
+use Rattle.cd_edges.specs.Disk.{Cloud}
+use Rattle.cd_edges.specs.Shelf.{HasFailed, KeepsCounts}
+use Rattle.half_journal.specs.declared.errors.OpenErr.{OpenErr}
+use Rattle.half_journal.specs.declared.errors.OpenErr.TheVariants as errors
+use Rattle.half_journal.specs.Openings.{OnFault}
+use Rattle.messages.specs.declared.request.Request.{Request}
+use Rattle.messages.specs.declared.request.Request.TheVariants as requests
+use Rattle.messages.specs.declared.reply.Reply.{Reply}
+use Rattle.messages.specs.declared.reply.Reply.TheVariants as replies
+use Rattle.messages.specs.Replies.{IsReply, reply_bytes}
+use Rattle.server_commands.specs.Leaving.{StoresNothing, EntersNothing, FindsNone, FindsForeign, LeavesAll}
+use Rattle.open_store.specs.declared.store.OpenStore.{OpenStore}
+use Rattle.open_store.specs.Store.{IsOpen}
+use Rattle.cloud_server.specs.Refusals.{IsRefusal, Refuses, MayCome}
+use Rattle.cloud_server.specs.Serving.{Answered, an_error}
+
+kinds : (content : List ℕ) (a b : ℕ) (xs ys : List ℕ) → content ≡ a ∷ xs → content ≡ b ∷ ys → a ≡ b
+kinds content a b xs ys one two = ap (λ (l : List ℕ). get_or l 0 0) (sym one ∙ two)
+
+rotten_or : (content : List ℕ) (reply : Reply) (same : Reply) (named found : Fp) → IsReply content reply → reply ≡ same → IsReply content (replies.Rotten named found)
+    → content ≡ reply_bytes same
+rotten_or content reply same named found is e rotten = is.spelled ∙ ap reply_bytes e
+
+-- a refusal isn't Rotten
+refusal_kind : (error : OpenErr) (content : List ℕ) (reply : Reply) (named found : Fp) → IsReply content reply → IsRefusal error reply → IsReply content (replies.Rotten named found) → ⊥
+refusal_kind errors.Fault content reply named found is e rotten =
+    omega (arith, kinds content 141 143 _ _ (rotten_or content reply replies.Fault named found is e rotten) rotten.spelled)
+refusal_kind (errors.Damaged at byte) content reply named found is e rotten =
+    omega (arith, kinds content 142 143 _ _ (rotten_or content reply (replies.Damaged at byte) named found is e rotten) rotten.spelled)
+refusal_kind (errors.OtherStore other asked at) content reply named found is e rotten =
+    omega (arith, kinds content 142 143 _ _ (rotten_or content reply (replies.Damaged e.0 e.1) named found is e.2 rotten) rotten.spelled)
+refusal_kind (errors.NotBegun len) content reply named found is e rotten = e
+
+pub not_rotten : (error : OpenErr) (content : List ℕ) (named found : Fp) → Refuses error content → IsReply content (replies.Rotten named found) → ⊥
+not_rotten error content named found refuses rotten = refusal_kind error content refuses.reply named found refuses.is refuses.refusal rotten
+
+-- Fault isn't Damaged
+pub fault_not_damaged : (content : List ℕ) (at byte : ℕ) → IsReply content replies.Fault → IsReply content (replies.Damaged at byte) → ⊥
+fault_not_damaged content at byte fault damaged = omega (arith, kinds content 141 142 _ _ fault.spelled damaged.spelled)
+
+pub fault_not_rotten : (content : List ℕ) (named found : Fp) → IsReply content replies.Fault → IsReply content (replies.Rotten named found) → ⊥
+fault_not_rotten content named found fault rotten = omega (arith, kinds content 141 143 _ _ fault.spelled rotten.spelled)
+
+-- nor a reply that leaves all as it was
+stores : (content : List ℕ) (answer : Reply) → StoresNothing answer → content ≡ reply_bytes replies.Fault → content ≡ reply_bytes answer → ⊥
+stores content (replies.Stored new) leaves fault is = omega (arith, kinds content 141 131 _ _ fault is)
+stores content (replies.Full room used need limit) leaves fault is = omega (arith, kinds content 141 140 _ _ fault is)
+stores content answer leaves fault is = elim leaves [ ]
+
+enters : (content : List ℕ) (answer : Reply) → EntersNothing answer → content ≡ reply_bytes replies.Fault → content ≡ reply_bytes answer → ⊥
+enters content (replies.Lacking place) leaves fault is = omega (arith, kinds content 141 134 _ _ fault is)
+enters content (replies.Full room used need limit) leaves fault is = omega (arith, kinds content 141 140 _ _ fault is)
+enters content answer leaves fault is = elim leaves [ ]
+
+finds_none : (content : List ℕ) (answer : Reply) → FindsNone answer → content ≡ reply_bytes replies.Fault → content ≡ reply_bytes answer → ⊥
+finds_none content replies.Missing leaves fault is = omega (arith, kinds content 141 136 _ _ fault is)
+finds_none content answer leaves fault is = elim leaves [ ]
+
+finds_foreign : (content : List ℕ) (answer : Reply) → FindsForeign answer → content ≡ reply_bytes replies.Fault → content ≡ reply_bytes answer → ⊥
+finds_foreign content (replies.NotYours place) leaves fault is = omega (arith, kinds content 141 138 _ _ fault is)
+finds_foreign content answer leaves fault is = elim leaves [ ]
+
+pub fault_leaves : (content : List ℕ) (request : Request) (answer : Reply) → LeavesAll request answer → IsReply content replies.Fault → IsReply content answer → ⊥
+fault_leaves content requests.Hello answer leaves fault is = leaves
+fault_leaves content (requests.Query user fps) answer leaves fault is = leaves
+fault_leaves content (requests.Put user shares) answer leaves fault is = stores content answer leaves fault.spelled is.spelled
+fault_leaves content (requests.Commit user tag version recipe) answer leaves fault is = enters content answer leaves fault.spelled is.spelled
+fault_leaves content (requests.GetRecipe user tag version) answer leaves fault is = finds_none content answer leaves fault.spelled is.spelled
+fault_leaves content (requests.GetShares user fps) answer leaves fault is = finds_foreign content answer leaves fault.spelled is.spelled
+fault_leaves content (requests.List user after) answer leaves fault is = leaves
+fault_leaves content (requests.Delete user tag version) answer leaves fault is = finds_none content answer leaves fault.spelled is.spelled
+
+-- a reply that isn't Damaged has another content
+pub not_damaged : (content : List ℕ) (reply : Reply) (at byte : ℕ) → ((a b : ℕ) → reply ≢ replies.Damaged a b) → content ≡ reply_bytes reply → content ≡ reply_bytes (replies.Damaged at byte) → ⊥
+not_damaged content (replies.Hello n k cloud format) at byte never is damaged = omega (arith, kinds content 129 142 _ _ is damaged)
+not_damaged content (replies.Known flags) at byte never is damaged = omega (arith, kinds content 130 142 _ _ is damaged)
+not_damaged content (replies.Stored new) at byte never is damaged = omega (arith, kinds content 131 142 _ _ is damaged)
+not_damaged content replies.Committed at byte never is damaged = omega (arith, kinds content 132 142 _ _ is damaged)
+not_damaged content replies.Exists at byte never is damaged = omega (arith, kinds content 133 142 _ _ is damaged)
+not_damaged content (replies.Lacking place) at byte never is damaged = omega (arith, kinds content 134 142 _ _ is damaged)
+not_damaged content (replies.Recipe bytes) at byte never is damaged = omega (arith, kinds content 135 142 _ _ is damaged)
+not_damaged content replies.Missing at byte never is damaged = omega (arith, kinds content 136 142 _ _ is damaged)
+not_damaged content (replies.Shares shares) at byte never is damaged = omega (arith, kinds content 137 142 _ _ is damaged)
+not_damaged content (replies.NotYours place) at byte never is damaged = omega (arith, kinds content 138 142 _ _ is damaged)
+not_damaged content (replies.Entries keys) at byte never is damaged = omega (arith, kinds content 139 142 _ _ is damaged)
+not_damaged content (replies.Full room used need limit) at byte never is damaged = omega (arith, kinds content 140 142 _ _ is damaged)
+not_damaged content replies.Fault at byte never is damaged = omega (arith, kinds content 141 142 _ _ is damaged)
+not_damaged content (replies.Damaged a b) at byte never is damaged = never a b refl
+not_damaged content (replies.Rotten named found) at byte never is damaged = omega (arith, kinds content 143 142 _ _ is damaged)
+not_damaged content (replies.Malformed wrong) at byte never is damaged = omega (arith, kinds content 144 142 _ _ is damaged)
+not_damaged content replies.NoMemory at byte never is damaged = omega (arith, kinds content 145 142 _ _ is damaged)
+not_damaged content replies.Deleted at byte never is damaged = omega (arith, kinds content 146 142 _ _ is damaged)
+
+-- ---- the reply to an error
+
+pub fault_answered : (shape : Shape) (r : Request) (s : OpenStore) (old new : Cloud) (before now : ℕ) (content : List ℕ) → IsReply content replies.Fault → HasFailed old new before now
+    → ¬ (IsOpen s) → Answered shape r s old new before now content
+fault_answered shape r s old new before now content is failed shut = (
+  replies.Fault,
+  is,
+  tt,
+  λ e. (let f : replies.Fault ≡ replies.NoMemory = e in cc),
+  λ fault. (failed, shut),
+  λ other. absurd (other refl),
+)
+
+pub refused_answered : (shape : Shape) (r : Request) (error : OpenErr) (s : OpenStore) (old new : Cloud) (before now : ℕ) (content : List ℕ) → MayCome error → ¬ (IsOpen s)
+    → OnFault (an_error error) (HasFailed old new before now) (KeepsCounts old new before now) → Refuses error content → Answered shape r s old new before now content
+refused_answered shape r errors.Fault s old new before now content may shut counts refuses =
+    fault_answered shape r s old new before now content (subst (IsReply content) refuses.refusal refuses.is) counts shut
+refused_answered shape r (errors.Damaged at byte) s old new before now content may shut counts refuses = (
+  replies.Damaged at byte,
+  subst (IsReply content) refuses.refusal refuses.is,
+  tt,
+  λ e. (let f : replies.Damaged at byte ≡ replies.NoMemory = e in cc),
+  λ fault. absurd (let f : replies.Damaged at byte ≡ replies.Fault = fault in cc),
+  λ other. counts,
+)
+refused_answered shape r (errors.OtherStore found asked at) s old new before now content may shut counts refuses =
+    let place = refuses.refusal.0 in let byte = refuses.refusal.1 in (
+      replies.Damaged place byte,
+      subst (IsReply content) refuses.refusal.2 refuses.is,
+      tt,
+      λ e. (let f : replies.Damaged place byte ≡ replies.NoMemory = e in cc),
+      λ fault. absurd (let f : replies.Damaged place byte ≡ replies.Fault = fault in cc),
+      λ other. counts,
+    )
+refused_answered shape r (errors.NotBegun len) s old new before now content may shut counts refuses = absurd may
+
+-- ---- behind an opening that kept the counts
+
+pub answered_behind : (shape : Shape) (r : Request) (s : OpenStore) (old mid new : Cloud) (first second third : ℕ) (content : List ℕ) → KeepsCounts old mid first second
+    → Answered shape r s mid new second third content → Answered shape r s old new first third content
+answered_behind shape r s old mid new first second third content keeps a = (
+  a.0,
+  a.1,
+  a.2,
+  a.3,
+  λ fault.
+      let f = a.4 fault in
+      (record { cloud = subst (λ (n : ℕ). Rose n new.faults) keeps.cloud f.0.cloud; total = subst (λ (n : ℕ). Rose n third) keeps.total f.0.total }, f.1),
+  λ other. (let k = a.5 other in record { cloud = k.cloud ∙ keeps.cloud; total = k.total ∙ keeps.total }),
+)

@@ -1,0 +1,35 @@
+use Rattle.std.proofs.Common.{◌≡◌, ◌⊎◌, ℕ, Ok, Result, sym, ◌∙◌, subst}
+use Rattle.messages.specs.declared.request.Request.{Request}
+use Rattle.server_requests.specs.Asking.{request_of}
+use Rattle.cloud_server.specs.Serving.{ExecutesAs, ChangesBehind, OpensFirst, Refused}
+use Rattle.cloud_server.proofs.server.Server.execute.Goals as goal
+
+asks : Request → Result Request ℕ
+asks r = Ok r
+
+same_asked : (a b : Request) → asks a ≡ asks b → a ≡ b
+unfolding asks
+same_asked a b e = cc
+
+pub returns-in-Ok-clause-exec : goal.returns-in-Ok-clause-exec
+unfolding asks
+returns-in-Ok-clause-exec g c p r told serving asked =
+    let old = c.args.self.now.store in let after = g.V.Shelf.cloud_at c.answer.new.shelf old.header.cloud.0 in
+    subst (λ (x : Request). ExecutesAs old c.answer.new.store after p x c.answer.new.reply) (same_asked (request_of c.in-Ok.asked) r (sym c.in-Ok.ensures.reads ∙ asked)) (c.answer.ensures.exec p told serving)
+
+pub returns-in-Ok-clause-behind : goal.returns-in-Ok-clause-behind
+unfolding asks
+returns-in-Ok-clause-behind g c r opened asked =
+    let old = c.args.self.now.store in let at = g.V.Shelf.cloud_at in let number = old.header.cloud.0 in
+    subst (λ (x : Request). ChangesBehind old c.answer.new.store (at c.args.shelf.now number) (at c.answer.new.shelf number) x) (same_asked (request_of c.in-Ok.asked) r (sym c.in-Ok.ensures.reads ∙ asked))
+    (c.answer.ensures.behind opened)
+
+pub returns-in-Ok-clause-closed : goal.returns-in-Ok-clause-closed
+returns-in-Ok-clause-closed g c r told shut asked = c.answer.ensures.closed told shut
+
+pub returns-in-Ok-clause-first : goal.returns-in-Ok-clause-first
+unfolding asks
+returns-in-Ok-clause-first g c r told shut asked =
+    let old = c.args.self.now.store in let at = g.V.Shelf.cloud_at in let number = old.header.cloud.0 in let before = at c.args.shelf.now number in let after = at c.answer.new.shelf number in
+    subst (λ (x : Request). OpensFirst old c.answer.new.store before after x ⊎ Refused old before after c.answer.new.reply) (same_asked (request_of c.in-Ok.asked) r (sym c.in-Ok.ensures.reads ∙ asked))
+    (c.answer.ensures.first told shut)

@@ -1,5 +1,0 @@
-pub mod Holding
-pub mod Both
-pub mod Current
-pub mod Adding
-pub mod Standing

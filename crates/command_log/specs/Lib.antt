@@ -1,4 +1,0 @@
-pub mod Held
-pub mod Lending
-pub mod Logs
-pub mod Rooms

@@ -1,4 +1,0 @@
-pub mod Prepared
-pub mod Outcomes
-pub mod Answered
-pub mod Contents

@@ -1,0 +1,114 @@
+//! A deletion at the clouds at some addresses.
+
+ghost use Rattle.std.specs.Prelude.{◌≡◌, ◌≤◌, [], length, IfOk, IsTrue};
+ghost use Rattle.cd_base.specs.Limits.{IsPath};
+ghost use Rattle.caont_rs.specs.Package.{tag};
+ghost use Rattle.frames.specs.Frames.{IsContent};
+ghost use Rattle.messages.specs.declared.request.Request.TheVariants as requests;
+ghost use Rattle.messages.specs.Requests.{request_bytes};
+ghost use Rattle.ports_link.specs.Dialled.{OnlyDialled};
+ghost use Rattle.delete_command.specs.Steps.{Carries, of_asked};
+
+use crate::asking::{Halt, ask_each};
+use caont_rs::tag_of;
+use cd_base::{Bytes, NoMemory, Shape, UserId, Version};
+use cd_edges::Ports;
+use frames::ReplyBuf;
+use messages::Request;
+use ports_link::{Asked, MeetErr, Refused, meet_all};
+use std::alloc::Global;
+
+/// Why a version wasn't deleted at all clouds.
+#[derive(Clone, Copy, Debug, PartialEq, Eq)]
+pub enum DeleteErr {
+    /// An address couldn't be dialled.
+    Undialled,
+    /// The ports failed in a Hello.
+    Unheard,
+    /// A reply to Hello isn't as asked: the first such.
+    Refused(Refused),
+    /// The ports failed in an ask.
+    Lost,
+    /// Memory ran out.
+    NoMemory,
+}
+
+// The content of the Delete of a version.
+fn delete_request(
+    alloc: Global,
+    shape: Shape,
+    user: UserId,
+    path: &[u8],
+    version: Version,
+) -> Result<Bytes, NoMemory>
+    requires path { IsPath path.now }
+    ensures asks { IfOk result (λ content. content
+        ≡ request_bytes (requests.Delete user (record { 0 = tag shape path.now }) version)) }
+    ensures framed { IfOk result IsContent }
+{
+    let tag = tag_of(alloc, shape, path)?;
+    let mut content = Bytes::new(alloc);
+    Request::Delete { user, tag, version }.write(&mut content)?;
+    Ok(content)
+}
+
+// What came of the clouds that were met.
+fn behind_hellos(came: Result<bool, Halt>) -> Result<bool, DeleteErr>
+    ensures { result ≡ of_asked came }
+{
+    match came {
+        Ok(gone) => Ok(gone),
+        Err(Halt::Lost) => Err(DeleteErr::Lost),
+        Err(Halt::NoMemory) => Err(DeleteErr::NoMemory),
+    }
+}
+
+/// Deletes a version at the clouds at these addresses: meets them, one after another, and asks each the Delete. It answers
+/// whether the version is gone at all of them; the text has the lines then, and where the ports failed in an ask those so
+/// far.
+pub fn carry<P: Ports>(
+    alloc: Global,
+    user: UserId,
+    path: &[u8],
+    version: Version,
+    addresses: &[String],
+    ports: &mut P,
+    text: &mut Bytes,
+) -> Result<bool, DeleteErr>
+    requires path { IsPath path.now }
+    requires some { 1 ≤ length addresses.now }
+    requires many { length addresses.now ≤ 255 }
+    requires empty { text.old ≡ [] }
+    ensures carries { Carries (record {
+      user = user;
+      path = path.now;
+      version = version;
+      addresses = length addresses.now;
+      before = P.tells ports.old;
+      after = P.tells ports.new;
+      faults_before = P.faults ports.old;
+      faults_after = P.faults ports.new;
+    }) result text.new }
+    ensures others { IsTrue (P.tells ports.old).told → OnlyDialled (P.tells ports.old) (P.tells ports.new) }
+    ensures told { (P.tells ports.new).told ≡ (P.tells ports.old).told }
+    ensures later { P.faults ports.old ≤ P.faults ports.new }
+{
+    let mut reply = match ReplyBuf::make(alloc) {
+        Ok(reply) => reply,
+        Err(NoMemory) => return Err(DeleteErr::NoMemory),
+    };
+    let greeted = match meet_all(alloc, ports, Asked::Backup, addresses, &mut reply) {
+        Ok(greeted) => greeted,
+        Err(MeetErr::Undialled) => return Err(DeleteErr::Undialled),
+        Err(MeetErr::Refused(why)) => return Err(DeleteErr::Refused(why)),
+        Err(MeetErr::Lost) => return Err(DeleteErr::Unheard),
+        Err(MeetErr::NoMemory) => return Err(DeleteErr::NoMemory),
+    };
+    let request = match delete_request(alloc, greeted.shape, user, path, version) {
+        Ok(request) => request,
+        Err(NoMemory) => return Err(DeleteErr::NoMemory),
+    };
+    let lines = greeted.lines.as_slice();
+    let came = ask_each(alloc, ports, lines, request.as_slice(), &mut reply, text);
+    behind_hellos(came)
+}

@@ -1,0 +1,11 @@
+//! Deleting a version of a file from clouds that are reached over ports.
+#![tactic(auto)]
+
+mod asking;
+mod carrying;
+mod deleting;
+mod lines;
+mod writing;
+
+pub use deleting::delete;
+pub use lines::line_of;

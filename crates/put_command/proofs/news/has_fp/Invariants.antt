@@ -1,7 +1,0 @@
-use Rattle.std.proofs.Common.{◌≡◌, drop}
-use Rattle.user_dedup.specs.Owning.{is_among}
-use Rattle.put_command.specs.Picked.{fps_of}
-use Rattle.put_command.proofs.news.has_fp.Given as goal
-
-abbrev pub invariant-loop-new : goal.invariant-loop-new
-invariant-loop-new l = is_among (fps_of l.news) l.fp ≡ is_among (fps_of (drop l.new-index l.news)) l.fp

@@ -1,4 +1,0 @@
-pub mod Allowed
-pub mod Keeping
-pub mod Owned
-pub mod Steps

@@ -1,6 +1,0 @@
-use Rattle.std.proofs.Common.{rules}
-use Rattle.record_replay.proofs.Faults.{in_one}
-use Rattle.record_replay.proofs.checks.is_in_one.Goals as goal
-
-pub returns : goal.returns
-returns c = search (rules, in_one)

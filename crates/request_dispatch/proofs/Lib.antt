@@ -1,5 +1,0 @@
-pub mod Places
-pub mod Rotting
-pub mod Leaving
-pub mod Deletions
-pub mod Still

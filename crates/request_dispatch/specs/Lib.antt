@@ -1,4 +1,0 @@
-pub mod Asking
-pub mod Reading
-pub mod Leaving
-pub mod Executing

@@ -1,0 +1,43 @@
+//! The rooms of a cloud.
+
+ghost use Rattle.std.specs.Prelude.{◌≡◌, length, IsTrue, IsErr, IfOk, IfErr, Ok, Err};
+ghost use Rattle.cd_edges.specs.declared.area.Area.{Area};
+ghost use Rattle.cd_edges.specs.Shelf.{IsCall, HasFailed, KeepsCounts, Stays};
+ghost use Rattle.journal_start.specs.Ranges.{AreRooms};
+ghost use Rattle.cloud_server.specs.Refusals.{MayCome};
+ghost use Rattle.serve_command.specs.Served.{HasRooms, IsUnreadable};
+ghost use Rattle.serve_command.specs.Steps.{Counts};
+
+use cd_base::CloudNo;
+use cd_edges::Shelf;
+use cloud_server::OpenErr;
+use journal_halves::{FindErr, find};
+use journal_start::Rooms;
+
+/// The rooms that a cloud's journal has, read through a window of 65,541 bytes; the usual ones where no half of it is
+/// begun. The error is Fault where the cloud's count of faults rose, and Damaged where the starts of the halves are
+/// damaged.
+pub fn rooms_of<V: Shelf>(
+    shelf: &mut V,
+    cloud: CloudNo,
+    window: &mut [u8],
+) -> Result<Rooms, OpenErr>
+    requires { length window.old ≡ 65541 }
+    ensures allowed { IfOk result AreRooms }
+    ensures found { IsTrue (V.cloud_at shelf.old cloud.0).told
+        → IfOk result (HasRooms ((V.cloud_at shelf.old cloud.0).now Area.Journal).read) }
+    ensures unreadable { IfErr result (IsUnreadable (V.cloud_at shelf.old cloud.0)) }
+    ensures may_come { IfErr result MayCome }
+    ensures stays { Stays (V.cloud_at shelf.old cloud.0) (V.cloud_at shelf.new cloud.0) }
+    ensures call { IsCall (V.cloud_at shelf.old) (V.cloud_at shelf.new) cloud.0
+        (V.faults shelf.old) (V.faults shelf.new) }
+    ensures counts { Counts (V.cloud_at shelf.old cloud.0) (V.cloud_at shelf.new cloud.0)
+        (V.faults shelf.old) (V.faults shelf.new) result }
+{
+    match find(shelf, cloud, window) {
+        Ok(found) => Ok(found.start.header.rooms),
+        Err(FindErr::NotBegun { .. }) => Ok(Rooms::usual()),
+        Err(FindErr::Fault) => Err(OpenErr::Fault),
+        Err(FindErr::Damaged { at, byte }) => Err(OpenErr::Damaged { at, byte }),
+    }
+}

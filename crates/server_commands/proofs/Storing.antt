@@ -1,0 +1,141 @@
+-- Shares that are new to a user: what they leave in the memory, where what is staged of them ends, and that each of them is one that the
+-- user doesn't own.
+use Rattle.std.proofs.Common.{◌≡◌, ℕ, ◌+◌, ◌≤◌, max, Bool, true, false, cond, List, [], ◌∷◌, ◌++◌, length, map, Option, Some, None, refl, sym, ap, ◌∙◌, arith}
+use Rattle.std.specs.Prelude.{All, is_some, ◌||◌, bytes_eq}
+use Rattle.std.specs.Option.{option_or}
+use Rattle.std.specs.FinMap.{FinMap, get}
+use Rattle.std.proofs.lemmas.List.{length-map}
+use Rattle.std.proofs.lemmas.List.Elements.{All-nil, All-cons, All-head, All-tail}
+use Rattle.cd_base.specs.declared.ids.Fp.{Fp}
+use Rattle.cd_base.specs.declared.ids.UserId.{UserId}
+use Rattle.cd_base.specs.declared.place.Place.{Place}
+use Rattle.container_log.specs.Laying.{lengths}
+use Rattle.container_log.specs.Places.{place_of, end_after, end_of_laid}
+use Rattle.container_log.proofs.Least.{place_behind}
+use Rattle.container_log.proofs.Staged.{staged_end_of}
+use Rattle.message_fields.specs.Shares.{IsShare}
+use Rattle.share_index.specs.Order.{owner_cmp, owner_of}
+use Rattle.user_dedup.specs.Cloud.{fingerprint}
+use Rattle.user_dedup.specs.Owning.{is_among}
+use Rattle.cloud_memory.specs.declared.rooms.New.{New}
+use Rattle.cloud_memory.specs.Memory.{Memory}
+use Rattle.cloud_memory.specs.News.{AreOf, AreApart, AreNewTo}
+use Rattle.cloud_memory.specs.Rooms.{memory_of}
+use Rattle.cloud_memory.specs.Sharing.{AreOwned}
+use Rattle.cloud_memory.specs.Steps.{end_with, with_item, with_items, with_put, part_in, parts_of}
+use Rattle.cloud_memory.proofs.Adding.{Others, others, rest_apart}
+use Rattle.cloud_memory.proofs.Puts.{place_for, placed_more}
+use Rattle.open_store.specs.declared.store.OpenStore.{OpenStore}
+use Rattle.open_store.specs.Store.{EndsMeet}
+use Rattle.open_store.specs.Adding.{IsShareNew, EndBehind, unplaced}
+use Rattle.server_commands.specs.Entering.{new_of, unowned_from, unowned, storing}
+use Rattle.server_commands.specs.Steps.{HasNewsStaged}
+
+-- ---- what isn't owned
+
+none_unowned : (owners : FinMap owner_cmp ℕ) (user : UserId) (before : List Fp) (ss : List (List ℕ)) → AreOwned owners user (map fingerprint ss) → unowned_from owners user before ss ≡ []
+none_unowned owners user before [] owned = refl
+none_unowned owners user before (s ∷ ss) owned =
+    let Owned : Fp → Type 0 = λ fp. is_some (get owners (owner_of user.0 fp.0)) ≡ true in
+    let first : is_some (get owners (owner_of user.0 (fingerprint s).0)) ≡ true = All-head Owned (fingerprint s) (map fingerprint ss) owned in
+    ap (λ (b : Bool). cond (b || is_among before (fingerprint s)) (unowned_from owners user before ss) (s ∷ unowned_from owners user (before ++ fingerprint s ∷ []) ss)) first
+    ∙ none_unowned owners user before ss (All-tail Owned (fingerprint s) (map fingerprint ss) owned)
+
+-- where a share is new, not all are owned
+pub not_all_owned : (m : Memory) (user : UserId) (sent strings : List (List ℕ)) → strings ≡ unowned m user sent → 1 ≤ length strings → AreOwned m.owners user (map fingerprint sent) → ⊥
+not_all_owned m user sent strings are some owned = let long = ap length (are ∙ none_unowned m.owners user [] sent owned) in omega (arith, long, some)
+
+-- ---- lengths
+
+pub share_lens : (strings : List (List ℕ)) → All IsShare strings → All IsShareNew (map new_of strings)
+share_lens [] all = All-nil IsShareNew
+share_lens (s ∷ ss) all = All-cons IsShareNew (new_of s) (map new_of ss) (All-head IsShare s ss all) (share_lens ss (All-tail IsShare s ss all))
+
+pub as_many : (news : List New) (strings : List (List ℕ)) → AreOf news strings → length news ≡ length strings
+as_many news strings of = sym (length-map news (λ (n : New). n.fp)) ∙ ap length of.fps ∙ length-map strings fingerprint
+
+-- ---- where what is staged ends
+
+same_test : (m : Memory) (user : UserId) (n : New) (x : Fp) → bytes_eq n.fp.0 x.0 ≡ false → get (with_item user m (part_in m n)).places x.0 ≡ get m.places x.0
+same_test m user n x other =
+    placed_more m user n x ∙ ap (λ (b : Bool). option_or (get m.places x.0) (cond b (Some (place_for m n)) None)) other ∙ or_none (get m.places x.0)
+  where
+    or_none : (o : Option Place) → option_or o None ≡ o
+    or_none None = refl
+    or_none (Some p) = refl
+
+abbrev first_or : Fp → List Fp → Fp
+first_or other [] = other
+first_or other (fp ∷ fps) = fp
+
+abbrev rest_fps : List Fp → List Fp
+rest_fps [] = []
+rest_fps (fp ∷ fps) = fps
+
+abbrev first_len : List ℕ → ℕ
+first_len [] = 0
+first_len (n ∷ ns) = n
+
+abbrev rest_lens : List ℕ → List ℕ
+rest_lens [] = []
+rest_lens (n ∷ ns) = ns
+
+-- the others are tested as before
+same_rest : (m : Memory) (user : UserId) (n : New) (news : List New) (strings : List (List ℕ)) → map (λ (k : New). k.fp) news ≡ map fingerprint strings → Others n news
+    → unplaced (with_item user m (part_in m n)).places strings ≡ unplaced m.places strings
+same_rest m user n news [] fps other = refl
+same_rest m user n [] (s ∷ strings) fps other = absurd (let no : [] ≡ fingerprint s ∷ map fingerprint strings = fps in cc)
+same_rest m user n (k ∷ news) (s ∷ strings) fps other =
+    let fp_is : k.fp ≡ fingerprint s = ap (first_or k.fp) fps in
+    let mid = with_item user m (part_in m n) in
+    let test : is_some (get mid.places (fingerprint s).0) ≡ is_some (get m.places (fingerprint s).0) =
+    ap (λ (o : Option Place). is_some o) (same_test m user n (fingerprint s) (ap (λ (f : Fp). bytes_eq n.fp.0 f.0) (sym fp_is) ∙ other.0)) in
+    let rest = same_rest m user n news strings (ap rest_fps fps) other.1 in
+    λ i. cond (test i) (rest i) (s ∷ rest i)
+
+one_end : (end len : ℕ) (s : List ℕ) (rest : List (List ℕ)) (b : Bool) → len ≡ length s
+    → end_of_laid (end_with end (cond b None (Some (record { at = place_of end len; len = len })))) (lengths rest) ≡ end_of_laid end (lengths (cond b rest (s ∷ rest)))
+one_end end len s rest true long = refl
+one_end end len s rest false long =
+    let behind = place_behind end len in
+    let most : max end (place_of end len + len) ≡ place_of end len + len = omega (arith, behind) in
+    ap (λ (e : ℕ). end_of_laid e (lengths rest)) (most ∙ ap (end_after end) long)
+
+news_end : (user : UserId) (m : Memory) (news : List New) (strings : List (List ℕ)) → map (λ (k : New). k.fp) news ≡ map fingerprint strings → map (λ (k : New). k.len) news ≡ lengths strings → AreApart news
+    → (with_items user m (parts_of user m news)).shares_end ≡ end_of_laid m.shares_end (lengths (unplaced m.places strings))
+news_end user m [] [] fps lens apart = refl
+news_end user m [] (s ∷ strings) fps lens apart = absurd (let no : [] ≡ fingerprint s ∷ map fingerprint strings = fps in cc)
+news_end user m (n ∷ news) [] fps lens apart = absurd (let no : n.fp ∷ map (λ (k : New). k.fp) news ≡ [] = fps in cc)
+news_end user m (n ∷ news) (s ∷ strings) fps lens apart =
+    let fp_is : n.fp ≡ fingerprint s = ap (first_or n.fp) fps in
+    let len_is : n.len ≡ length s = ap first_len lens in
+    let mid = with_item user m (part_in m n) in
+    let rest = unplaced m.places strings in
+    news_end user mid news strings (ap rest_fps fps) (ap rest_lens lens) (rest_apart n news apart)
+    ∙ ap (λ (l : List (List ℕ)). end_of_laid mid.shares_end (lengths l)) (same_rest m user n news strings (ap rest_fps fps) (others n news apart))
+    ∙ one_end m.shares_end n.len s rest (is_some (get m.places n.fp.0)) len_is
+    ∙ ap (λ (f : Fp). end_of_laid m.shares_end (lengths (cond (is_some (get m.places f.0)) rest (s ∷ rest)))) fp_is
+
+recipes_stay : (user : UserId) (m : Memory) (news : List New) → (with_items user m (parts_of user m news)).recipes_end ≡ m.recipes_end
+recipes_stay user m [] = refl
+recipes_stay user m (n ∷ news) = recipes_stay user (with_item user m (part_in m n)) news
+
+-- both logs end where the memory says, once the Put is there
+pub news_met : (old new : OpenStore) (user : UserId) (news : List New) → HasNewsStaged old news → AreNewTo (memory_of old.memory) user news → EndBehind old new
+    → memory_of new.memory ≡ with_put user (parts_of user (memory_of old.memory) news) (memory_of old.memory) → EndsMeet new
+news_met old new user news has fresh ends taken =
+    let m = memory_of old.memory in
+    let blobs = unplaced m.places has.strings in
+    record {
+      shares =
+          ends.shares ∙ staged_end_of old.disk.shares blobs has.shares ∙ ap (λ (e : ℕ). end_of_laid e (lengths blobs)) has.meet.shares
+          ∙ sym (news_end user m news has.strings has.are_of.fps has.are_of.lens fresh.apart) ∙ sym (ap (λ (x : Memory). x.shares_end) taken);
+      recipes =
+          ends.recipes ∙ staged_end_of old.disk.recipes [] has.recipes ∙ has.meet.recipes
+          ∙ sym (recipes_stay user m news) ∙ sym (ap (λ (x : Memory). x.recipes_end) taken);
+    }
+
+-- the memory with the Put
+pub stored_is : (m : Memory) (user : UserId) (news : List New) → 1 ≤ length news → with_put user (parts_of user m news) m ≡ storing m user news
+stored_is m user [] some = absurd (omega (arith, some))
+stored_is m user (n ∷ news) some = refl

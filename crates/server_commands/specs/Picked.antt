@@ -1,0 +1,37 @@
+-- Which of a Put's shares are new to the user, and which of them are staged.
+use Rattle.std.specs.Prelude.{◌≡◌, ℕ, ◌≤◌, List, length, map, All}
+use Rattle.cd_base.specs.declared.ids.Fp.{Fp}
+use Rattle.cd_base.specs.declared.ids.UserId.{UserId}
+use Rattle.container_log.specs.States.{HasStaged}
+use Rattle.message_fields.specs.Shares.{IsShare}
+use Rattle.user_dedup.specs.declared.command.Command.{Command}
+use Rattle.user_dedup.specs.Cloud.{user_view}
+use Rattle.user_dedup.specs.Owning.{new_strings}
+use Rattle.cloud_memory.specs.declared.rooms.New.{New}
+use Rattle.cloud_memory.specs.Memory.{Remembers}
+use Rattle.cloud_memory.specs.News.{AreOf, AreNewTo}
+use Rattle.cloud_memory.specs.Rooms.{memory_of}
+use Rattle.open_store.specs.declared.store.OpenStore.{OpenStore}
+use Rattle.open_store.specs.Adding.{unplaced}
+use Rattle.server_commands.specs.Entering.{new_of, unowned}
+
+abbrev pub fps_of : List New → List Fp
+fps_of news = map (λ (n : New). n.fp) news
+
+-- the store with these bytes staged in the log of the shares
+abbrev pub with_shares : OpenStore → List ℕ → OpenStore
+with_shares s bytes = record s { disk = record s.disk { shares = record s.disk.shares { staged = bytes } } }
+
+-- Of the shares that were sent those that the memory doesn't give to the user, the first of each fingerprint. For a list that the memory
+-- has they are those that are new to the user. Of the store only what is staged has changed: those that have no place yet, in their order.
+pub record Picked (old new : OpenStore) (user : UserId) (sent : List (List ℕ)) (news : List New) : Type 0 where
+  pub strings : List (List ℕ)
+  pub range : All IsShare strings
+  pub few : length strings ≤ length sent
+  pub lens : news ≡ map new_of strings
+  pub are_of : AreOf news strings
+  pub fresh : AreNewTo (memory_of old.memory) user news
+  pub by_memory : strings ≡ unowned (memory_of old.memory) user sent
+  pub by_list : (list : List Command) → Remembers old.header.shape list (memory_of old.memory) → strings ≡ new_strings (user_view old.header.shape list user).own sent
+  pub staged : HasStaged new.disk.shares (unplaced (memory_of old.memory).places strings)
+  pub same : new ≡ with_shares old new.disk.shares.staged

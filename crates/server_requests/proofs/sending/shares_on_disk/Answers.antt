@@ -1,0 +1,13 @@
+use Rattle.container_log.specs.States.{State}
+use Rattle.cloud_disk.specs.Disk.{Disk}
+use Rattle.server_requests.proofs.Readings.{reads_shares, lent_back}
+use Rattle.server_requests.proofs.sending.shares_on_disk.Goals as goal
+
+pub returns-clause-untouched : goal.returns-clause-untouched
+returns-clause-untouched g c = λ place.
+    let put : State → Disk = λ (s : State). record c.args.disk.now { shares = s } in
+    lent_back c.shares.result _ _ _ put c.args.disk.now.shares c.shares_mut.result.now c.shares.new.log c.shares_mut.ensures.value (c.shares.ensures.untouched place)
+
+pub returns-clause-disk : goal.returns-clause-disk
+returns-clause-disk g c =
+    reads_shares c.args.disk.now c.shares_mut.result.now c.shares.new.log _ _ c.shares_mut.ensures.value c.shares.ensures.stays c.shares.ensures.log

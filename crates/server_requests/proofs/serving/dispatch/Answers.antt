@@ -1,0 +1,46 @@
+use Rattle.std.proofs.Common.{◌≡◌, [], refl, sym, ap, subst}
+use Rattle.messages.specs.declared.request.Request.{Request}
+use Rattle.messages.specs.declared.request.Request.TheVariants as requests
+use Rattle.server_reads.proofs.Plain.{known_plain, entries_plain}
+use Rattle.server_commands.specs.Executing.{Executes}
+use Rattle.server_commands.proofs.Calls.{ok_result}
+use Rattle.server_requests.specs.Asking.{request_of}
+use Rattle.server_requests.proofs.Alone.{was_told}
+use Rattle.server_requests.proofs.Contents.{gives_plain, greets}
+use Rattle.server_requests.proofs.serving.dispatch.Goals as goal
+
+-- ---- by the memory alone
+
+pub returns-in-Hello-clause-does : goal.returns-in-Hello-clause-does
+returns-in-Hello-clause-does g c =
+    let s = c.args.store.now in let at = g.V.Shelf.cloud_at c.args.shelf.now in let faults = g.V.Shelf.faults c.args.shelf.now in
+    let same = c.args.shelf.now ≡ c.args.shelf.now in
+    subst (λ (r : Request). Executes same s s at at faults faults r c.hello.new.reply ok_result) (ap request_of (sym c.in-Hello.is))
+    (was_told same s at faults requests.Hello c.hello.new.reply refl c.requires.ready (λ list. refl) (λ list remembers. c.hello.ensures list) (λ named found. tt)
+    (greets s.header c.hello.new.reply c.requires.ready.settled.header (c.hello.ensures [])))
+
+pub returns-in-Query-clause-does : goal.returns-in-Query-clause-does
+returns-in-Query-clause-does g c =
+    let s = c.args.store.now in let at = g.V.Shelf.cloud_at c.args.shelf.now in let faults = g.V.Shelf.faults c.args.shelf.now in
+    let same = c.args.shelf.now ≡ c.args.shelf.now in let user = c.in-Query.user in let fps = c.in-Query.fps in
+    subst (λ (r : Request). Executes same s s at at faults faults r c.known.new.reply ok_result) (ap request_of (sym c.in-Query.is))
+    (was_told same s at faults (requests.Query user fps) c.known.new.reply refl c.requires.ready (λ list. refl)
+    (λ list remembers. c.known.ensures.value s.header.shape s.header.cloud.0 list remembers) (λ named found. tt)
+    (gives_plain s.header.shape (requests.Query user fps) c.known.new.reply _ c.known.ensures.kind (known_plain user fps)))
+
+pub returns-in-List-clause-does : goal.returns-in-List-clause-does
+returns-in-List-clause-does g c =
+    let s = c.args.store.now in let at = g.V.Shelf.cloud_at c.args.shelf.now in let faults = g.V.Shelf.faults c.args.shelf.now in
+    let same = c.args.shelf.now ≡ c.args.shelf.now in let user = c.in-List.user in let after = c.in-List.after in
+    subst (λ (r : Request). Executes same s s at at faults faults r c.entries.new.reply ok_result) (ap request_of (sym c.in-List.is))
+    (was_told same s at faults (requests.List user after) c.entries.new.reply refl c.requires.ready (λ list. refl)
+    (λ list remembers. c.entries.ensures.value s.header.shape s.header.cloud.0 list remembers) (λ named found. tt)
+    (gives_plain s.header.shape (requests.List user after) c.entries.new.reply _ c.entries.ensures.kind (entries_plain user after)))
+
+-- ---- a recipe in its spelling
+
+pub returns-in-Commit-clause-does : goal.returns-in-Commit-clause-does
+returns-in-Commit-clause-does g c =
+    let s = c.args.store.now in let at = g.V.Shelf.cloud_at in let faults = g.V.Shelf.faults in let new = c.commit.new in
+    subst (λ (r : Request). Executes (new.shelf ≡ c.args.shelf.now) s new.store (at c.args.shelf.now) (at new.shelf) (faults c.args.shelf.now) (faults new.shelf) r new.reply c.commit.result)
+    (ap request_of (sym c.in-Commit.is)) c.commit.ensures

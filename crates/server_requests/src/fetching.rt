@@ -1,0 +1,122 @@
+//! The reply to GetRecipe.
+
+ghost use Rattle.std.specs.Prelude.{◌≡◌, ℕ, ◌≤◌, List, length, IsTrue, OnOk, OnErr};
+ghost use Rattle.cd_base.specs.Limits.{recipe_limit};
+ghost use Rattle.cd_base.specs.declared.shape.Shape.{Shape};
+ghost use Rattle.cd_edges.specs.declared.area.Area.TheVariants as areas;
+ghost use Rattle.cd_edges.specs.Disk.{reads};
+ghost use Rattle.cd_edges.specs.Shelf.{IsCall, HasFailed, KeepsCounts, Stays};
+ghost use Rattle.container_log.specs.States.{Agrees};
+ghost use Rattle.file_index.specs.Files.{key_of};
+ghost use Rattle.messages.specs.declared.request.Request.TheVariants as requests;
+ghost use Rattle.messages.specs.declared.reply.Reply.{Reply};
+ghost use Rattle.messages.specs.declared.reply.Reply.TheVariants as replies;
+ghost use Rattle.messages.specs.Replies.{reply_bytes, IsReply};
+ghost use Rattle.user_dedup.specs.declared.command.Command.{Command};
+ghost use Rattle.user_dedup.specs.Dedup.{answer_over, IsSound};
+ghost use Rattle.cloud_memory.specs.Memory.{Remembers, Stand};
+ghost use Rattle.cloud_memory.specs.Rooms.{memory_of};
+ghost use Rattle.server_reads.specs.Allowed.{Replies, RecipeReply};
+ghost use Rattle.server_reads.specs.Found.{IsNamed, HasNone, IsFoundRecipe};
+ghost use Rattle.server_commands.specs.Executing.{IsReady, Executes};
+ghost use Rattle.server_requests.specs.Hashed.{IsHashed};
+ghost use Rattle.server_requests.specs.Reading.{ReadsDisk};
+
+use cd_base::{CloudNo, Tag, UserId, Version};
+use cd_edges::{Failed, Shelf};
+use cloud_disk::CloudDisk;
+use cloud_memory::CloudMemory;
+use frames::ReplyBuf;
+use open_store::OpenStore;
+use server_reads::recipe;
+
+// The same as `recipe`, by the disk.
+fn recipe_on_disk<V: Shelf>(
+    memory: &CloudMemory,
+    disk: &mut CloudDisk,
+    shelf: &mut V,
+    cloud: CloudNo,
+    user: UserId,
+    tag: &Tag,
+    version: Version,
+    buffer: &mut [u8],
+    reply: &mut ReplyBuf,
+) -> Result<(), Failed>
+    requires area { disk.old.recipes.area ≡ areas.Recipes }
+    requires buffer { recipe_limit ≤ length buffer.old }
+    ensures value { IsTrue (V.cloud_at shelf.old cloud.0).told
+        → Agrees disk.old.recipes ((V.cloud_at shelf.old cloud.0).now disk.old.recipes.area).read
+        → (shape : Shape) (list : List Command) → IsSound shape cloud.0 list
+        → Remembers shape list (memory_of memory.now)
+        → Stand shape (reads (V.cloud_at shelf.old cloud.0).now areas.Shares)
+        (reads (V.cloud_at shelf.old cloud.0).now areas.Recipes) list (memory_of memory.now)
+        → OnOk result (reply.new ≡ reply_bytes
+        (answer_over shape cloud.0 list (requests.GetRecipe user tag.now version)).reply) }
+    ensures kind { OnOk result
+        (Replies reply.new (RecipeReply (IsNamed (memory_of memory.now) (key_of user.0 tag.now.0 version.0))
+        (HasNone (memory_of memory.now) (key_of user.0 tag.now.0 version.0))
+        (IsFoundRecipe (V.cloud_at shelf.old cloud.0) (memory_of memory.now) (key_of user.0 tag.now.0 version.0)))) }
+    ensures hashed { (bytes : List ℕ) → OnOk result (IsReply reply.new (replies.Recipe bytes)
+        → IsNamed (memory_of memory.now) (key_of user.0 tag.now.0 version.0) bytes) }
+    ensures untouched { OnOk result (IsReply reply.new replies.Missing
+        → (shelf.new ≡ shelf.old) × (disk.new ≡ disk.old)) }
+    ensures disk { ReadsDisk disk.old disk.new (V.cloud_at shelf.old cloud.0) (V.cloud_at shelf.new cloud.0) }
+    ensures stays { Stays (V.cloud_at shelf.old cloud.0) (V.cloud_at shelf.new cloud.0) }
+    ensures call { IsCall (V.cloud_at shelf.old) (V.cloud_at shelf.new) cloud.0 (V.faults shelf.old)
+        (V.faults shelf.new) }
+    ensures failed { OnErr result
+        (HasFailed (V.cloud_at shelf.old cloud.0) (V.cloud_at shelf.new cloud.0) (V.faults shelf.old)
+        (V.faults shelf.new)) }
+    ensures uncounted { OnOk result
+        (KeepsCounts (V.cloud_at shelf.old cloud.0) (V.cloud_at shelf.new cloud.0) (V.faults shelf.old)
+        (V.faults shelf.new)) }
+{
+    recipe(
+        memory,
+        disk.recipes_mut(),
+        shelf,
+        cloud,
+        user,
+        tag,
+        version,
+        buffer,
+        reply,
+    )
+}
+
+/// Serves a GetRecipe. Where the device fails the store is shut.
+pub(crate) fn send_recipe<V: Shelf>(
+    store: &mut OpenStore,
+    shelf: &mut V,
+    user: UserId,
+    tag: &Tag,
+    version: Version,
+    buffer: &mut [u8],
+    reply: &mut ReplyBuf,
+) -> Result<(), Failed>
+    requires ready { IsReady store.old }
+    requires buffer { recipe_limit ≤ length buffer.old }
+    ensures does { Executes (shelf.new ≡ shelf.old) store.old store.new (V.cloud_at shelf.old) (V.cloud_at shelf.new)
+        (V.faults shelf.old) (V.faults shelf.new) (requests.GetRecipe user tag.now version) reply.new result }
+    ensures hashed { (answer : Reply) → OnOk result (IsReply reply.new answer
+        → IsHashed (memory_of store.old.memory) (requests.GetRecipe user tag.now version) answer) }
+{
+    let cloud = store.header.cloud;
+    match recipe_on_disk(
+        &store.memory,
+        &mut store.disk,
+        shelf,
+        cloud,
+        user,
+        tag,
+        version,
+        buffer,
+        reply,
+    ) {
+        Ok(()) => Ok(()),
+        Err(Failed) => {
+            store.shut();
+            Err(Failed)
+        }
+    }
+}

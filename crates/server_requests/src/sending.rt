@@ -1,0 +1,121 @@
+//! The reply to GetShares.
+
+ghost use Rattle.std.specs.Prelude.{◌≡◌, ℕ, ◌≤◌, List, length, map, IsTrue, OnOk, OnErr};
+ghost use Rattle.cd_base.specs.Limits.{recipe_limit};
+ghost use Rattle.cd_base.specs.declared.shape.Shape.{Shape};
+ghost use Rattle.cd_edges.specs.declared.area.Area.TheVariants as areas;
+ghost use Rattle.cd_edges.specs.Disk.{reads};
+ghost use Rattle.cd_edges.specs.Shelf.{IsCall, HasFailed, KeepsCounts, Stays};
+ghost use Rattle.container_log.specs.States.{Agrees};
+ghost use Rattle.message_fields.specs.Fingerprints.{IsBatch};
+ghost use Rattle.message_fields.specs.Shares.{share_limit};
+ghost use Rattle.messages.specs.declared.request.Request.TheVariants as requests;
+ghost use Rattle.messages.specs.declared.reply.Reply.{Reply};
+ghost use Rattle.messages.specs.declared.reply.Reply.TheVariants as replies;
+ghost use Rattle.messages.specs.Replies.{reply_bytes, IsReply};
+ghost use Rattle.user_dedup.specs.declared.command.Command.{Command};
+ghost use Rattle.user_dedup.specs.Cloud.{fingerprint};
+ghost use Rattle.user_dedup.specs.Dedup.{answer_over, IsSound};
+ghost use Rattle.cloud_memory.specs.Memory.{Remembers, Stand};
+ghost use Rattle.cloud_memory.specs.Rooms.{memory_of};
+ghost use Rattle.server_reads.specs.Allowed.{Replies, SharesReply};
+ghost use Rattle.server_reads.specs.Found.{IsFoundShare};
+ghost use Rattle.server_commands.specs.Executing.{IsReady, Executes};
+ghost use Rattle.server_requests.specs.Hashed.{IsHashed};
+ghost use Rattle.server_requests.specs.Reading.{ReadsDisk};
+
+use cd_base::{CloudNo, UserId};
+use cd_edges::{Failed, Shelf};
+use cloud_disk::CloudDisk;
+use cloud_memory::CloudMemory;
+use frames::ReplyBuf;
+use message_fields::FpsView;
+use open_store::OpenStore;
+use server_reads::shares;
+
+// The same as `shares`, by the disk.
+fn shares_on_disk<V: Shelf>(
+    memory: &CloudMemory,
+    disk: &mut CloudDisk,
+    shelf: &mut V,
+    cloud: CloudNo,
+    user: UserId,
+    fps: &FpsView<'_>,
+    buffer: &mut [u8],
+    reply: &mut ReplyBuf,
+) -> Result<(), Failed>
+    requires batch { IsBatch fps.now }
+    requires area { disk.old.shares.area ≡ areas.Shares }
+    requires buffer { share_limit ≤ length buffer.old }
+    ensures value { IsTrue (V.cloud_at shelf.old cloud.0).told
+        → Agrees disk.old.shares ((V.cloud_at shelf.old cloud.0).now disk.old.shares.area).read
+        → (shape : Shape) (list : List Command) → IsSound shape cloud.0 list
+        → Remembers shape list (memory_of memory.now)
+        → Stand shape (reads (V.cloud_at shelf.old cloud.0).now areas.Shares)
+        (reads (V.cloud_at shelf.old cloud.0).now areas.Recipes) list (memory_of memory.now)
+        → OnOk result (reply.new ≡ reply_bytes
+        (answer_over shape cloud.0 list (requests.GetShares user fps.now)).reply) }
+    ensures kind { OnOk result (Replies reply.new
+        (SharesReply fps.now (IsFoundShare (V.cloud_at shelf.old cloud.0) (memory_of memory.now)))) }
+    ensures hashed { (shares : List (List ℕ)) → OnOk result (IsReply reply.new (replies.Shares shares)
+        → map fingerprint shares ≡ fps.now) }
+    ensures untouched { (place : ℕ) → OnOk result (IsReply reply.new (replies.NotYours place)
+        → (shelf.new ≡ shelf.old) × (disk.new ≡ disk.old)) }
+    ensures disk { ReadsDisk disk.old disk.new (V.cloud_at shelf.old cloud.0) (V.cloud_at shelf.new cloud.0) }
+    ensures stays { Stays (V.cloud_at shelf.old cloud.0) (V.cloud_at shelf.new cloud.0) }
+    ensures call { IsCall (V.cloud_at shelf.old) (V.cloud_at shelf.new) cloud.0 (V.faults shelf.old)
+        (V.faults shelf.new) }
+    ensures failed { OnErr result
+        (HasFailed (V.cloud_at shelf.old cloud.0) (V.cloud_at shelf.new cloud.0) (V.faults shelf.old)
+        (V.faults shelf.new)) }
+    ensures uncounted { OnOk result
+        (KeepsCounts (V.cloud_at shelf.old cloud.0) (V.cloud_at shelf.new cloud.0) (V.faults shelf.old)
+        (V.faults shelf.new)) }
+{
+    shares(
+        memory,
+        disk.shares_mut(),
+        shelf,
+        cloud,
+        user,
+        fps,
+        buffer,
+        reply,
+    )
+}
+
+/// Serves a GetShares. Where the device fails the store is shut.
+pub(crate) fn send_shares<V: Shelf>(
+    store: &mut OpenStore,
+    shelf: &mut V,
+    user: UserId,
+    fps: &FpsView<'_>,
+    buffer: &mut [u8],
+    reply: &mut ReplyBuf,
+) -> Result<(), Failed>
+    requires ready { IsReady store.old }
+    requires batch { IsBatch fps.now }
+    requires buffer { recipe_limit ≤ length buffer.old }
+    ensures does { Executes (shelf.new ≡ shelf.old) store.old store.new (V.cloud_at shelf.old) (V.cloud_at shelf.new)
+        (V.faults shelf.old) (V.faults shelf.new) (requests.GetShares user fps.now) reply.new result }
+    ensures hashed { (answer : Reply) → OnOk result (IsReply reply.new answer
+        → IsHashed (memory_of store.old.memory) (requests.GetShares user fps.now) answer) }
+{
+    let cloud = store.header.cloud;
+    match shares_on_disk(
+        &store.memory,
+        &mut store.disk,
+        shelf,
+        cloud,
+        user,
+        fps,
+        buffer,
+        reply,
+    ) {
+        Ok(()) => Ok(()),
+        Err(Failed) => {
+            store.shut();
+            Err(Failed)
+        }
+    }
+}
