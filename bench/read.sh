@@ -1,6 +1,6 @@
 #!/usr/bin/env bash
 # Times a `read` of 64 MiB from the folders of three clouds of four, beside the four hash passes that it makes: each share by the server
-# that reads it and by the client, and two of each secret. A read of a version that isn't there shows what the tables of the greatest rooms
+# that reads it and by the client, and two of each secret. A read of a version that isn't there shows what the tables of the usual rooms
 # take, some 70 MB for each of the three clouds: both are printed.
 . "$(dirname "$0")/build.sh"
 programs

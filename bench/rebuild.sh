@@ -15,7 +15,7 @@ import os, shutil, subprocess, sys
 from measure import ended, rounds, run
 program, work = sys.argv[2], sys.argv[3]
 FILES, LONG, PASSES = 64, 1_048_576, 20 / 3
-HEADER = "cdstore 1 4 3 26000000 1000000 2000000 12000 12000 64\n"
+HEADER = "cdstore 1 4 3 8 26000000 1000000 12000 64\n"
 with open(f"{work}/stored", "w") as stored, open(f"{work}/rebuilt", "w") as rebuilt:
     for script in stored, rebuilt:
         script.write(HEADER)

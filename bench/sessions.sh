@@ -10,7 +10,7 @@
 programs
 noise
 {
-    printf 'cdstore 1 4 3 26000000 400000 1000000 8000 8000 1\nupload 7 66 1 '
+    printf 'cdstore 1 4 3 8 26000000 400000 8000 1\nupload 7 66 1 '
     cat "$work/digits"
     printf '\nfinish 1\n'
 } > "$work/upload"
@@ -18,10 +18,10 @@ noise
     cat "$work/upload"
     echo 'get 7 66 1 1,2,3'
 } > "$work/both"
-echo 'cdstore 1 4 3 26000000 400000 1000000 8000 8000 1' > "$work/none"
+echo 'cdstore 1 4 3 8 26000000 400000 8000 1' > "$work/none"
 jobs=834
 {
-    echo 'cdstore 1 4 3 1000000 1000000 1000000 1000 1000 1000'
+    echo 'cdstore 1 4 3 8 1000000 1000000 1000 1000'
     for job in $(seq "$jobs"); do
         printf 'upload 7 61 %d %04x\n' "$job" "$job"
         for cloud in 0 1 2 3; do printf "step $job $cloud\nstep $job $cloud\nstep $job $cloud\n"; done
