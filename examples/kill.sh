@@ -17,7 +17,7 @@ else
     (cd "$work/crates/cdstore" && rt run -- --version) > "$work/log" 2>&1 || { cat "$work/log"; exit 1; }
     program="$work/crates/cdstore/out/cdstore"
 fi
-printf 'cdstore 1 3 2 90000 90000 90000 900 900 900\n' > "$work/script"
+printf 'cdstore 1 3 2\n' > "$work/script"
 version() { # the bytes of a job's file, in hexadecimal
     printf '%s%06x' "$(head -c 3000 /dev/zero | od -An -v -tx1 | tr -d ' \n')" "$1"
 }

@@ -1,5 +1,6 @@
 #!/usr/bin/env bash
-# Eight clients at once over four clouds, each a process: many_clients.sh [ROUNDS [CLIENTS]], 12 rounds of 8 clients where nothing is said.
+# Eight clients at once over four clouds, each a process: many_clients.sh [ROUNDS [CLIENTS]], 12 rounds of 8 clients where nothing is said,
+# and 15 clients at most, each a user, since a cloud begins with rooms for the users 0 to 15.
 #
 # In each round a client stores a new version or reads one of its own back from three clouds of the four, as chance has it, and compares it.
 # One backup in ten is killed at some moment. All others end with status 0: clients take the clouds in one order, so none waits for another in
@@ -7,6 +8,7 @@
 # shellcheck source=clouds.sh
 . "$(dirname "$0")/clouds.sh"
 rounds="${1:-12}" clients="${2:-8}"
+[ "$clients" -le 15 ] || { echo "15 clients at most" >&2; exit 1; }
 
 for cloud in 0 1 2 3; do
     start "$cloud" 1000000
