@@ -5,6 +5,7 @@ use Rattle.std.specs.Prelude.{IsTrue}
 use Rattle.std.specs.Io.KnownBytes.{Appends}
 use Rattle.cd_edges.specs.Causes.{Rose}
 use Rattle.cd_edges.specs.Disk.{Cloud}
+use Rattle.journal_start.specs.declared.rooms.Rooms.{Rooms}
 use Rattle.user_dedup.specs.declared.command.Command.{Command}
 use Rattle.read_command.specs.declared.end.ReadEnd.{ReadEnd}
 use Rattle.read_command.specs.declared.end.ReadEnd.TheVariants as ends
@@ -100,7 +101,8 @@ pub read_to : (status : ℕ) (r : AskedRead) (end : ReadEnd) (middle old new : �
       total_after = total_after;
       old = middle;
       new = new;
-    }) r.shape r.clouds end text × ((lists : ℕ → List Command) → AreReadable r.shape r.clouds middle lists
+    }) r.shape r.clouds end text
+    × ((rooms : ℕ → Rooms) (lists : ℕ → List Command) → AreReadable r.shape r.clouds middle rooms lists
     → Gives (record {
       total_before = count;
       total_after = total_after;

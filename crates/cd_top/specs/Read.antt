@@ -3,6 +3,7 @@ use Rattle.std.specs.Prelude.{◌≡◌, ℕ, ◌⊎◌, List, [], ◌++◌, IsT
 use Rattle.cd_edges.specs.Disk.{Cloud}
 use Rattle.std.specs.Io.KnownBytes.{Appends}
 use Rattle.cd_edges.specs.Causes.{Rose}
+use Rattle.journal_start.specs.declared.rooms.Rooms.{Rooms}
 use Rattle.kept_files.specs.Kept.{key_of}
 use Rattle.transcript.specs.declared.ending.Ending.TheVariants as endings
 use Rattle.transcript.specs.Endings.{ending_text}
@@ -58,10 +59,10 @@ abbrev pub given_of : AskedRead → (ℕ → List Command) → Due
 given_of r lists = due_of r.shape r.user (key_of r.shape r.path r.version) r.clouds lists
 
 -- The text is that of the end: whatever is told, by what the named clouds' disks open to; and over named clouds that are
--- told, begun and stand for lists, by what these lists give.
+-- told, begun and stand for lists, each within rooms of its own, by what these lists give.
 pub record BelongsTo (c : Outside) (r : AskedRead) (end : ReadEnd) (text : List ℕ) : Type 0 where
   pub says : Says c r.shape r.clouds end text
-  pub gives : (lists : ℕ → List Command) → AreReadable r.shape r.clouds c.old lists
+  pub gives : (rooms : ℕ → Rooms) (lists : ℕ → List Command) → AreReadable r.shape r.clouds c.old rooms lists
       → Gives c r.clouds (given_of r lists) end text
 
 -- The text and the last line were written, and the status is the end's; or the sink failed within the last line; or

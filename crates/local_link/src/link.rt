@@ -17,6 +17,7 @@ use cd_edges::{Failed, Shelf};
 use cloud_server::OpenErr;
 use cloud_server::laws::{law_of_areas, law_of_no_commands};
 use frames::ReplyBuf;
+use journal_halves::{FindErr, Found, find};
 use journal_start::Rooms;
 use std::alloc::Global;
 use user_dedup::{Link, Lost};
@@ -38,6 +39,8 @@ impl<'a, V: Shelf> LocalLink<'a, V> {
     ghost use Rattle.std.specs.Prelude.{IsTrue, IsOk, IfOk, OnOk, OnErr, IsSomeAnd, Some, Ok, Err, if◌then◌else◌};
     ghost use Rattle.std.specs.List.{Contains};
     ghost use Rattle.cd_edges.specs.Shelf.{IsCall, HasFailed, KeepsCounts, Arms, Refreshes};
+    ghost use Rattle.cd_edges.specs.Shelf as device;
+    ghost use Rattle.journal_halves.specs.Findings as findings;
     ghost use Rattle.frames.specs.Frames.{frame_limit};
     ghost use Rattle.messages.specs.declared.request.Request.{Request};
     ghost use Rattle.messages.specs.declared.reply.Reply.{Reply};
@@ -56,7 +59,7 @@ impl<'a, V: Shelf> LocalLink<'a, V> {
     ghost use Rattle.cloud_server.specs.Openings.{NotBegunIs, OtherStoreIs};
     ghost use Rattle.store_opening.specs.Exact.{Opens};
     ghost use Rattle.open_store.specs.Store.{IsOpen};
-    ghost use Rattle.journal_start.specs.Ranges.{AreRooms};
+    ghost use Rattle.journal_start.specs.Ranges.{AreRooms, IsStart};
     ghost use Rattle.user_dedup.specs.Spending.{IsWithin};
     ghost use Rattle.cloud_areas.specs.Peers.{ImagesNow, ImagesSince, MayBecome};
     ghost use Rattle.cloud_server.specs.declared.server.Server.{Server};
@@ -176,6 +179,28 @@ impl<'a, V: Shelf> LocalLink<'a, V> {
         ensures err { OnErr result (self.new ≡ self.old) }
     {
         self.servers.renew(self.alloc, cloud, rooms)
+    }
+
+    /// Finds the current half of the cloud's journal, and its start, through a window of 65,541 bytes:
+    /// `journal_halves::find`. No server changes, and nothing that is told does.
+    pub fn find(&mut self, cloud: CloudNo, window: &mut [u8]) -> Result<Found, FindErr>
+        requires { length window.old ≡ 65541 }
+        ensures found { IsTrue ((telling V.cloud_at).told self.old cloud.0)
+            → findings.FindIs ((V.cloud_at self.old.shelf.now cloud.0).now Journal).read result }
+        ensures start { IfOk result (λ found. IsStart found.half found.start) }
+        ensures stays { device.Stays (V.cloud_at self.old.shelf.now cloud.0) (V.cloud_at self.new.shelf.now cloud.0) }
+        ensures call { IsCall (V.cloud_at self.old.shelf.now) (V.cloud_at self.new.shelf.now) cloud.0
+            (V.faults self.old.shelf.now) (V.faults self.new.shelf.now) }
+        ensures counts { findings.OnFault result
+            (HasFailed (V.cloud_at self.old.shelf.now cloud.0) (V.cloud_at self.new.shelf.now cloud.0)
+            (V.faults self.old.shelf.now) (V.faults self.new.shelf.now))
+            (KeepsCounts (V.cloud_at self.old.shelf.now cloud.0) (V.cloud_at self.new.shelf.now cloud.0)
+            (V.faults self.old.shelf.now) (V.faults self.new.shelf.now)) }
+        ensures still { (self.new.servers ≡ self.old.servers) × (self.new.fate ≡ self.old.fate)
+            × (self.new.losses ≡ self.old.losses) }
+        ensures same_reference { self.new.shelf.ghost_name ≡ self.old.shelf.ghost_name }
+    {
+        find(self.shelf, cloud, window)
     }
 
     /// Opens the cloud's server, and answers how many commands the cloud has: `cloud_server::Server::reopen`. After an

@@ -5,15 +5,17 @@ use Rattle.std.specs.List.{Contains}
 use Rattle.cd_base.specs.declared.ids.CloudNo.{CloudNo}
 use Rattle.journal_start.specs.declared.rooms.Rooms.{Rooms}
 use Rattle.cd_edges.specs.declared.area.Area.TheVariants.{Journal}
-use Rattle.cd_edges.specs.Disk.{Cloud, Image, IsImage, reads}
-use Rattle.cd_edges.specs.Shelf.{HasFailed, KeepsCounts}
-use Rattle.cd_edges.proofs.Moments.{left_alone, weaker}
+use Rattle.cd_edges.specs.Disk.{Areas, Cloud, Image, IsImage, reads}
+use Rattle.cd_edges.specs.Shelf.{HasFailed, KeepsCounts, Stays}
+use Rattle.cd_edges.proofs.Moments.{stayed, weaker}
 use Rattle.half_journal.specs.declared.errors.OpenErr.{OpenErr}
 use Rattle.half_journal.specs.declared.errors.OpenErr.TheVariants as errors
 use Rattle.journal_start.specs.declared.start.Header.{Header}
 use Rattle.half_journal.specs.Openings.{MayBecome, OnFault}
 use Rattle.journal_halves.specs.Beginnings.{IsUnbegun}
-use Rattle.journal_start.specs.Ranges.{usual_rooms}
+use Rattle.journal_halves.specs.Halves.{IsCurrent}
+use Rattle.journal_start.specs.declared.start.Start.{Start}
+use Rattle.store_opening.proofs.OneStart.{current_whole}
 use Rattle.user_dedup.specs.declared.command.Command.{Command}
 use Rattle.store_opening.specs.Exact.{Opens}
 use Rattle.cloud_memory.specs.Rooms.{memory_of}
@@ -33,7 +35,7 @@ use Rattle.local_link.specs.Steps.{IsClosedIn}
 use Rattle.local_link.specs.Tells.{server_at, rooms_at, rooms_of, header_at, StandsAt}
 use Rattle.read_command.specs.declared.end.ReadEnd.{ReadEnd}
 use Rattle.read_command.specs.declared.end.ReadEnd.TheVariants as ends
-use Rattle.read_command.specs.Disks.{IsUnopened, IsSpared, usual_header}
+use Rattle.read_command.specs.Disks.{IsUnopened, IsSpared, InItsRooms, NamesRooms, StaysShut, Current, Unbegun, Broken}
 use Rattle.read_command.specs.Opening.{EndsOne, IsFree, Opening, end_by}
 
 -- ---- where nothing is begun
@@ -50,11 +52,33 @@ spared_by header old new result s = record {
 }
 
 -- a cloud that is as it was
-pub spared_still : (old new : Cloud) → new ≡ old → IsImage old.now (reads old.now) → IsSpared old new
-spared_still old new same reads_image = record {
-  any_moment = left_alone old new (λ (image : Image). IsImage old.now image) same (λ image is. is);
-  still_read = subst (λ (c : Cloud). IsImage old.now (reads c.now)) (sym same) reads_image;
+pub spared_still : (old new : Cloud) → Stays old new → IsImage old.now (reads old.now) → IsSpared old new
+spared_still old new stays reads_image = record {
+  any_moment = stayed old new (λ (image : Image). IsImage old.now image) stays (λ image is. is);
+  still_read = subst (λ (a : Areas). IsImage old.now (λ area. (a area).read)) (sym stays.now) reads_image;
 }
+
+-- what images stood for they stand for since
+pub images_by : (header : Header) (lists : List (List Command)) (old new : Cloud) → IsSpared old new → ImagesNow old header (Contains lists)
+    → ImagesSince old new header (Contains lists)
+images_by header lists old new spared images =
+    weaker old new (λ (image : Image). IsImage old.now image) (StandsForSome header (Contains lists)) spared.any_moment images
+
+-- areas that stand for a list have its header in the start of their current half
+abbrev pub OneHeader : Type 0
+OneHeader = (image : Image) (header : Header) (list : List Command) (half : ℕ) (start : Start) → StandsFor image header list → ¬ IsUnbegun (image Journal)
+    → IsCurrent (image Journal) half start → start.header ≡ header
+
+-- the rooms that a journal names are those with which its areas stand for a list
+pub rooms_one : OneHeader → (image : Image) (header : Header) (list : List Command) (rooms : Rooms) → StandsFor image header list → ¬ IsUnbegun (image Journal)
+    → NamesRooms (image Journal) rooms → rooms ≡ header.rooms
+unfolding StandsFor
+rooms_one one_header image header list rooms stands begun (Current half start is) = ap (λ (h : Header). h.rooms) (one_header image header list half start stands begun is)
+rooms_one one_header image header list rooms stands begun (Unbegun is) = absurd (begun is)
+rooms_one one_header image header list rooms stands begun (Broken at byte damage) = elim stands.1 [
+  | inl has ↦ absurd (current_whole (image Journal) has.chain_of.half has.chain_of.start has.is_chain.there.current at byte damage)
+  | inr none ↦ absurd (begun none.0)
+]
 
 -- a journal that may be begun and isn't to be begun is begun
 pub begun_by : (bytes : List ℕ) → MayBegin bytes false → ¬ IsUnbegun bytes
@@ -84,15 +108,22 @@ abbrev pub came_by : CloudNo → Result ℕ OpenErr → Result (Unit {0}) ReadEn
 came_by cloud (Ok commands) = Ok tt
 came_by cloud (Err error) = Err (end_by cloud error)
 
+-- what is said of each error is said unless a device failed
+unless_fault : (error : OpenErr) (Said : Type 0) → Said → (let answer : Result ℕ OpenErr = Err error in OnFault answer (Unit {0}) Said)
+unless_fault errors.Fault Said is = tt
+unless_fault (errors.NotBegun len) Said is = is
+unless_fault (errors.Damaged at byte) Said is = is
+unless_fault (errors.OtherStore found asked at) Said is = is
+
 -- the end by the error of an opening
-ends_one : (header : Header) (old new : Cloud) (before now : ℕ) (cloud : CloudNo) (error : OpenErr)
-    → (IsTrue old.told → IsUnopened header old new error)
+ends_one : (shape : Shape) (old new : Cloud) (before now : ℕ) (cloud : CloudNo) (error : OpenErr)
+    → (IsTrue old.told → StaysShut shape cloud.0 old new error)
     → (let answer : Result ℕ OpenErr = Err error in OnFault answer (HasFailed old new before now) (KeepsCounts old new before now))
-    → EndsOne header old new before now cloud.0 (end_by cloud error)
-ends_one header old new before now cloud errors.Fault is counts = ((refl, is), counts)
-ends_one header old new before now cloud (errors.NotBegun len) is counts = (refl, is)
-ends_one header old new before now cloud (errors.Damaged at byte) is counts = (refl, is)
-ends_one header old new before now cloud (errors.OtherStore found asked at) is counts = (asked, at, (refl, is))
+    → EndsOne shape old new before now cloud.0 (end_by cloud error)
+ends_one shape old new before now cloud errors.Fault is counts = ((refl, is), counts)
+ends_one shape old new before now cloud (errors.NotBegun len) is counts = (refl, is)
+ends_one shape old new before now cloud (errors.Damaged at byte) is counts = (refl, is)
+ends_one shape old new before now cloud (errors.OtherStore found asked at) is counts = (asked, at, (refl, is))
 
 -- no other end comes of an opening that answers Ok unless a device failed
 free_by : (cloud : CloudNo) (error : OpenErr) → (let answer : Result ℕ OpenErr = Err error in IsOkOrFault answer) → IsFree (end_by cloud error)
@@ -102,9 +133,10 @@ free_by cloud (errors.Damaged at byte) is = absurd is
 free_by cloud (errors.OtherStore found asked at) is = absurd is
 
 module _ {V : Type 0} (clouds : V → ℕ → Cloud) where
-  -- the call that opens a server in the usual rooms
-  pub opening_by : (mid new : LocalLink V) (cloud : CloudNo) (before now : ℕ) (result : Result ℕ OpenErr) (came : Result (Unit {0}) ReadEnd)
-      → rooms_at mid.servers cloud.0 ≡ usual_rooms
+  -- the call that opens a server in the rooms that the journal names
+  pub opening_by : OneHeader → (mid new : LocalLink V) (cloud : CloudNo) (rooms : Rooms) (before now : ℕ) (result : Result ℕ OpenErr) (came : Result (Unit {0}) ReadEnd)
+      → rooms_at mid.servers cloud.0 ≡ rooms
+      → (IsTrue (clouds mid.shelf.now cloud.0).told → NamesRooms (reads (clouds mid.shelf.now cloud.0).now Journal) rooms)
       → (IsTrue (clouds mid.shelf.now cloud.0).told → IsSomeAnd (server_at new.servers cloud.0) (λ (s : Server). OnFault result (Unit {0})
       (Opens (header_at mid.servers cloud.0) false (reads (clouds mid.shelf.now cloud.0).now) (memory_of s.store.memory) result)))
       → (IsTrue (clouds mid.shelf.now cloud.0).told → NotBegunIs (clouds mid.shelf.now cloud.0) (clouds new.shelf.now cloud.0) false result)
@@ -116,12 +148,10 @@ module _ {V : Type 0} (clouds : V → ℕ → Cloud) where
       → IfOk result (λ commands. (commands ≡ counted list) × StandsAt clouds new cloud.0 (settled_with list (clouds new.shelf.now cloud.0))))
       → OnFault result (HasFailed (clouds mid.shelf.now cloud.0) (clouds new.shelf.now cloud.0) before now) (KeepsCounts (clouds mid.shelf.now cloud.0) (clouds new.shelf.now cloud.0) before now)
       → (IsTrue (clouds mid.shelf.now cloud.0).told → Spares (header_at mid.servers cloud.0) false (clouds mid.shelf.now cloud.0) (clouds new.shelf.now cloud.0) result)
-      → (IsTrue (clouds mid.shelf.now cloud.0).told → (lists : List (List Command)) → ImagesNow (clouds mid.shelf.now cloud.0) (header_at mid.servers cloud.0) (Contains lists)
-      → ImagesSince (clouds mid.shelf.now cloud.0) (clouds new.shelf.now cloud.0) (header_at mid.servers cloud.0) (Contains lists))
       → rooms_at new.servers cloud.0 ≡ rooms_at mid.servers cloud.0
       → came ≡ came_by cloud result
       → Opening clouds mid.servers.shape (clouds mid.shelf.now cloud.0) before new now cloud.0 came
-  opening_by mid new cloud before now result came rooms exact begun own whole loaded counts areas images stay is =
+  opening_by one_header mid new cloud rooms before now result came in_rooms named exact begun own whole loaded counts areas stay is =
       subst (Opening clouds mid.servers.shape (clouds mid.shelf.now cloud.0) before new now cloud.0) (sym is) (by_result result exact begun own whole loaded counts)
     where
       old : Cloud
@@ -134,22 +164,26 @@ module _ {V : Type 0} (clouds : V → ℕ → Cloud) where
       shape = mid.servers.shape
 
       asked : Header
-      asked = usual_header shape cloud.0
+      asked = header_of shape rooms cloud.0
 
       header : header_at mid.servers cloud.0 ≡ asked
-      header = ap (λ (r : Rooms). header_of shape r cloud.0) rooms
+      header = ap (λ (r : Rooms). header_of shape r cloud.0) in_rooms
 
-      within : (list : List Command) → IsWithin shape usual_rooms list → IsWithin shape (rooms_at mid.servers cloud.0) list
-      within list is = subst (λ (r : Rooms). IsWithin shape r list) (sym rooms) is
+      -- lists that stand in any rooms stand in those of the server
+      same : IsTrue old.told → (any : Rooms) (list : List Command) → StandsFor (reads old.now) (header_of shape any cloud.0) list → ¬ IsUnbegun (reads old.now Journal)
+          → any ≡ rooms_at mid.servers cloud.0
+      same told any list stands begins = sym (rooms_one one_header (reads old.now) (header_of shape any cloud.0) list rooms stands begins (named told)) ∙ sym in_rooms
 
-      stands_by : (list : List Command) → StandsFor (reads old.now) asked list → StandsFor (reads old.now) (header_at mid.servers cloud.0) list
-      stands_by list stands = subst (λ (h : Header). StandsFor (reads old.now) h list) (sym header) stands
+      within : IsTrue old.told → (any : Rooms) (list : List Command) → StandsFor (reads old.now) (header_of shape any cloud.0) list → ¬ IsUnbegun (reads old.now Journal)
+          → IsWithin shape any list → IsWithin shape (rooms_at mid.servers cloud.0) list
+      within told any list stands begins is = subst (λ (r : Rooms). IsWithin shape r list) (same told any list stands begins) is
+
+      stands_by : IsTrue old.told → (any : Rooms) (list : List Command) → StandsFor (reads old.now) (header_of shape any cloud.0) list → ¬ IsUnbegun (reads old.now Journal)
+          → StandsFor (reads old.now) (header_at mid.servers cloud.0) list
+      stands_by told any list stands begins = subst (λ (r : Rooms). StandsFor (reads old.now) (header_of shape r cloud.0) list) (same told any list stands begins) stands
 
       spared : IsTrue old.told → IsSpared old after
       spared told = spared_by (header_at mid.servers cloud.0) old after result (areas told)
-
-      kept : IsTrue old.told → (lists : List (List Command)) → ImagesNow old asked (Contains lists) → ImagesSince old after asked (Contains lists)
-      kept told lists images_now = subst (λ (h : Header). ImagesNow old h (Contains lists) → ImagesSince old after h (Contains lists)) header (images told lists) images_now
 
       to : (r : Result ℕ OpenErr) → IsSomeAnd (server_at new.servers cloud.0) (λ (s : Server). OnFault r (Unit {0}) (Opens (header_at mid.servers cloud.0) false (reads old.now) (memory_of s.store.memory) r))
           → OnFault r (Unit {0}) (OpensTo asked false (reads old.now) r)
@@ -165,51 +199,65 @@ module _ {V : Type 0} (clouds : V → ℕ → Cloud) where
           → OnFault r (HasFailed old after before now) (KeepsCounts old after before now)
           → Opening clouds mid.servers.shape old before new now cloud.0 (came_by cloud r)
       by_result (Ok commands) exact begun own whole loaded counts = record {
-        opened = λ told. record {
-          commands = commands;
-          opens = to (Ok commands) (exact told);
-          begun = begun_by (reads old.now Journal) (begun told);
-          own = subst (HasNoOther (reads old.now Journal)) header (own told);
-        };
-        rooms = stay ∙ rooms;
-        loaded = λ told list stands is. (loaded told list (stands_by list stands) (within list is)).1;
+        opened = λ told. (
+          rooms,
+          named told,
+          record {
+            commands = commands;
+            opens = to (Ok commands) (exact told);
+            begun = begun_by (reads old.now Journal) (begun told);
+            own = subst (HasNoOther (reads old.now Journal)) header (own told);
+          },
+        );
+        rooms = λ told. subst (NamesRooms (reads old.now Journal)) (sym (stay ∙ in_rooms)) (named told);
+        loaded = λ told any list stands is.
+            let begins = begun_by (reads old.now Journal) (begun told) in
+            (loaded told list (stands_by told any list stands begins) (within told any list stands begins is)).1;
         counts = counts;
-        readable = λ list is. tt;
+        readable = λ any list is. tt;
         end = tt;
         spared = spared;
-        images = kept;
       }
       by_result (Err error) exact begun own whole loaded counts = record {
         opened = λ told. tt;
-        rooms = tt;
-        loaded = λ told list stands is. tt;
+        rooms = λ told. tt;
+        loaded = λ told any list stands is. tt;
         counts = tt;
-        readable = λ list is. free_by cloud error (whole is.told list (stands_by list is.stands) (within list is.within) (λ unbegun. absurd (is.begun unbegun)));
-        end = ends_one asked old after before now cloud error (λ told. record {
-          exact = to (Err error) (exact told);
-          not_begun = begun told;
-          other_store = subst (λ (h : Header). let answer : Result ℕ OpenErr = Err error in OtherStoreIs (reads old.now Journal) h answer) header (own told);
-        }) counts;
+        readable = λ any list is. free_by cloud error (whole is.told list (stands_by is.told any list is.stands is.begun)
+            (within is.told any list is.stands is.begun is.within) (λ unbegun. absurd (is.begun unbegun)));
+        end = ends_one shape old after before now cloud error (λ told. unless_fault error (InItsRooms shape cloud.0 old (λ (h : Header). IsUnopened h old after error)) (
+          rooms,
+          named told,
+          record {
+            exact = to (Err error) (exact told);
+            not_begun = begun told;
+            other_store = subst (λ (h : Header). let answer : Result ℕ OpenErr = Err error in OtherStoreIs (reads old.now Journal) h answer) header (own told);
+          },
+        )) counts;
         spared = spared;
-        images = kept;
       }
 
-  -- memory ran out before it
-  pub opening_none : (link : LocalLink V) (number before : ℕ) (came : Result (Unit {0}) ReadEnd) → came ≡ Err ends.NoMemory
-      → (IsTrue (clouds link.shelf.now number).told → IsImage (clouds link.shelf.now number).now (reads (clouds link.shelf.now number).now))
-      → Opening clouds link.servers.shape (clouds link.shelf.now number) before link before number came
-  opening_none link number before came is reads_image =
-      let old = clouds link.shelf.now number in
-      subst (Opening clouds link.servers.shape old before link before number) (sym is) (record {
+  -- nothing was opened: memory ran out before it, or a device failed
+  pub opening_none : (shape : Shape) (old : Cloud) (new : LocalLink V) (number before now : ℕ) (end : ReadEnd) (came : Result (Unit {0}) ReadEnd) → came ≡ Err end → IsFree end
+      → EndsOne shape old (clouds new.shelf.now number) before now number end → Stays old (clouds new.shelf.now number) → (IsTrue old.told → IsImage old.now (reads old.now))
+      → Opening clouds shape old before new now number came
+  opening_none shape old new number before now end came is free ends stays reads_image =
+      subst (Opening clouds shape old before new now number) (sym is) (record {
         opened = λ told. tt;
-        rooms = tt;
-        loaded = λ told list stands is. tt;
+        rooms = λ told. tt;
+        loaded = λ told any list stands is. tt;
         counts = tt;
-        readable = λ list readable. tt;
-        end = tt;
-        spared = λ told. spared_still old old refl (reads_image told);
-        images = λ told lists images. left_alone old old (StandsForSome (usual_header link.servers.shape number) (Contains lists)) refl images;
+        readable = λ any list readable. free;
+        end = ends;
+        spared = λ told. spared_still old (clouds new.shelf.now number) stays (reads_image told);
       })
+
+  -- a device failed as the journal's halves were read
+  pub fails_open : (shape : Shape) (old : Cloud) (new : LocalLink V) (cloud : CloudNo) (before now : ℕ) (end : ReadEnd) → end ≡ ends.ShelfFault cloud
+      → HasFailed old (clouds new.shelf.now cloud.0) before now → Stays old (clouds new.shelf.now cloud.0) → (IsTrue old.told → IsImage old.now (reads old.now))
+      → Opening clouds shape old before new now cloud.0 (Err end)
+  fails_open shape old new cloud before now end is failed stays reads_image =
+      opening_none shape old new cloud.0 before now (ends.ShelfFault cloud) (Err end) (ap Err is) tt ((refl, λ told. tt), failed) stays reads_image
 
   -- over a link that had the same shelf
   pub opening_from : (shape_mid shape : Shape) (cloud_mid cloud : Cloud) (total_mid total : ℕ) (new : LocalLink V) (now number : ℕ) (came : Result (Unit {0}) ReadEnd)

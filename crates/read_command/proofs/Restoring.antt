@@ -17,7 +17,6 @@ use Rattle.user_dedup.specs.Exec.{Peer, MaySettleAs}
 use Rattle.user_dedup.specs.Spending.{IsWithin}
 use Rattle.journal_start.specs.declared.rooms.Rooms.{Rooms}
 use Rattle.journal_start.specs.declared.start.Header.{Header}
-use Rattle.journal_start.specs.Ranges.{usual_rooms}
 use Rattle.user_dedup.specs.Link.{Talk}
 use Rattle.user_dedup.proofs.Owned.{contains_here, contains_later, contains_cases, contains_nothing}
 use Rattle.cloud_areas.specs.Peers.{StandsForSome, ImagesSince}
@@ -37,7 +36,7 @@ use Rattle.restore_job.specs.declared.error.RestoreErr.{RestoreErr}
 use Rattle.restore_job.specs.declared.error.RestoreErr.TheVariants as errors
 use Rattle.transcript.specs.declared.refusal.Refusal.{Refusal}
 use Rattle.transcript.specs.declared.refusal.Refusal.TheVariants as refusals
-use Rattle.read_command.specs.Disks.{AreReadable, KeepsDisks, usual_header}
+use Rattle.read_command.specs.Disks.{AreReadable, KeepsDisks}
 use Rattle.read_command.specs.Opening.{AreOpened}
 use Rattle.subset_restore.specs.Refusals.{refusal_of, refusal_text}
 use Rattle.subset_restore.specs.Ends.{Sought, AnyEnds, GivesNone, NoneCame, WasLost, any_outcome, outcome_of}
@@ -50,6 +49,7 @@ use Rattle.subset_restore.proofs.Elements.{all_of, contains_back, contains_front
 use Rattle.subset_restore.proofs.Going.{any_at, any_none}
 use Rattle.read_command.specs.Ends.{Outside, HaveLists, RoseBy, Due, due_of, IsNone, HoldsFailed, IsFileDue, IsRefusalDue}
 use Rattle.read_command.specs.Ends.{IsFaultLine, IsLineOf, CameTo, CameDue}
+use Rattle.read_command.proofs.Disks.{OneHeader, rooms_one}
 use Rattle.read_command.proofs.Row.{of_one}
 
 -- ---- which clouds are named, as a test
@@ -240,10 +240,10 @@ module _ {V : Type 0} (clouds : V → ℕ → Cloud) (named : List ℕ) (shape :
   shape_mid : mid.servers.shape ≡ shape
   shape_mid = opened.shape ∙ same
 
-  lists_old : (lists : ℕ → List Command) → HaveLists around shape named lists → (cloud : ℕ) → Contains named cloud → IsTrue (clouds old.shelf.now cloud).told
-      → StandsFor (reads (clouds old.shelf.now cloud).now) (usual_header old.servers.shape cloud) (lists cloud) × IsWithin old.servers.shape usual_rooms (lists cloud)
-  lists_old lists have cloud has told =
-      subst (λ (s : Shape). StandsFor (reads (clouds old.shelf.now cloud).now) (usual_header s cloud) (lists cloud) × IsWithin s usual_rooms (lists cloud)) (sym same) (have cloud has told)
+  lists_old : (rooms : ℕ → Rooms) (lists : ℕ → List Command) → HaveLists around shape named rooms lists → (cloud : ℕ) → Contains named cloud → IsTrue (clouds old.shelf.now cloud).told
+      → StandsFor (reads (clouds old.shelf.now cloud).now) (header_of old.servers.shape (rooms cloud) cloud) (lists cloud) × IsWithin old.servers.shape (rooms cloud) (lists cloud)
+  lists_old rooms lists have cloud has told =
+      subst (λ (s : Shape). StandsFor (reads (clouds old.shelf.now cloud).now) (header_of s (rooms cloud) cloud) (lists cloud) × IsWithin s (rooms cloud) (lists cloud)) (sym same) (have cloud has told)
 
   told_back : (cloud : ℕ) → IsTrue (clouds mid.shelf.now cloud).told → IsTrue (clouds old.shelf.now cloud).told
   told_back cloud told = subst (λ (b : Bool). IsTrue b) (opened.told cloud) told
@@ -254,20 +254,20 @@ module _ {V : Type 0} (clouds : V → ℕ → Cloud) (named : List ℕ) (shape :
   abbrev peers : (ℕ → List Command) → ℕ → Peer
   peers lists cloud = settled_with (lists cloud) (clouds mid.shelf.now cloud)
 
-  loaded : (lists : ℕ → List Command) → HaveLists around shape named lists → (cloud : ℕ) → Contains named cloud → IsTrue (clouds mid.shelf.now cloud).told
+  loaded : (rooms : ℕ → Rooms) (lists : ℕ → List Command) → HaveLists around shape named rooms lists → (cloud : ℕ) → Contains named cloud → IsTrue (clouds mid.shelf.now cloud).told
       → StandsAt clouds mid cloud (settled_with (lists cloud) (clouds mid.shelf.now cloud))
-  loaded lists have cloud has told =
+  loaded rooms lists have cloud has told =
       let was = told_back cloud told in
-      let list = lists_old lists have cloud has was in
-      (opened.each cloud has).loaded was (lists cloud) list.0 list.1
+      let list = lists_old rooms lists have cloud has was in
+      (opened.each cloud has).loaded was (rooms cloud) (lists cloud) list.0 list.1
 
-  stand : (lists : ℕ → List Command) → HaveLists around shape named lists → PeersOf (telling clouds) mid (among named) (peers lists)
-  stand lists have cloud is =
+  stand : (rooms : ℕ → Rooms) (lists : ℕ → List Command) → HaveLists around shape named rooms lists → PeersOf (telling clouds) mid (among named) (peers lists)
+  stand rooms lists have cloud is =
       let has = has_among named cloud is in record {
         faults = refl;
         armings = refl;
-        serving = λ told. (loaded lists have cloud has told).serving told;
-        sound = λ told. (loaded lists have cloud has told).sound told;
+        serving = λ told. (loaded rooms lists have cloud has told).serving told;
+        sound = λ told. (loaded rooms lists have cloud has told).sound told;
       }
 
   module _ (user : UserId) (tag : Tag) (version : Version) (talk : LocalLink V → ℕ → Talk → Type 0)
@@ -292,9 +292,9 @@ module _ {V : Type 0} (clouds : V → ℕ → Cloud) (named : List ℕ) (shape :
       }
 
       rose_in : (e : RestoreErr) → Names (Contains named) e → NoneCame (telling clouds) talk wanted mid new was e
-          → (lists : ℕ → List Command) → HaveLists around shape named lists → RoseBy around e
-      rose_in e n came lists have =
-          let went = came.leads (among named) (λ cloud has. among_has named cloud has) (peers lists) (stand lists have) in
+          → (rooms : ℕ → Rooms) (lists : ℕ → List Command) → HaveLists around shape named rooms lists → RoseBy around e
+      rose_in e n came rooms lists have =
+          let went = came.leads (among named) (λ cloud has. among_has named cloud has) (peers lists) (stand rooms lists have) in
           let y : Try = record { subset = came.first; refusal = e } in
           let here : Contains came.tries y = subst (λ (l : List Try). Contains l y) (sym came.tries_are)
           (contains_here y came.more) in
@@ -320,16 +320,16 @@ module _ {V : Type 0} (clouds : V → ℕ → Cloud) (named : List ℕ) (shape :
           by_result (Err e) n came f = record {
             names = n;
             rose = none_by (telling clouds) talk wanted was mid new
-                (λ x. Names (Contains named) x → (lists : ℕ → List Command) → HaveLists around shape named lists
-                → RoseBy around x) (λ names lists have. tt) (λ x is names. rose_in x names is) e came n;
+                (λ x. Names (Contains named) x → (rooms : ℕ → Rooms) (lists : ℕ → List Command) → HaveLists around shape named rooms lists
+                → RoseBy around x) (λ names rooms lists have. tt) (λ x is names. rose_in x names is) e came n;
             found = f;
           }
 
-      pub is_due : (lists : ℕ → List Command) → AreReadable shape named (clouds old.shelf.now) lists
+      pub is_due : (rooms : ℕ → Rooms) (lists : ℕ → List Command) → AreReadable shape named (clouds old.shelf.now) rooms lists
           → CameDue around named (due_of shape user (tag, version) named lists) result file
-      is_due lists are = by_result result names restored found
+      is_due rooms lists are = by_result result names restored found
         where
-          have : HaveLists around shape named lists
+          have : HaveLists around shape named rooms lists
           have cloud has told = ((are cloud has).stands, (are cloud has).within)
 
           told : TellsAll (telling clouds) mid named
@@ -343,20 +343,20 @@ module _ {V : Type 0} (clouds : V → ℕ → Cloud) (named : List ℕ) (shape :
               → (let r : Result (Unit {0}) RestoreErr = Err e in
               CameDue around named (due_of shape user (tag, version) named lists) r file)
           by_error e came n f why is =
-              let went = came.leads (among named) (λ cloud has. among_has named cloud has) (peers lists) (stand lists have) in
+              let went = came.leads (among named) (λ cloud has. among_has named cloud has) (peers lists) (stand rooms lists have) in
               let counts = counts_of lists went.0 went.1 in
               let unlost = none_lost (telling clouds) talk wanted was mid new came.tries came.refused lossless in
               let known = went.4 told in
               subst (λ (g : ℕ → List Command). IsRefusalDue around named (due_of shape user (tag, version) named g)
               (refusal_text why)) (same_lists went.0 went.2)
               (refusal_due around wanted came.tries (peers lists) went.0 counts unlost came.first came.rest e was was
-              came.first_is known.ends known.none f (rose_in e n came lists have) why is)
+              came.first_is known.ends known.none f (rose_in e n came rooms lists have) why is)
 
           by_result : (r : Result (Unit {0}) RestoreErr) → IfErr r (Names (Contains named))
               → AnyEnds (telling clouds) talk wanted mid new was file r → is_lost r ≡ false
               → CameDue around named (due_of shape user (tag, version) named lists) r file
           by_result (Ok u) n came f =
-              let went = came.leads (among named) (λ cloud has. among_has named cloud has) (peers lists) (stand lists have) in
+              let went = came.leads (among named) (λ cloud has. among_has named cloud has) (peers lists) (stand rooms lists have) in
               let counts = counts_of lists went.0 went.1 in
               let unlost = none_lost (telling clouds) talk wanted was mid came.mid came.tries came.refused lossless in
               let known = went.4 told in
@@ -375,28 +375,33 @@ module _ {V : Type 0} (clouds : V → ℕ → Cloud) (named : List ℕ) (shape :
               (λ x is names unlost. by_error x is names unlost) e came n f
 
   -- the images of all, and the clouds that weren't named
-  pub kept_on : ((cloud : ℕ) (p : Peer) → cloud < mid.servers.shape.n → IsTrue (clouds mid.shelf.now cloud).told → StandsAt clouds mid cloud p
+  pub kept_on : OneHeader → ((cloud : ℕ) (p : Peer) → cloud < mid.servers.shape.n → IsTrue (clouds mid.shelf.now cloud).told → StandsAt clouds mid cloud p
       → ImagesSince (clouds mid.shelf.now cloud) (clouds new.shelf.now cloud) (header_at mid.servers cloud) (MaySettleAs p))
       → ((cloud : ℕ) → ¬ Contains named cloud → clouds new.shelf.now cloud ≡ clouds mid.shelf.now cloud) → All (λ cloud. cloud < shape.n) named
       → ((cloud : ℕ) → IsTrue (clouds old.shelf.now cloud).told → IsImage (clouds old.shelf.now cloud).now (reads (clouds old.shelf.now cloud).now))
       → KeepsDisks old.servers.shape named (clouds old.shelf.now) (clouds mid.shelf.now) → KeepsDisks shape named (clouds old.shelf.now) (clouds new.shelf.now)
-  kept_on read_images read_others within reads_image kept = subst (λ (s : Shape). KeepsDisks s named (clouds old.shelf.now) (clouds new.shelf.now)) same (record {
-    chosen = λ cloud lists has told small images.
-        let header = usual_header old.servers.shape cloud in
+  kept_on one_header read_images read_others within reads_image kept = subst (λ (s : Shape). KeepsDisks s named (clouds old.shelf.now) (clouds new.shelf.now)) same (record {
+    chosen = λ cloud rooms lists has told small images.
+        let header = header_of old.servers.shape rooms cloud in
         let read = images (reads (clouds old.shelf.now cloud).now) (reads_image cloud told) in
         let may = MaySettleAs (settled_with read.0 (clouds mid.shelf.now cloud)) in
-        let stands = (opened.each cloud has).loaded told read.0 read.2 (small read.0 read.1) in
+        let stands = (opened.each cloud has).loaded told rooms read.0 read.2 (small read.0 read.1) in
         joined (clouds old.shelf.now cloud) (clouds mid.shelf.now cloud) (clouds new.shelf.now cloud) (StandsForSome header (Contains lists))
-        (kept.chosen cloud lists has told small images)
+        (kept.chosen cloud rooms lists has told small images)
         (weaker (clouds mid.shelf.now cloud) (clouds new.shelf.now cloud) (StandsForSome header may) (StandsForSome header (Contains lists))
-        (subst (λ (h : Header). ImagesSince (clouds mid.shelf.now cloud) (clouds new.shelf.now cloud) h may) (header_mid cloud has)
+        (subst (λ (h : Header). ImagesSince (clouds mid.shelf.now cloud) (clouds new.shelf.now cloud) h may) (header_mid cloud has told rooms read.0 read.2)
         (read_images cloud (settled_with read.0 (clouds mid.shelf.now cloud))
         (subst (λ (s : Shape). cloud < s.n) (sym shape_mid) (of_one (λ x. x < shape.n) named cloud within has)) (told_on cloud told) stands))
         (λ image x. (x.0, subst (Contains lists) (sym (only_list read.0 (clouds mid.shelf.now cloud) x.0 x.1)) read.1, x.2)));
     others = λ cloud not. read_others cloud not ∙ kept.others cloud not;
   })
     where
-      header_mid : (cloud : ℕ) → Contains named cloud → header_at mid.servers cloud ≡ usual_header old.servers.shape cloud
-      header_mid cloud has =
+      header_mid : (cloud : ℕ) → Contains named cloud → IsTrue (clouds old.shelf.now cloud).told → (rooms : Rooms) (list : List Command)
+          → StandsFor (reads (clouds old.shelf.now cloud).now) (header_of old.servers.shape rooms cloud) list
+          → header_at mid.servers cloud ≡ header_of old.servers.shape rooms cloud
+      header_mid cloud has told rooms list stands =
+          let is = opened.each cloud has in
           ap (λ (s : Shape). header_of s (rooms_at mid.servers cloud) cloud) opened.shape
-          ∙ ap (λ (r : Rooms). header_of old.servers.shape r cloud) (opened.each cloud has).rooms
+          ∙ ap (λ (r : Rooms). header_of old.servers.shape r cloud)
+          (rooms_one one_header (reads (clouds old.shelf.now cloud).now) (header_of old.servers.shape rooms cloud) list (rooms_at mid.servers cloud) stands
+          (is.opened told).2.begun (is.rooms told))

@@ -8,22 +8,23 @@ use Rattle.std.proofs.lemmas.List.Kept.{AllPairs-from_increasing}
 use Rattle.std.proofs.lemmas.List.{get_or_append_left, get_or_at}
 use Rattle.std.proofs.lemmas.List.Elements.{Contains-append_left, Contains-append_right, Contains-push_cases}
 use Rattle.cd_base.specs.declared.shape.Shape.{Shape}
+use Rattle.cd_edges.specs.declared.area.Area.TheVariants.{Journal}
 use Rattle.cd_edges.specs.Disk.{Cloud, IsImage, reads}
+use Rattle.journal_start.specs.declared.rooms.Rooms.{Rooms}
+use Rattle.cloud_server.specs.Names.{header_of}
 use Rattle.cd_edges.specs.Shelf.{HasFailed}
-use Rattle.cd_edges.proofs.Moments.{left_alone}
 use Rattle.half_journal.specs.declared.errors.OpenErr.{OpenErr}
 use Rattle.half_journal.specs.declared.errors.OpenErr.TheVariants as errors
 use Rattle.user_dedup.specs.declared.command.Command.{Command}
 use Rattle.user_dedup.proofs.Owned.{contains_here, contains_nothing}
-use Rattle.cloud_areas.specs.Peers.{StandsForSome, ImagesNow, ImagesSince}
 use Rattle.cloud_server.specs.declared.server.Server.{Server}
 use Rattle.cloud_server.specs.Serving.{settled_with}
 use Rattle.local_link.specs.declared.link.LocalLink.{LocalLink}
 use Rattle.local_link.specs.Tells.{server_at, rooms_of, IsPeer, LeavesRest}
 use Rattle.read_command.specs.declared.end.ReadEnd.{ReadEnd}
 use Rattle.read_command.specs.declared.end.ReadEnd.TheVariants as ends
-use Rattle.read_command.specs.Disks.{AreReadable, IsUnopened, IsSpared, StopsAt, KeepsDisks, usual_header}
-use Rattle.read_command.proofs.Disks.{opening_from, spared_still}
+use Rattle.read_command.specs.Disks.{AreReadable, IsSpared, StopsAt, KeepsDisks, NamesRooms, StaysShut}
+use Rattle.read_command.proofs.Disks.{images_by, opening_from, spared_still}
 use Rattle.read_command.specs.Opening.{Opening, BecomesOpen, AreOpened, EndsBy, EndsOpening, IsFree}
 
 -- ---- rising clouds
@@ -44,12 +45,9 @@ of_one P xs x all has = subst P has.2 (all has.0 x has.1)
 -- ---- all that calls leave, whatever they came to
 
 module _ {V : Type 0} (clouds : V → ℕ → Cloud) where
-  -- each cloud is spared, and its images stand for what they stood for; what is told stays
+  -- each cloud is spared; what is told stays
   pub record Leaves (old new : LocalLink V) : Type 0 where
     pub spared : (cloud : ℕ) → IsTrue (clouds old.shelf.now cloud).told → IsSpared (clouds old.shelf.now cloud) (clouds new.shelf.now cloud)
-    pub images : (cloud : ℕ) → IsTrue (clouds old.shelf.now cloud).told → (lists : List (List Command))
-        → ImagesNow (clouds old.shelf.now cloud) (usual_header old.servers.shape cloud) (Contains lists)
-        → ImagesSince (clouds old.shelf.now cloud) (clouds new.shelf.now cloud) (usual_header old.servers.shape cloud) (Contains lists)
     pub shape : new.servers.shape ≡ old.servers.shape
     pub told : (cloud : ℕ) → (clouds new.shelf.now cloud).told ≡ (clouds old.shelf.now cloud).told
 
@@ -89,9 +87,9 @@ module _ {V : Type 0} (clouds : V → ℕ → Cloud) where
       → server_at new.servers number ≡ server_at mid.servers number → BecomesOpen clouds old mid number → BecomesOpen clouds old new number
   becomes_later old mid new number shape cloud server is = record {
     opened = is.opened;
-    rooms = ap rooms_of server ∙ is.rooms;
-    loaded = λ told list stands within. stands_later number mid.servers.shape new.servers.shape (clouds mid.shelf.now number) (clouds new.shelf.now number)
-        (server_at mid.servers number) (server_at new.servers number) list shape cloud server (is.loaded told list stands within);
+    rooms = λ told. subst (λ (o : Option Server). NamesRooms (reads (clouds old.shelf.now number).now Journal) (rooms_of o)) (sym server) (is.rooms told);
+    loaded = λ told rooms list stands within. stands_later number mid.servers.shape new.servers.shape (clouds mid.shelf.now number) (clouds new.shelf.now number)
+        (server_at mid.servers number) (server_at new.servers number) list shape cloud server (is.loaded told rooms list stands within);
     faults = ap (λ (k : Cloud). k.faults) cloud ∙ is.faults;
   }
 
@@ -105,8 +103,7 @@ module _ {V : Type 0} (clouds : V → ℕ → Cloud) where
     each = λ cloud has. absurd (contains_nothing cloud has);
     others = λ cloud not. refl;
     leaves = record {
-      spared = λ cloud told. spared_still (clouds old.shelf.now cloud) (clouds old.shelf.now cloud) refl (reads_image cloud told);
-      images = λ cloud told lists images. left_alone (clouds old.shelf.now cloud) (clouds old.shelf.now cloud) (StandsForSome (usual_header old.servers.shape cloud) (Contains lists)) refl images;
+      spared = λ cloud told. spared_still (clouds old.shelf.now cloud) (clouds old.shelf.now cloud) (record { armed = refl; past = refl; now = refl }) (reads_image cloud told);
       shape = refl;
       told = λ cloud. refl;
     };
@@ -128,7 +125,8 @@ module _ {V : Type 0} (clouds : V → ℕ → Cloud) where
   pub all_kept : (named : List ℕ) (before now : ℕ) (old mid : LocalLink V) → SoFar clouds named [] before now old mid
       → KeepsDisks old.servers.shape named (clouds old.shelf.now) (clouds mid.shelf.now)
   all_kept named before now old mid so = record {
-    chosen = λ cloud lists has told within images. so.leaves.images cloud told lists images;
+    chosen = λ cloud rooms lists has told within images.
+        images_by (header_of old.servers.shape rooms cloud) lists (clouds old.shelf.now cloud) (clouds mid.shelf.now cloud) (so.leaves.spared cloud told) images;
     others = λ cloud not. so.others cloud (λ has. not (subst (λ (l : List ℕ). Contains l cloud) (sym (so.place ∙ append-nil so.front)) has));
   }
 
@@ -159,12 +157,6 @@ module _ {V : Type 0} (clouds : V → ℕ → Cloud) where
         | inl e ↦ subst (λ (c : ℕ). IsTrue (clouds old.shelf.now c).told → IsSpared (clouds old.shelf.now c) (clouds new.shelf.now c)) (sym e) here.spared told
         | inr ne ↦ subst (λ (k : Cloud). IsSpared (clouds old.shelf.now cloud) k) (sym (rest.clouds_stay cloud ne)) (so.leaves.spared cloud told)
       ];
-      images = λ cloud told lists images. elim (cases_eq cloud number) [
-        | inl e ↦ subst (λ (c : ℕ). IsTrue (clouds old.shelf.now c).told → ImagesNow (clouds old.shelf.now c) (usual_header old.servers.shape c) (Contains lists)
-            → ImagesSince (clouds old.shelf.now c) (clouds new.shelf.now c) (usual_header old.servers.shape c) (Contains lists)) (sym e) (λ t i. here.images t lists i) told images
-        | inr ne ↦ subst (λ (k : Cloud). ImagesSince (clouds old.shelf.now cloud) k (usual_header old.servers.shape cloud) (Contains lists)) (sym (rest.clouds_stay cloud ne))
-            (so.leaves.images cloud told lists images)
-      ];
       shape = rest.shape_stays ∙ so.leaves.shape;
       told = λ cloud. rest.told_stays cloud ∙ so.leaves.told cloud;
     }
@@ -174,7 +166,8 @@ module _ {V : Type 0} (clouds : V → ℕ → Cloud) where
 
     pub kept_next : KeepsDisks old.servers.shape named (clouds old.shelf.now) (clouds new.shelf.now)
     kept_next = record {
-      chosen = λ cloud lists has told within images. leaves_next.images cloud told lists images;
+      chosen = λ cloud rooms lists has told within images.
+          images_by (header_of old.servers.shape rooms cloud) lists (clouds old.shelf.now cloud) (clouds new.shelf.now cloud) (leaves_next.spared cloud told) images;
       others = λ cloud not. others_next cloud (λ e. not (subst (Contains named) (sym e) (is_named named number more before between old mid so)))
           (λ has. not (subst (λ (l : List ℕ). Contains l cloud) (sym so.place) (Contains-append_left so.front (number ∷ more) cloud has)));
     }
@@ -205,7 +198,7 @@ module _ {V : Type 0} (clouds : V → ℕ → Cloud) where
     stops_here end err =
         let h = subst (Opening clouds old.servers.shape (clouds old.shelf.now number) before new now number) err here in
         ends_map
-        (λ c e. (c ≡ number) × (IsTrue (clouds old.shelf.now number).told → IsUnopened (usual_header old.servers.shape number) (clouds old.shelf.now number) (clouds new.shelf.now number) e))
+        (λ c e. (c ≡ number) × (IsTrue (clouds old.shelf.now number).told → StaysShut old.servers.shape number (clouds old.shelf.now number) (clouds new.shelf.now number) e))
         (StopsAt old.servers.shape named (clouds old.shelf.now) (clouds new.shelf.now))
         (λ c. HasFailed (clouds old.shelf.now number) (clouds new.shelf.now number) before now)
         (λ c. HasFailed (clouds old.shelf.now c) (clouds new.shelf.now c) before now)
@@ -219,7 +212,7 @@ module _ {V : Type 0} (clouds : V → ℕ → Cloud) where
         (λ c x failed. subst (λ (m : ℕ). HasFailed (clouds old.shelf.now m) (clouds new.shelf.now m) before now) (sym x.0) failed)
         end h.end
 
-    pub free_here : (end : ReadEnd) (lists : ℕ → List Command) → result ≡ Err end → AreReadable old.servers.shape named (clouds old.shelf.now) lists → IsFree end
-    free_here end lists err are =
+    pub free_here : (end : ReadEnd) (rooms : ℕ → Rooms) (lists : ℕ → List Command) → result ≡ Err end → AreReadable old.servers.shape named (clouds old.shelf.now) rooms lists → IsFree end
+    free_here end rooms lists err are =
         let h = subst (Opening clouds old.servers.shape (clouds old.shelf.now number) before new now number) err here in
-        h.readable (lists number) (are number (is_named named number more before between old mid so))
+        h.readable (rooms number) (lists number) (are number (is_named named number more before between old mid so))

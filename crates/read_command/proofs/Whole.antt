@@ -7,6 +7,7 @@ use Rattle.std.proofs.lemmas.List.Elements.{Contains-append_right}
 use Rattle.half_journal.specs.declared.errors.OpenErr.TheVariants as errors
 use Rattle.user_dedup.proofs.Owned.{contains_here}
 use Rattle.user_dedup.specs.declared.command.Command.{Command}
+use Rattle.journal_start.specs.declared.rooms.Rooms.{Rooms}
 use Rattle.restore_job.specs.declared.error.RestoreErr.{RestoreErr}
 use Rattle.read_command.specs.declared.wanted.Wanted.{Wanted}
 use Rattle.read_command.specs.declared.end.ReadEnd.{ReadEnd}
@@ -37,17 +38,17 @@ pub reads_whole : (c : Outside) (r : Wanted) (came : Result (Unit {0}) RestoreEr
     → Restored c r came file → IsWritten came file old new end → Reads c r end old new
 reads_whole c r came file old new ends.Done is w =
     let i = subst (λ (x : Result (Unit {0}) RestoreErr). Restored c r x file) w.1 is in
-    (file, w.2, (i.opened, i.came_to), λ lists are. i.due lists are)
+    (file, w.2, (i.opened, i.came_to), λ rooms lists are. i.due rooms lists are)
 reads_whole c r came file old new ends.Refused is w =
     let i = subst (λ (x : Result (Unit {0}) RestoreErr). Restored c r x file) w.2 is in
-    (refusal_text w.1, w.4, (i.opened, (w.0, w.1, w.3, refl, i.came_to)), λ lists are. i.due lists are w.1 w.3)
+    (refusal_text w.1, w.4, (i.opened, (w.0, w.1, w.3, refl, i.came_to)), λ rooms lists are. i.due rooms lists are w.1 w.3)
 reads_whole c r came file old new ends.SinkFault is w = (
   w.1,
   w.5,
   (is.opened, (w.0, w.2, w.4, whole_said c r came file w.0 is w.3)),
-  λ lists are. (w.0, w.2, w.4, whole_due c r came file w.0 (given_of r lists) (is.due lists are) w.3),
+  λ rooms lists are. (w.0, w.2, w.4, whole_due c r came file w.0 (given_of r lists) (is.due rooms lists are) w.3),
 )
-reads_whole c r came file old new ends.NoMemory is w = ([], w, (refl, tt), λ lists are. tt)
+reads_whole c r came file old new ends.NoMemory is w = ([], w, (refl, tt), λ rooms lists are. tt)
 reads_whole c r came file old new (ends.NotBegun cloud len) is w = absurd w
 reads_whole c r came file old new (ends.Damaged cloud at byte) is w = absurd w
 reads_whole c r came file old new (ends.Other cloud found) is w = absurd w
@@ -55,15 +56,15 @@ reads_whole c r came file old new (ends.ShelfFault cloud) is w = absurd w
 
 -- the openings ended it
 pub reads_stopped : (c : Outside) (r : Wanted) (w : Option (List ℕ)) (end : ReadEnd) → EndsOpening r.shape r.clouds.now c.old c.new c.total_before c.total_after end
-    → ((lists : ℕ → List Command) → AreReadable r.shape r.clouds.now c.old lists → IsFree end) → Reads c r end w w
-reads_stopped c r w (ends.NotBegun cloud len) stops free = ([], nothing_more w, (refl, stops), λ lists are. free lists are)
-reads_stopped c r w (ends.Damaged cloud at byte) stops free = ([], nothing_more w, (refl, stops), λ lists are. free lists are)
-reads_stopped c r w (ends.Other cloud found) stops free = ([], nothing_more w, (refl, stops), λ lists are. free lists are)
-reads_stopped c r w (ends.ShelfFault cloud) stops free = ([], nothing_more w, (refl, stops), λ lists are. in_place cloud.0 stops.0)
+    → ((rooms : ℕ → Rooms) (lists : ℕ → List Command) → AreReadable r.shape r.clouds.now c.old rooms lists → IsFree end) → Reads c r end w w
+reads_stopped c r w (ends.NotBegun cloud len) stops free = ([], nothing_more w, (refl, stops), λ rooms lists are. free rooms lists are)
+reads_stopped c r w (ends.Damaged cloud at byte) stops free = ([], nothing_more w, (refl, stops), λ rooms lists are. free rooms lists are)
+reads_stopped c r w (ends.Other cloud found) stops free = ([], nothing_more w, (refl, stops), λ rooms lists are. free rooms lists are)
+reads_stopped c r w (ends.ShelfFault cloud) stops free = ([], nothing_more w, (refl, stops), λ rooms lists are. in_place cloud.0 stops.0)
   where
     in_place : (number : ℕ) → StopsAt r.shape r.clouds.now c.old c.new number errors.Fault → Contains r.clouds.now number
     in_place number s = subst (λ (l : List ℕ). Contains l number) (sym s.place) (Contains-append_right s.front (number ∷ s.rest) number (contains_here number s.rest))
-reads_stopped c r w ends.NoMemory stops free = ([], nothing_more w, (refl, tt), λ lists are. tt)
+reads_stopped c r w ends.NoMemory stops free = ([], nothing_more w, (refl, tt), λ rooms lists are. tt)
 reads_stopped c r w ends.Done stops free = absurd stops
 reads_stopped c r w ends.Refused stops free = absurd stops
 reads_stopped c r w ends.SinkFault stops free = absurd stops

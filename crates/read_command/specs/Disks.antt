@@ -8,6 +8,10 @@ use Rattle.half_journal.specs.declared.errors.OpenErr.{OpenErr}
 use Rattle.journal_start.specs.declared.start.Header.{Header}
 use Rattle.half_journal.specs.Openings.{OnFault}
 use Rattle.journal_halves.specs.Beginnings.{IsUnbegun}
+use Rattle.journal_halves.specs.Findings.{IsFoundDamage}
+use Rattle.journal_halves.specs.Halves.{IsCurrent}
+use Rattle.journal_start.specs.declared.rooms.Rooms.{Rooms}
+use Rattle.journal_start.specs.declared.start.Start.{Start}
 use Rattle.journal_start.specs.Ranges.{usual_rooms}
 use Rattle.user_dedup.specs.declared.command.Command.{Command}
 use Rattle.cloud_server.specs.Openings.{HasNoOther, NotBegunIs, OpensTo, OtherStoreIs}
@@ -16,9 +20,17 @@ use Rattle.cloud_areas.specs.Peers.{ImagesNow, ImagesSince}
 use Rattle.cloud_areas.specs.Standing.{StandsFor}
 use Rattle.local_link.specs.Calls.{header_of}
 
--- the header of a cloud of a store of this shape, in the usual rooms
-abbrev pub usual_header : Shape → ℕ → Header
-usual_header shape cloud = header_of shape usual_rooms cloud
+-- The rooms that a journal names: those of the start of its current half; where it has none, since no half is begun or
+-- the start of one is damaged, the usual ones.
+pub data NamesRooms (journal : List ℕ) : Rooms → Type 0 where
+  Current : (half : ℕ) (start : Start) → IsCurrent journal half start → NamesRooms journal start.header.rooms
+  Unbegun : IsUnbegun journal → NamesRooms journal usual_rooms
+  Broken : (at byte : ℕ) → IsFoundDamage journal at byte → NamesRooms journal usual_rooms
+
+-- this of the header of a cloud of a store of this shape, in the rooms that the cloud's journal names
+abbrev pub InItsRooms : Shape → ℕ → Cloud → (Header → Type 0) → Type 0
+InItsRooms shape number cloud P =
+    (rooms : Rooms) × NamesRooms (reads cloud.now Journal) rooms × P (header_of shape rooms number)
 
 -- The cloud is told, its store is begun, and what it reads stands for the list, which is within the header's rooms.
 pub record IsReadable (header : Header) (cloud : Cloud) (list : List Command) : Type 0 where
@@ -27,10 +39,10 @@ pub record IsReadable (header : Header) (cloud : Cloud) (list : List Command) : 
   pub stands : StandsFor (reads cloud.now) header list
   pub within : IsWithin header.shape header.rooms list
 
--- so of each named cloud of a store of this shape, in the usual rooms
-abbrev pub AreReadable : Shape → List ℕ → (ℕ → Cloud) → (ℕ → List Command) → Type 0
-AreReadable shape named clouds lists =
-    (cloud : ℕ) → Contains named cloud → IsReadable (usual_header shape cloud) (clouds cloud) (lists cloud)
+-- so of each named cloud of a store of this shape, each in rooms of its own
+abbrev pub AreReadable : Shape → List ℕ → (ℕ → Cloud) → (ℕ → Rooms) → (ℕ → List Command) → Type 0
+AreReadable shape named clouds rooms lists = (cloud : ℕ) → Contains named cloud
+    → IsReadable (header_of shape (rooms cloud) cloud) (clouds cloud) (lists cloud)
 
 -- What the areas read opens: a store that is begun, and has no other header.
 pub record IsOpened (header : Header) (cloud : Cloud) : Type 0 where
@@ -46,6 +58,11 @@ pub record IsUnopened (header : Header) (old new : Cloud) (error : OpenErr) : Ty
   pub not_begun : let answer : Result ℕ OpenErr = Err error in NotBegunIs old new false answer
   pub other_store : let answer : Result ℕ OpenErr = Err error in OtherStoreIs (reads old.now Journal) header answer
 
+-- What the areas read doesn't open in the rooms that their journal names; or the error is that a device call failed.
+abbrev pub StaysShut : Shape → ℕ → Cloud → Cloud → OpenErr → Type 0
+StaysShut shape number old new error = let answer : Result ℕ OpenErr = Err error in
+    OnFault answer (Unit {0}) (InItsRooms shape number old (λ (header : Header). IsUnopened header old new error))
+
 -- A crash at any moment leaves what it might have left before, and the areas read as that too.
 pub record IsSpared (old new : Cloud) : Type 0 where
   pub any_moment : LeavesOnly old new (λ (image : Image). IsImage old.now image)
@@ -57,14 +74,15 @@ pub record StopsAt (shape : Shape) (named : List ℕ) (old new : ℕ → Cloud) 
   pub rest : List ℕ
   pub place : named ≡ front ++ cloud ∷ rest
   pub opened : (before : ℕ) → Contains front before → IsTrue (old before).told
-      → IsOpened (usual_header shape before) (old before)
-  pub stops : IsTrue (old cloud).told → IsUnopened (usual_header shape cloud) (old cloud) (new cloud) error
+      → InItsRooms shape before (old before) (λ (header : Header). IsOpened header (old before))
+  pub stops : IsTrue (old cloud).told → StaysShut shape cloud (old cloud) (new cloud) error
 
--- Each image since then of a named cloud that is told stands for one of the lists that its images stood for, where these
--- are within the usual rooms; the other clouds are as they were.
+-- Each image since then of a named cloud that is told stands for one of the lists that its images stood for with some
+-- rooms, where these lists are within the rooms; the other clouds are as they were.
 pub record KeepsDisks (shape : Shape) (named : List ℕ) (old new : ℕ → Cloud) : Type 0 where
-  pub chosen : (cloud : ℕ) (lists : List (List Command)) → Contains named cloud → IsTrue (old cloud).told
-      → ((list : List Command) → Contains lists list → IsWithin shape usual_rooms list)
-      → ImagesNow (old cloud) (usual_header shape cloud) (Contains lists)
-      → ImagesSince (old cloud) (new cloud) (usual_header shape cloud) (Contains lists)
+  pub chosen : (cloud : ℕ) (rooms : Rooms) (lists : List (List Command)) → Contains named cloud
+      → IsTrue (old cloud).told
+      → ((list : List Command) → Contains lists list → IsWithin shape rooms list)
+      → ImagesNow (old cloud) (header_of shape rooms cloud) (Contains lists)
+      → ImagesSince (old cloud) (new cloud) (header_of shape rooms cloud) (Contains lists)
   pub others : (cloud : ℕ) → (Contains named cloud → ⊥) → new cloud ≡ old cloud

@@ -11,7 +11,9 @@ use Rattle.cd_edges.specs.Disk.{Cloud, reads}
 use Rattle.user_dedup.specs.declared.command.Command.{Command}
 use Rattle.user_dedup.specs.Spending.{IsWithin}
 use Rattle.cloud_areas.specs.Standing.{StandsFor}
-use Rattle.journal_start.specs.Ranges.{usual_rooms}
+use Rattle.cloud_server.specs.Names.{header_of}
+use Rattle.journal_start.specs.declared.rooms.Rooms.{Rooms}
+use Rattle.journal_start.specs.declared.start.Header.{Header}
 use Rattle.kept_files.specs.Kept.{key_of}
 use Rattle.restore_job.specs.Asking.{is_lost}
 use Rattle.restore_job.specs.Brought.{Brought}
@@ -27,7 +29,7 @@ use Rattle.subset_restore.specs.Subsets.{subsets}
 use Rattle.read_command.specs.declared.wanted.Wanted.{Wanted}
 use Rattle.read_command.specs.declared.end.ReadEnd.{ReadEnd}
 use Rattle.read_command.specs.declared.end.ReadEnd.TheVariants as ends
-use Rattle.read_command.specs.Disks.{AreReadable, IsOpened, usual_header}
+use Rattle.read_command.specs.Disks.{AreReadable, InItsRooms, IsOpened}
 use Rattle.read_command.specs.Opening.{EndsOpening}
 use Rattle.read_command.specs.Refusals.{cloud_no, reason_of}
 
@@ -60,7 +62,8 @@ given_of r lists = due_of r.shape r.user (key_of r.shape r.path.now r.version) r
 -- each named cloud that is told opened
 abbrev pub AllOpened : Outside → Shape → List ℕ → Type 0
 AllOpened c shape named =
-    (cloud : ℕ) → Contains named cloud → IsTrue (c.old cloud).told → IsOpened (usual_header shape cloud) (c.old cloud)
+    (cloud : ℕ) → Contains named cloud → IsTrue (c.old cloud).told
+    → InItsRooms shape cloud (c.old cloud) (λ (header : Header). IsOpened header (c.old cloud))
 
 -- where a cloud's device failed its count rose
 abbrev pub RoseBy : Outside → RestoreErr → Type 0
@@ -106,17 +109,17 @@ pub record IsRefusalDue (c : Outside) (named : List ℕ) (due : Due) (text : Lis
   pub line : IsLineOf (due.given first) text ⊎ IsFaultLine c first text
   pub exact : (HoldsFailed c named → ⊥) → IsLineOf due.whole text
 
--- These lists stand at the named clouds that are told, within the usual rooms.
-abbrev pub HaveLists : Outside → Shape → List ℕ → (ℕ → List Command) → Type 0
-HaveLists c shape named lists = (cloud : ℕ) → Contains named cloud → IsTrue (c.old cloud).told
-    → StandsFor (reads (c.old cloud).now) (usual_header shape cloud) (lists cloud)
-    × IsWithin shape usual_rooms (lists cloud)
+-- These lists stand at the named clouds that are told, each within these rooms.
+abbrev pub HaveLists : Outside → Shape → List ℕ → (ℕ → Rooms) → (ℕ → List Command) → Type 0
+HaveLists c shape named rooms lists = (cloud : ℕ) → Contains named cloud → IsTrue (c.old cloud).told
+    → StandsFor (reads (c.old cloud).now) (header_of shape (rooms cloud) cloud) (lists cloud)
+    × IsWithin shape (rooms cloud) (lists cloud)
 
 -- A refusal names no other clouds than the named ones, and is no lost ask. Where lists stand at all that are told, a
 -- device failed only where its count rose.
 pub record IsRefusal (c : Outside) (shape : Shape) (named : List ℕ) (e : RestoreErr) : Type 0 where
   pub names : Names (Contains named) e
-  pub rose : (lists : ℕ → List Command) → HaveLists c shape named lists → RoseBy c e
+  pub rose : (rooms : ℕ → Rooms) (lists : ℕ → List Command) → HaveLists c shape named rooms lists → RoseBy c e
   pub found : let came : Result (Unit {0}) RestoreErr = Err e in is_lost came ≡ false
 
 -- The bytes are what strings open to which the recipes of k of the clouds name.
@@ -140,7 +143,7 @@ CameDue c named due (Err e) file =
 pub record Restored (c : Outside) (r : Wanted) (came : Result (Unit {0}) RestoreErr) (file : List ℕ) : Type 0 where
   pub opened : AllOpened c r.shape r.clouds.now
   pub came_to : CameTo c r.shape r.clouds.now came file
-  pub due : (lists : ℕ → List Command) → AreReadable r.shape r.clouds.now c.old lists
+  pub due : (rooms : ℕ → Rooms) (lists : ℕ → List Command) → AreReadable r.shape r.clouds.now c.old rooms lists
       → CameDue c r.clouds.now (given_of r lists) came file
 
 -- ---- what is written
@@ -207,7 +210,7 @@ Gives c named due (ends.Other cloud found) text = ⊥
 -- A read ended so, over what was written before and what is written now.
 abbrev pub Reads : Outside → Wanted → ReadEnd → Option (List ℕ) → Option (List ℕ) → Type 0
 Reads c r end before now = (text : List ℕ) × Appends before now text × Says c r.shape r.clouds.now end text
-    × ((lists : ℕ → List Command) → AreReadable r.shape r.clouds.now c.old lists
+    × ((rooms : ℕ → Rooms) (lists : ℕ → List Command) → AreReadable r.shape r.clouds.now c.old rooms lists
     → Gives c r.clouds.now (given_of r lists) end text)
 
 -- The end is that of an opening: no cloud was asked for anything.

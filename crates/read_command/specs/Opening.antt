@@ -3,22 +3,23 @@ use Rattle.std.specs.Prelude.{◌≡◌, ℕ, IsTrue, List, Result, OnOk, IfErr}
 use Rattle.std.specs.List.{Contains}
 use Rattle.cd_base.specs.declared.ids.CloudNo.{CloudNo}
 use Rattle.cd_base.specs.declared.shape.Shape.{Shape}
+use Rattle.cd_edges.specs.declared.area.Area.TheVariants.{Journal}
 use Rattle.cd_edges.specs.Disk.{Cloud, reads}
 use Rattle.cd_edges.specs.Shelf.{HasFailed, KeepsCounts}
 use Rattle.half_journal.specs.declared.errors.OpenErr.{OpenErr}
 use Rattle.half_journal.specs.declared.errors.OpenErr.TheVariants as errors
 use Rattle.journal_start.specs.declared.start.Header.{Header}
-use Rattle.journal_start.specs.Ranges.{usual_rooms}
+use Rattle.cloud_server.specs.Names.{header_of}
+use Rattle.journal_start.specs.declared.rooms.Rooms.{Rooms}
 use Rattle.user_dedup.specs.declared.command.Command.{Command}
 use Rattle.user_dedup.specs.Spending.{IsWithin}
-use Rattle.cloud_areas.specs.Peers.{ImagesNow, ImagesSince}
 use Rattle.cloud_areas.specs.Standing.{StandsFor}
 use Rattle.cloud_server.specs.Serving.{settled_with}
 use Rattle.local_link.specs.declared.link.LocalLink.{LocalLink}
 use Rattle.local_link.specs.Tells.{StandsAt, rooms_at}
 use Rattle.read_command.specs.declared.end.ReadEnd.{ReadEnd}
 use Rattle.read_command.specs.declared.end.ReadEnd.TheVariants as ends
-use Rattle.read_command.specs.Disks.{IsReadable, IsOpened, IsUnopened, IsSpared, StopsAt, usual_header}
+use Rattle.read_command.specs.Disks.{IsReadable, IsOpened, IsSpared, StopsAt, InItsRooms, NamesRooms, StaysShut}
 
 -- the end of a read whose opening of the cloud answered this error
 abbrev pub end_by : CloudNo → OpenErr → ReadEnd
@@ -41,9 +42,9 @@ EndsBy Stops Failed ends.Refused = ⊥
 EndsBy Stops Failed ends.SinkFault = ⊥
 
 -- one cloud was to be opened
-abbrev pub EndsOne : Header → Cloud → Cloud → ℕ → ℕ → ℕ → ReadEnd → Type 0
-EndsOne header old new before now number end = EndsBy
-    (λ cloud error. (cloud ≡ number) × (IsTrue old.told → IsUnopened header old new error))
+abbrev pub EndsOne : Shape → Cloud → Cloud → ℕ → ℕ → ℕ → ReadEnd → Type 0
+EndsOne shape old new before now number end = EndsBy
+    (λ cloud error. (cloud ≡ number) × (IsTrue old.told → StaysShut shape number old new error))
     (λ cloud. HasFailed old new before now) end
 
 -- the named clouds were to be opened, in order
@@ -62,32 +63,33 @@ IsFree ends.Done = Unit {0}
 IsFree ends.Refused = Unit {0}
 IsFree ends.SinkFault = Unit {0}
 
--- A cloud that was so was to be opened. Where it opens, its server has the usual rooms, and it stands for the list that its
--- areas read as, if there is one within these, and nothing failed. Whatever comes it is spared, and each image since then stands for one of the lists that its images
--- stood for.
+-- A cloud that was so was to be opened. Where it opens, its server has the rooms that its journal names, and it stands for
+-- the list that its areas read as, if there is one within these, and nothing failed. Whatever comes it is spared.
 pub record Opening {V : Type 0} (clouds : V → ℕ → Cloud) (shape : Shape) (old : Cloud) (before : ℕ)
     (new : LocalLink V) (now cloud : ℕ) (result : Result (Unit {0}) ReadEnd) : Type 0 where
-  pub opened : IsTrue old.told → OnOk result (IsOpened (usual_header shape cloud) old)
-  pub rooms : OnOk result (rooms_at new.servers cloud ≡ usual_rooms)
-  pub loaded : IsTrue old.told → (list : List Command) → StandsFor (reads old.now) (usual_header shape cloud) list
-      → IsWithin shape usual_rooms list
+  pub opened : IsTrue old.told → OnOk result (InItsRooms shape cloud old (λ (header : Header). IsOpened header old))
+  pub rooms : IsTrue old.told → OnOk result (NamesRooms (reads old.now Journal) (rooms_at new.servers cloud))
+  pub loaded : IsTrue old.told → (rooms : Rooms) (list : List Command)
+      → StandsFor (reads old.now) (header_of shape rooms cloud) list
+      → IsWithin shape rooms list
       → OnOk result (StandsAt clouds new cloud (settled_with list (clouds new.shelf.now cloud)))
   pub counts : OnOk result (KeepsCounts old (clouds new.shelf.now cloud) before now)
-  pub readable : (list : List Command) → IsReadable (usual_header shape cloud) old list → IfErr result IsFree
-  pub end : IfErr result (EndsOne (usual_header shape cloud) old (clouds new.shelf.now cloud) before now cloud)
+  pub readable : (rooms : Rooms) (list : List Command) → IsReadable (header_of shape rooms cloud) old list
+      → IfErr result IsFree
+  pub end : IfErr result (EndsOne shape old (clouds new.shelf.now cloud) before now cloud)
   pub spared : IsTrue old.told → IsSpared old (clouds new.shelf.now cloud)
-  pub images : IsTrue old.told → (lists : List (List Command)) → ImagesNow old (usual_header shape cloud) (Contains lists)
-      → ImagesSince old (clouds new.shelf.now cloud) (usual_header shape cloud) (Contains lists)
 
--- A cloud of a link was opened, in the usual rooms. It stands for the list that its areas read as, if there is one within
--- these.
+-- A cloud of a link was opened, in the rooms that its journal names. It stands for the list that its areas read as, if
+-- there is one within these.
 pub record BecomesOpen {V : Type 0} (clouds : V → ℕ → Cloud) (old new : LocalLink V) (cloud : ℕ) : Type 0 where
   pub opened : IsTrue (clouds old.shelf.now cloud).told
-      → IsOpened (usual_header old.servers.shape cloud) (clouds old.shelf.now cloud)
-  pub rooms : rooms_at new.servers cloud ≡ usual_rooms
-  pub loaded : IsTrue (clouds old.shelf.now cloud).told → (list : List Command)
-      → StandsFor (reads (clouds old.shelf.now cloud).now) (usual_header old.servers.shape cloud) list
-      → IsWithin old.servers.shape usual_rooms list
+      → InItsRooms old.servers.shape cloud (clouds old.shelf.now cloud)
+      (λ (header : Header). IsOpened header (clouds old.shelf.now cloud))
+  pub rooms : IsTrue (clouds old.shelf.now cloud).told
+      → NamesRooms (reads (clouds old.shelf.now cloud).now Journal) (rooms_at new.servers cloud)
+  pub loaded : IsTrue (clouds old.shelf.now cloud).told → (rooms : Rooms) (list : List Command)
+      → StandsFor (reads (clouds old.shelf.now cloud).now) (header_of old.servers.shape rooms cloud) list
+      → IsWithin old.servers.shape rooms list
       → StandsAt clouds new cloud (settled_with list (clouds new.shelf.now cloud))
   pub faults : (clouds new.shelf.now cloud).faults ≡ (clouds old.shelf.now cloud).faults
 

@@ -18,7 +18,7 @@ pub enum ReadEnd {
     NotBegun { cloud: CloudNo, len: u64 },
     /// The cloud's journal is damaged: the place that is wrong, and its byte.
     Damaged { cloud: CloudNo, at: u64, byte: u8 },
-    /// The cloud's journal is that of another store or cloud, or of other rooms, with this header.
+    /// The cloud's journal is that of another store or cloud, with this header.
     Other { cloud: CloudNo, found: Header },
     /// The cloud's device failed as it was opened.
     ShelfFault { cloud: CloudNo },

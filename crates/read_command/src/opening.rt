@@ -1,36 +1,99 @@
 //! Opening the chosen clouds.
 
-ghost use Rattle.std.specs.Prelude.{◌≡◌, ◌<◌, ℕ, List, [], ◌∷◌, All, IsTrue, MatchOption, IfErr, OnOk};
+ghost use Rattle.std.specs.Prelude.{◌≡◌, ◌<◌, ℕ, List, [], ◌∷◌, length, All, IsTrue, MatchOption, IfOk, IfErr, OnOk};
+ghost use Rattle.cd_edges.specs.declared.area.Area.TheVariants.{Journal};
+ghost use Rattle.cd_edges.specs.Shelf.{HasFailed, Stays};
+ghost use Rattle.journal_start.specs.declared.rooms.Rooms.{Rooms};
+ghost use Rattle.journal_start.specs.Ranges.{AreRooms};
+ghost use Rattle.read_command.specs.declared.end.ReadEnd.TheVariants.{ShelfFault};
 ghost use Rattle.std.specs.List.Sorted.{IsStrictlyIncreasing};
 ghost use Rattle.cd_base.specs.Numbers.{numbers_of};
 ghost use Rattle.user_dedup.specs.declared.command.Command.{Command};
 ghost use Rattle.local_link.specs.Tells.{LeavesRest};
-ghost use Rattle.read_command.specs.Disks.{AreReadable, IsSpared, KeepsDisks};
+ghost use Rattle.read_command.specs.Disks.{AreReadable, IsSpared, KeepsDisks, NamesRooms};
 ghost use Rattle.read_command.specs.Opening.{Opening, EndsOpening, IsFree, AreOpened};
 
 use crate::ReadEnd;
 use crate::end::end_of;
 use cd_base::{CloudNo, NoMemory};
 use cd_edges::Shelf;
+use cloud_areas::laws::law_of_headers;
+use journal_halves::FindErr;
 use journal_start::Rooms;
 use local_link::LocalLink;
 
-// Opens a cloud in the usual rooms, and begins nothing.
-fn open_cloud<V: Shelf>(link: &mut LocalLink<'_, V>, cloud: CloudNo) -> Result<(), ReadEnd>
+// The rooms that a cloud's journal names. Where it names none, they are the usual ones, and an opening says why. Nothing
+// that is told changes, and where nothing failed nothing does.
+fn named_rooms<V: Shelf>(
+    link: &mut LocalLink<'_, V>,
+    cloud: CloudNo,
+    window: &mut [u8],
+) -> Result<Rooms, ReadEnd>
+    requires { length window.old ≡ 65541 }
+    ensures allowed { IfOk result AreRooms }
+    ensures named { IsTrue (V.cloud_at link.old.shelf.now cloud.0).told
+        → IfOk result (NamesRooms ((V.cloud_at link.old.shelf.now cloud.0).now Journal).read) }
+    ensures failed { IfErr result (λ end. (end ≡ ShelfFault cloud) × HasFailed (V.cloud_at link.old.shelf.now cloud.0)
+        (V.cloud_at link.new.shelf.now cloud.0) (V.faults link.old.shelf.now) (V.faults link.new.shelf.now)) }
+    ensures same { OnOk result ((V.cloud_at link.new.shelf.now cloud.0 ≡ V.cloud_at link.old.shelf.now cloud.0)
+        × (V.faults link.new.shelf.now ≡ V.faults link.old.shelf.now)) }
+    ensures stays { Stays (V.cloud_at link.old.shelf.now cloud.0) (V.cloud_at link.new.shelf.now cloud.0) }
+    ensures rest { LeavesRest V.cloud_at cloud.0 link.old link.new }
+    ensures still { (link.new.servers ≡ link.old.servers) × (link.new.fate ≡ link.old.fate) }
+    ensures same_reference { link.new.shelf.ghost_name ≡ link.old.shelf.ghost_name }
+{
+    match link.find(cloud, window) {
+        Ok(found) => Ok(found.start.header.rooms),
+        Err(FindErr::Fault) => Err(ReadEnd::ShelfFault { cloud }),
+        Err(FindErr::NotBegun { .. }) => Ok(Rooms::usual()),
+        Err(FindErr::Damaged { .. }) => Ok(Rooms::usual()),
+    }
+}
+
+// Opens a cloud in these rooms, which its journal names, and begins nothing.
+fn open_in<V: Shelf>(
+    link: &mut LocalLink<'_, V>,
+    cloud: CloudNo,
+    rooms: Rooms,
+) -> Result<(), ReadEnd>
     requires reached { cloud.0 < link.old.servers.shape.n }
+    requires allowed { AreRooms rooms }
+    requires named { IsTrue (V.cloud_at link.old.shelf.now cloud.0).told
+        → NamesRooms ((V.cloud_at link.old.shelf.now cloud.0).now Journal).read rooms }
     ensures opens { Opening V.cloud_at link.old.servers.shape (V.cloud_at link.old.shelf.now cloud.0)
         (V.faults link.old.shelf.now) link.new (V.faults link.new.shelf.now) cloud.0 result }
     ensures rest { LeavesRest V.cloud_at cloud.0 link.old link.new }
     ensures fate { link.new.fate ≡ link.old.fate }
     ensures same_reference { link.new.shelf.ghost_name ≡ link.old.shelf.ghost_name }
 {
-    match link.set_rooms(cloud, Rooms::usual()) {
+    law_of_headers();
+    match link.set_rooms(cloud, rooms) {
         Ok(()) => {}
         Err(NoMemory) => return Err(ReadEnd::NoMemory),
     }
     match link.reopen(cloud, false) {
         Ok(_) => Ok(()),
         Err(error) => Err(end_of(cloud, error)),
+    }
+}
+
+// Opens a cloud in the rooms that its journal names, and begins nothing.
+fn open_cloud<V: Shelf>(
+    link: &mut LocalLink<'_, V>,
+    cloud: CloudNo,
+    window: &mut [u8],
+) -> Result<(), ReadEnd>
+    requires reached { cloud.0 < link.old.servers.shape.n }
+    requires window { length window.old ≡ 65541 }
+    ensures opens { Opening V.cloud_at link.old.servers.shape (V.cloud_at link.old.shelf.now cloud.0)
+        (V.faults link.old.shelf.now) link.new (V.faults link.new.shelf.now) cloud.0 result }
+    ensures rest { LeavesRest V.cloud_at cloud.0 link.old link.new }
+    ensures fate { link.new.fate ≡ link.old.fate }
+    ensures same_reference { link.new.shelf.ghost_name ≡ link.old.shelf.ghost_name }
+{
+    match named_rooms(link, cloud, window) {
+        Ok(rooms) => open_in(link, cloud, rooms),
+        Err(end) => Err(end),
     }
 }
 
@@ -44,9 +107,14 @@ fn next_cloud(clouds: &[CloudNo]) -> Option<(CloudNo, &[CloudNo])>
     }
 }
 
-/// Opens rising clouds in order, each in the usual rooms, and begins nothing. It ends at the first that doesn't
-/// open.
-pub fn open_clouds<V: Shelf>(link: &mut LocalLink<'_, V>, clouds: &[CloudNo]) -> Result<(), ReadEnd>
+/// Opens rising clouds in order, each in the rooms that its journal names, and begins nothing. It ends at the first that
+/// doesn't open. The window has 65,541 bytes.
+pub fn open_clouds<V: Shelf>(
+    link: &mut LocalLink<'_, V>,
+    clouds: &[CloudNo],
+    window: &mut [u8],
+) -> Result<(), ReadEnd>
+    requires window { length window.old ≡ 65541 }
     requires rising { IsStrictlyIncreasing (numbers_of clouds.now) }
     requires within { All (λ cloud. cloud < link.old.servers.shape.n) (numbers_of clouds.now) }
     ensures opened { OnOk result (AreOpened V.cloud_at (V.faults link.old.shelf.now) (V.faults link.new.shelf.now)
@@ -54,8 +122,8 @@ pub fn open_clouds<V: Shelf>(link: &mut LocalLink<'_, V>, clouds: &[CloudNo]) ->
     ensures end { IfErr result (EndsOpening link.old.servers.shape (numbers_of clouds.now)
         (V.cloud_at link.old.shelf.now) (V.cloud_at link.new.shelf.now)
         (V.faults link.old.shelf.now) (V.faults link.new.shelf.now)) }
-    ensures readable { (lists : ℕ → List Command)
-        → AreReadable link.old.servers.shape (numbers_of clouds.now) (V.cloud_at link.old.shelf.now) lists
+    ensures readable { (rooms : ℕ → Rooms) (lists : ℕ → List Command)
+        → AreReadable link.old.servers.shape (numbers_of clouds.now) (V.cloud_at link.old.shelf.now) rooms lists
         → IfErr result IsFree }
     ensures kept { KeepsDisks link.old.servers.shape (numbers_of clouds.now) (V.cloud_at link.old.shelf.now)
         (V.cloud_at link.new.shelf.now) }
@@ -68,7 +136,7 @@ pub fn open_clouds<V: Shelf>(link: &mut LocalLink<'_, V>, clouds: &[CloudNo]) ->
         let Some((cloud, more)) = next_cloud(rest) else {
             return Ok(());
         };
-        match open_cloud(link, cloud) {
+        match open_cloud(link, cloud, window) {
             Ok(()) => {}
             Err(end) => return Err(end),
         }

@@ -1,6 +1,7 @@
 //! Reading a version of a file.
 
-ghost use Rattle.std.specs.Prelude.{◌≡◌, ◌<◌, ◌≤◌, ℕ, List, [], length, All, IsTrue, IfOk, IfErr};
+ghost use Rattle.std.specs.Prelude.{◌≡◌, ◌<◌, ◌≤◌, ℕ, List, [], length, All, IsTrue, IfOk, IfErr, vec_len};
+ghost use Rattle.journal_start.specs.declared.rooms.Rooms.{Rooms};
 ghost use Rattle.cd_base.specs.Limits.{IsPath};
 ghost use Rattle.user_dedup.specs.declared.command.Command.{Command};
 ghost use Rattle.local_link.specs.declared.fate.Fate.TheVariants.{Deliver};
@@ -11,22 +12,33 @@ ghost use Rattle.read_command.specs.Ends.{CountsSink, IsOfOpening, Reads, Restor
 use crate::opening::open_clouds;
 use crate::writing::write_came;
 use crate::{ReadEnd, Wanted};
-use cd_base::Bytes;
+use cd_base::{Bytes, NoMemory};
 use cd_edges::{Shelf, Sink};
+use cloud_areas::laws::law_of_headers;
+use journal_halves::WINDOW;
 use journal_start::Rooms;
 use local_link::{LocalLink, Servers, law_of_readings};
 use restore_job::RestoreErr;
 use std::alloc::Global;
 use subset_restore::restore_any;
 
+// A window for what a journal's halves begin with.
+fn taken(alloc: Global) -> Result<Vec<u8>, NoMemory>
+    ensures { IfOk result (λ window. vec_len window ≡ 65541) }
+{
+    Ok(vec![in alloc; 0u8; WINDOW]?)
+}
+
 // Opens the named clouds, and restores from them.
 fn restore_opened<V: Shelf>(
     alloc: Global,
     link: &mut LocalLink<'_, V>,
     wanted: &Wanted<'_>,
+    window: &mut [u8],
     file: &mut Bytes,
 ) -> Result<Result<(), RestoreErr>, ReadEnd>
     requires shape { link.old.servers.shape ≡ wanted.now.shape }
+    requires window { length window.old ≡ 65541 }
     requires fate { link.old.fate ≡ Deliver }
     requires empty { file.old ≡ [] }
     requires path { IsPath wanted.now.path.now }
@@ -36,8 +48,8 @@ fn restore_opened<V: Shelf>(
         (V.cloud_at link.new.shelf.now) (V.faults link.old.shelf.now) (V.faults link.new.shelf.now)) }
     ensures spared { IfErr result (λ end. (cloud : ℕ) → IsTrue (V.cloud_at link.old.shelf.now cloud).told
         → IsSpared (V.cloud_at link.old.shelf.now cloud) (V.cloud_at link.new.shelf.now cloud)) }
-    ensures free { (lists : ℕ → List Command)
-        → AreReadable wanted.now.shape wanted.now.clouds.now (V.cloud_at link.old.shelf.now) lists
+    ensures free { (rooms : ℕ → Rooms) (lists : ℕ → List Command)
+        → AreReadable wanted.now.shape wanted.now.clouds.now (V.cloud_at link.old.shelf.now) rooms lists
         → IfErr result IsFree }
     ensures came { IfOk result (λ came. Restored (record {
       total_before = V.faults link.old.shelf.now;
@@ -50,8 +62,9 @@ fn restore_opened<V: Shelf>(
     ensures same_reference { link.new.shelf.ghost_name ≡ link.old.shelf.ghost_name }
 {
     wanted.clouds.rises();
+    law_of_headers();
     law_of_readings::<V>();
-    match open_clouds(link, wanted.clouds.as_slice()) {
+    match open_clouds(link, wanted.clouds.as_slice(), window) {
         Ok(()) => {}
         Err(end) => return Err(end),
     }
@@ -69,8 +82,8 @@ fn restore_opened<V: Shelf>(
 
 /// Reads a version of a file from the named clouds' disks, whatever was remembered before, and writes its bytes.
 ///
-/// The clouds are opened in order, each in the usual rooms, and nothing is begun; then the version is restored from
-/// any k of them, as `subset_restore::restore_any` does it. No other cloud is touched.
+/// The clouds are opened in order, each in the rooms that its journal names, and nothing is begun; then the version is
+/// restored from any k of them, as `subset_restore::restore_any` does it. No other cloud is touched.
 ///
 /// Done: the sink has the file's bytes. Refused: the sink has the line that says why there is no file. NotBegun,
 /// Damaged and Other: so it is at the cloud, the first in order that doesn't open; nothing was written.
@@ -86,8 +99,8 @@ pub fn read_file<K: Sink, V: Shelf>(
     requires count { wanted.now.shape.k ≤ length wanted.now.clouds.now }
     requires within { All (λ cloud. cloud < wanted.now.shape.n) wanted.now.clouds.now }
 
-    // What was written belongs to the end. Over named clouds that are told, begun, and stand for lists within the
-    // usual rooms it is the file that any k of these lists give, or their refusal, or the failed device of one of
+    // What was written belongs to the end. Over named clouds that are told, begun, and stand for lists within their
+    // rooms it is the file that any k of these lists give, or their refusal, or the failed device of one of
     // the first k; or a front of these.
     ensures reads { Reads (record {
       total_before = V.faults shelf.old;
@@ -98,19 +111,22 @@ pub fn read_file<K: Sink, V: Shelf>(
     ensures counts { CountsSink (K.faults sink.old) (K.faults sink.new) result }
 
     // Each image since then of a named cloud stands for one of the lists that its images stood for, where these are
-    // within the usual rooms; the others are as they were.
+    // within its rooms; the others are as they were.
     ensures kept { KeepsDisks wanted.now.shape wanted.now.clouds.now (V.cloud_at shelf.old) (V.cloud_at shelf.new) }
 
     // Where the openings end the read, each told cloud is spared, whatever its areas hold.
     ensures areas { IsOfOpening result → (cloud : ℕ) → IsTrue (V.cloud_at shelf.old cloud).told
         → IsSpared (V.cloud_at shelf.old cloud) (V.cloud_at shelf.new cloud) }
 {
+    let Ok(mut window) = taken(alloc) else {
+        return ReadEnd::NoMemory;
+    };
     let Ok(servers) = Servers::make(alloc, wanted.shape, Rooms::least()) else {
         return ReadEnd::NoMemory;
     };
     let mut file = Bytes::new(alloc);
     let mut link = LocalLink::of(alloc, shelf, servers);
-    let came = restore_opened(alloc, &mut link, wanted, &mut file);
+    let came = restore_opened(alloc, &mut link, wanted, window.as_mut_slice(), &mut file);
     let _shelf = link.release();
     match came {
         Ok(came) => write_came(alloc, sink, came, file.as_slice()),

@@ -1,40 +1,36 @@
-use Rattle.std.proofs.Common.{◌≡◌, refl, sym, ◌∙◌}
-use Rattle.std.specs.Prelude.{Err}
-use Rattle.read_command.proofs.Disks.{came_by, opening_by, opening_none, opening_from, rooms_in}
+use Rattle.std.proofs.Common.{◌<◌, refl, sym, ap, subst}
+use Rattle.std.specs.Prelude.{IsTrue, Err}
+use Rattle.cd_edges.specs.declared.area.Area.TheVariants.{Journal}
+use Rattle.cd_edges.specs.Disk.{Cloud, reads}
+use Rattle.local_link.specs.declared.servers.Servers.{Servers}
+use Rattle.read_command.specs.declared.end.ReadEnd.{ReadEnd}
+use Rattle.read_command.specs.declared.end.ReadEnd.TheVariants as ends
+use Rattle.read_command.specs.Disks.{NamesRooms}
+use Rattle.read_command.proofs.Disks.{fails_open, opening_from, opening_none}
 use Rattle.read_command.proofs.opening.open_cloud.Goals as goal
 
-pub returns-in-Ok-reopen-clause-opens : goal.returns-in-Ok-reopen-clause-opens
-returns-in-Ok-reopen-clause-opens g c =
-    let clouds = g.V.Shelf.cloud_at in
-    let mid = c.set_rooms.new.self in
-    let new = c.reopen.new.self in
-    let s = c.in-Ok.ensures in
-    let r = c.reopen.ensures in
-    opening_from clouds mid.servers.shape c.args.link.now.servers.shape (clouds mid.shelf.now c.args.cloud.0) (clouds c.args.link.now.shelf.now c.args.cloud.0) _ _ new _ c.args.cloud.0 _
-    s.others.shape_stays (λ i. clouds (s.still.0 i).now c.args.cloud.0) (λ i. g.V.Shelf.faults (s.still.0 i).now)
-    (opening_by clouds mid new c.args.cloud (g.V.Shelf.faults mid.shelf.now) (g.V.Shelf.faults new.shelf.now) c.reopen.result _
-    (rooms_in _ mid.servers c.args.cloud.0 s.closed ∙ c.usual.ensures.rooms)
-    r.exact r.not_begun r.other_store r.whole r.loaded r.counts r.areas r.images r.rooms (λ i. came_by c.args.cloud (sym c.in-Ok-reopen.is i)))
+pub open_in-requires : goal.open_in-requires
+open_in-requires g c =
+    let s = c.in-Ok.ensures in record {
+      reached = subst (λ (x : Servers). c.args.cloud.0 < x.shape.n) (sym c.named_rooms.ensures.still.0) c.requires.reached;
+      allowed = s.allowed;
+      named = subst (λ (k : Cloud). IsTrue k.told → NamesRooms (reads k.now Journal) c.in-Ok.rooms) (sym s.same.0) s.named;
+    }
 
-pub returns-in-Err-reopen-clause-opens : goal.returns-in-Err-reopen-clause-opens
-returns-in-Err-reopen-clause-opens g c =
+pub returns-in-Ok-clause-opens : goal.returns-in-Ok-clause-opens
+returns-in-Ok-clause-opens g c =
     let clouds = g.V.Shelf.cloud_at in
-    let mid = c.set_rooms.new.self in
-    let new = c.reopen.new.self in
+    let mid = c.named_rooms.new.link in
+    let new = c.open_in.new.link in
     let s = c.in-Ok.ensures in
-    let r = c.reopen.ensures in
-    let ended : Err c.end_of.result ≡ came_by c.args.cloud (Err c.in-Err-reopen.error) = λ i. Err (c.end_of.ensures i) in
-    opening_from clouds mid.servers.shape c.args.link.now.servers.shape (clouds mid.shelf.now c.args.cloud.0) (clouds c.args.link.now.shelf.now c.args.cloud.0) _ _ new _ c.args.cloud.0 _
-    s.others.shape_stays (λ i. clouds (s.still.0 i).now c.args.cloud.0) (λ i. g.V.Shelf.faults (s.still.0 i).now)
-    (opening_by clouds mid new c.args.cloud (g.V.Shelf.faults mid.shelf.now) (g.V.Shelf.faults new.shelf.now) c.reopen.result _
-    (rooms_in _ mid.servers c.args.cloud.0 s.closed ∙ c.usual.ensures.rooms)
-    r.exact r.not_begun r.other_store r.whole r.loaded r.counts r.areas r.images r.rooms (ended ∙ (λ i. came_by c.args.cloud (sym c.in-Err-reopen.is i))))
+    opening_from clouds mid.servers.shape c.args.link.now.servers.shape (clouds mid.shelf.now c.args.cloud.0) (clouds c.args.link.now.shelf.now c.args.cloud.0)
+    (g.V.Shelf.faults mid.shelf.now) (g.V.Shelf.faults c.args.link.now.shelf.now) new (g.V.Shelf.faults new.shelf.now) c.args.cloud.0 c.open_in.result
+    (ap (λ (x : Servers). x.shape) c.named_rooms.ensures.still.0) s.same.0 s.same.1 c.open_in.ensures.opens
 
 pub returns-in-Err-clause-opens : goal.returns-in-Err-clause-opens
 returns-in-Err-clause-opens g c =
     let clouds = g.V.Shelf.cloud_at in
-    let new = c.set_rooms.new.self in
-    let e = c.in-Err.ensures.err in
-    opening_from clouds new.servers.shape c.args.link.now.servers.shape (clouds new.shelf.now c.args.cloud.0) (clouds c.args.link.now.shelf.now c.args.cloud.0) _ _ new _ c.args.cloud.0 _
-    (λ i. (e i).servers.shape) (λ i. clouds (e i).shelf.now c.args.cloud.0) (λ i. g.V.Shelf.faults (e i).shelf.now)
-    (opening_none clouds new c.args.cloud.0 (g.V.Shelf.faults new.shelf.now) _ refl (λ told. g.met.V.Shelf.reads_image new.shelf.now c.args.cloud.0 told))
+    let old = c.args.link.now in
+    let new = c.named_rooms.new.link in
+    fails_open clouds old.servers.shape (clouds old.shelf.now c.args.cloud.0) new c.args.cloud (g.V.Shelf.faults old.shelf.now) (g.V.Shelf.faults new.shelf.now) c.in-Err.end
+    c.in-Err.ensures.failed.0 c.in-Err.ensures.failed.1 c.named_rooms.ensures.stays (λ told. g.met.V.Shelf.reads_image old.shelf.now c.args.cloud.0 told)

@@ -1,4 +1,4 @@
-use Rattle.std.proofs.Common.{◌<◌, List, sym, subst}
+use Rattle.std.proofs.Common.{◌<◌, List, sym, ◌∙◌, subst}
 use Rattle.cd_base.specs.declared.ids.CloudNo.{CloudNo}
 use Rattle.cd_base.specs.declared.shape.Shape.{Shape}
 use Rattle.cd_base.specs.Numbers.{numbers_of}
@@ -10,8 +10,8 @@ clouds-init g c =
     none_yet g.V.Shelf.cloud_at (numbers_of c.args.clouds.now) (g.V.Shelf.faults c.args.link.now.shelf.now) c.args.link.now
     (λ cloud told. g.met.V.Shelf.reads_image c.args.link.now.shelf.now cloud told)
 
-pub open_cloud-requires : goal.open_cloud-requires
-open_cloud-requires g c =
+pub open_cloud-requires-clause-reached : goal.open_cloud-requires-clause-reached
+open_cloud-requires-clause-reached g c =
     let number = c.in-Some.cloud.0 in
     let more = numbers_of c.in-Some.more.now in
     let named = numbers_of c.args.clouds.now in
@@ -20,10 +20,11 @@ open_cloud-requires g c =
     let before = g.V.Shelf.faults old.shelf.now in
     let between = g.V.Shelf.faults mid.shelf.now in
     let so = subst (λ (l : List CloudNo). SoFar g.V.Shelf.cloud_at named (numbers_of l) before between old mid) c.in-Some.ensures c.clouds.invariant in
-    record {
-      reached = subst (λ (s : Shape). number < s.n) (sym so.leaves.shape)
-          (is_below g.V.Shelf.cloud_at named number more before between old mid so old.servers.shape.n c.requires.within);
-    }
+    subst (λ (s : Shape). number < s.n) (sym so.leaves.shape)
+    (is_below g.V.Shelf.cloud_at named number more before between old mid so old.servers.shape.n c.requires.within)
+
+pub open_cloud-requires-clause-window : goal.open_cloud-requires-clause-window
+open_cloud-requires-clause-window g c = c.clouds.auto.window ∙ c.requires.window
 
 pub returns-in-Err-clause-end : goal.returns-in-Err-clause-end
 returns-in-Err-clause-end g c =
@@ -53,7 +54,7 @@ returns-in-Err-clause-readable g c =
     let now = g.V.Shelf.faults new.shelf.now in
     let e = c.open_cloud.ensures in
     let so = subst (λ (l : List CloudNo). SoFar g.V.Shelf.cloud_at named (numbers_of l) before between old mid) c.in-Some.ensures c.clouds.invariant in
-    λ lists are. free_here g.V.Shelf.cloud_at named number more before between now old mid new c.requires.rising so c.open_cloud.result e.opens e.rest c.in-Err.end lists c.in-Err.is are
+    λ rooms lists are. free_here g.V.Shelf.cloud_at named number more before between now old mid new c.requires.rising so c.open_cloud.result e.opens e.rest c.in-Err.end rooms lists c.in-Err.is are
 
 pub returns-in-Err-clause-kept : goal.returns-in-Err-clause-kept
 returns-in-Err-clause-kept g c =

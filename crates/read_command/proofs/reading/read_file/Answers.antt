@@ -1,5 +1,6 @@
 use Rattle.std.proofs.Common.{rules, ◌≡◌, ℕ, List, [], refl, subst}
 use Rattle.user_dedup.specs.declared.command.Command.{Command}
+use Rattle.journal_start.specs.declared.rooms.Rooms.{Rooms}
 use Rattle.read_command.specs.Disks.{AreReadable}
 use Rattle.read_command.specs.Opening.{EndsOpening, IsFree}
 use Rattle.read_command.specs.Ends.{Outside, IsWritten, Restored}
@@ -7,7 +8,10 @@ use Rattle.read_command.proofs.Whole.{nothing_more, reads_whole, reads_stopped}
 use Rattle.read_command.proofs.reading.read_file.Goals as goal
 
 pub returns-in_default-clause-reads : goal.returns-in_default-clause-reads
-returns-in_default-clause-reads g c = ([], nothing_more (g.K.Sink.written c.args.sink.now), (refl, tt), λ lists are. tt)
+returns-in_default-clause-reads g c = ([], nothing_more (g.K.Sink.written c.args.sink.now), (refl, tt), λ rooms lists are. tt)
+
+pub returns-in_default-make-clause-reads : goal.returns-in_default-make-clause-reads
+returns-in_default-make-clause-reads g c = ([], nothing_more (g.K.Sink.written c.args.sink.now), (refl, tt), λ rooms lists are. tt)
 
 pub returns-in-Ok-came-clause-reads : goal.returns-in-Ok-came-clause-reads
 returns-in-Ok-came-clause-reads g c =
@@ -46,4 +50,4 @@ returns-clause-reads g c =
     let ended = λ (a b : g.row.V.Denot). EndsOpening r.shape r.clouds.now (g.V.Shelf.cloud_at a) (g.V.Shelf.cloud_at b) (g.V.Shelf.faults a) (g.V.Shelf.faults b) end in
     reads_stopped (around c.args.shelf.now c.shelf-1.given.0) r (g.K.Sink.written c.args.sink.now) end
     (subst (λ (a : g.row.V.Denot). ended a c.shelf-1.given.0) c.of-link.ensures.shelf (subst (λ (b : g.row.V.Denot). ended first b) back c.in-Err.ensures.end))
-    (subst (λ (a : g.row.V.Denot). (lists : ℕ → List Command) → AreReadable r.shape r.clouds.now (g.V.Shelf.cloud_at a) lists → IsFree end) c.of-link.ensures.shelf c.in-Err.ensures.free)
+    (subst (λ (a : g.row.V.Denot). (rooms : ℕ → Rooms) (lists : ℕ → List Command) → AreReadable r.shape r.clouds.now (g.V.Shelf.cloud_at a) rooms lists → IsFree end) c.of-link.ensures.shelf c.in-Err.ensures.free)

@@ -2,18 +2,19 @@ use Rattle.std.proofs.Common.{ℕ, List, sym, ◌∙◌, subst}
 use Rattle.cd_base.specs.declared.ids.Tag.{Tag}
 use Rattle.cd_base.specs.declared.shape.Shape.{Shape}
 use Rattle.cd_base.specs.Numbers.{numbers_of}
+use Rattle.journal_start.specs.declared.start.Header.{Header}
 use Rattle.caont_rs.specs.Package.{tag as tag_at}
-use Rattle.read_command.specs.Disks.{AreReadable, IsOpened, KeepsDisks, usual_header}
+use Rattle.read_command.specs.Disks.{AreReadable, InItsRooms, IsOpened, KeepsDisks}
 use Rattle.read_command.specs.Opening.{AreOpened}
 use Rattle.read_command.proofs.Restoring.{came_to, is_due, kept_on}
 use Rattle.read_command.proofs.reading.restore_opened.Goals as goal
 
 pub returns-in-Err-clause-free : goal.returns-in-Err-clause-free
-returns-in-Err-clause-free g c = λ lists are.
+returns-in-Err-clause-free g c = λ rooms lists are.
     let olds = g.V.Shelf.cloud_at c.args.link.now.shelf.now in
-    c.in-Err.ensures.readable lists
-    (subst (λ (s : Shape). AreReadable s (numbers_of c.as_slice.result.now) olds lists) (sym c.requires.shape)
-    (subst (λ (l : List ℕ). AreReadable c.args.wanted.now.shape l olds lists) (sym c.as_slice.ensures) are))
+    c.in-Err.ensures.readable rooms lists
+    (subst (λ (s : Shape). AreReadable s (numbers_of c.as_slice.result.now) olds rooms lists) (sym c.requires.shape)
+    (subst (λ (l : List ℕ). AreReadable c.args.wanted.now.shape l olds rooms lists) (sym c.as_slice.ensures) are))
 
 pub returns-clause-came : goal.returns-clause-came
 returns-clause-came g c =
@@ -30,7 +31,7 @@ returns-clause-came g c =
     let e = c.restore_any.ensures in
     let tag : Tag = record { 0 = tag_at r.shape r.path.now } in
     record {
-      opened = λ cloud has told. subst (λ (s : Shape). IsOpened (usual_header s cloud) (clouds old.shelf.now cloud)) c.requires.shape ((opened.each cloud has).opened told);
+      opened = λ cloud has told. subst (λ (s : Shape). InItsRooms s cloud (clouds old.shelf.now cloud) (λ (header : Header). IsOpened header (clouds old.shelf.now cloud))) c.requires.shape ((opened.each cloud has).opened told);
       came_to = came_to clouds named r.shape before between now old mid new c.requires.shape opened r.user tag r.version _
           c.restore_any.result c.args.file.now c.restore_any.new.out c.requires.empty c.requires.fate e.asked e.named e.restored;
       due = is_due clouds named r.shape before between now old mid new c.requires.shape opened r.user tag r.version _
@@ -51,7 +52,7 @@ returns-clause-kept g c =
     let opened = subst (AreOpened clouds before between old mid) c.as_slice.ensures c.in-Ok.ensures.opened in
     let went = c.restore_any.ensures.asked in
     let law = c.law_of_readings.ensures in
-    kept_on clouds named r.shape before between now old mid new c.requires.shape opened (λ cloud p. law.images named went.asks mid new cloud p went.passed)
+    kept_on clouds named r.shape before between now old mid new c.requires.shape opened c.law_of_headers.ensures (λ cloud p. law.images named went.asks mid new cloud p went.passed)
     (λ cloud. law.others named went.asks mid new cloud went.passed) c.requires.within
     (λ cloud told. g.met.V.Shelf.reads_image old.shelf.now cloud told)
     (subst (λ (l : List ℕ). KeepsDisks old.servers.shape l (clouds old.shelf.now) (clouds mid.shelf.now)) c.as_slice.ensures c.in-Ok.ensures.kept)
