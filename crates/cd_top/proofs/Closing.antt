@@ -5,12 +5,12 @@ use Rattle.std.specs.Io.KnownBytes.{Appends}
 use Rattle.cd_edges.specs.Causes.{Rose}
 use Rattle.cd_edges.specs.Disk.{Cloud}
 use Rattle.session.specs.Texts.{text_of}
-use Rattle.session_model.specs.Headline.{Session, due}
-use Rattle.replay_core.specs.declared.end.ReplayEnd.{ReplayEnd}
-use Rattle.replay_core.specs.declared.end.ReplayEnd.TheVariants as ends
-use Rattle.replay_core.specs.Endings.{Call, EndingLine, HasCause, IsDue}
-use Rattle.replay_core.specs.Endings as due_lines
-use Rattle.replay_core.specs.Replayed.{Replayed, Replays, IsPrinted, IsCut, IsLast, status_of, ending_of}
+use Rattle.generated_session.specs.SessionModel.Headline.{Session, due}
+use Rattle.generated_session.specs.ReplayCore.end.ReplayEnd.{ReplayEnd}
+use Rattle.generated_session.specs.ReplayCore.end.ReplayEnd.TheVariants as ends
+use Rattle.generated_session.specs.ReplayCore.Endings.{Call, EndingLine, HasCause, IsDue}
+use Rattle.generated_session.specs.ReplayCore.Endings as due_lines
+use Rattle.generated_session.specs.ReplayCore.Replayed.{Replayed, Replays, IsPrinted, IsCut, IsLast, status_of, ending_of}
 use Rattle.cd_top.specs.Ends.{WantsLast, WantsNone, Closes, Silent, Said, CutShort, Unsaid}
 use Rattle.cd_top.specs.Replay.{ending_text, due_text, IsWritten, IsReplayed, until, WritesFront}
 use Rattle.cd_top.proofs.Texts.{appends_both}

@@ -12,13 +12,13 @@ use Rattle.session.specs.Lines.{after_line}
 use Rattle.session.specs.Reading.{event_at}
 use Rattle.session.specs.declared.event.Event.{Event}
 use Rattle.session.specs.Scripts.{Place, Begins, Leads, Reaches, Says, IsEnd, IsWrong, IsWrongFirst, FailsIn, FailsFirst, behind}
-use Rattle.session_model.specs.Steps.{cloud_no}
-use Rattle.session_model.specs.Vault.{Vault, opening}
-use Rattle.session_model.specs.Run.{Answered, Turns}
-use Rattle.session_model.specs.Headline.{Session, Begun, IsRun, IsPartOf, script_in}
-use Rattle.session_model.proofs.Counts.{counts_last}
-use Rattle.replay_core.specs.Endings.{Call, EndingLine, HasCause, HasRead, HasReadSome, IsDue, IsOfScript, IsOfShelf, IsOfStore, IsFirstFilled, IsWrongAt, MayFailIn}
-use Rattle.replay_core.specs.Endings as due_lines
+use Rattle.generated_session.specs.SessionModel.Steps.{cloud_no}
+use Rattle.generated_session.specs.SessionModel.Vault.{Vault, opening}
+use Rattle.generated_session.specs.SessionModel.Run.{Answered, Turns}
+use Rattle.generated_session.specs.SessionModel.Headline.{Session, Begun, IsRun, IsPartOf, script_in}
+use Rattle.generated_session.proofs.SessionModel.Counts.{counts_last}
+use Rattle.generated_session.specs.ReplayCore.Endings.{Call, EndingLine, HasCause, HasRead, HasReadSome, IsDue, IsOfScript, IsOfShelf, IsOfStore, IsFirstFilled, IsWrongAt, MayFailIn}
+use Rattle.generated_session.specs.ReplayCore.Endings as due_lines
 use Rattle.cd_top.specs.Complete.{IsStill, GoesWell}
 use Rattle.cd_top.specs.Replay.{IsReplayed}
 

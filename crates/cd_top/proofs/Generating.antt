@@ -4,10 +4,10 @@ use Rattle.std.specs.Prelude.{◌⊎◌}
 use Rattle.std.specs.Io.KnownBytes.{Appends}
 use Rattle.cd_edges.specs.Causes.{Rose}
 use Rattle.cd_edges.specs.Disk.{Cloud}
-use Rattle.session_model.specs.Headline.{Session, IsRun}
-use Rattle.replay_core.specs.declared.end.ReplayEnd.{ReplayEnd}
-use Rattle.replay_core.specs.declared.end.ReplayEnd.TheVariants as ends
-use Rattle.replay_core.specs.Replayed.{Replayed, status_of, ending_of}
+use Rattle.generated_session.specs.SessionModel.Headline.{Session, IsRun}
+use Rattle.generated_session.specs.ReplayCore.end.ReplayEnd.{ReplayEnd}
+use Rattle.generated_session.specs.ReplayCore.end.ReplayEnd.TheVariants as ends
+use Rattle.generated_session.specs.ReplayCore.Replayed.{Replayed, status_of, ending_of}
 use Rattle.generated_session.specs.Numbers.{summary_text}
 use Rattle.generated_session.specs.Generates as generator
 use Rattle.generated_session.specs.Generates.{Order, Passing, Generates, WritesSummary, IsSummed}

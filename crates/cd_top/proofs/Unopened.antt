@@ -9,17 +9,17 @@ use Rattle.cd_edges.specs.Causes.{Rose}
 use Rattle.cd_edges.specs.Disk.{Cloud, Image, IsImage}
 use Rattle.cd_edges.proofs.Moments.{left_alone, each_since}
 use Rattle.cloud_areas.specs.Peers.{StandsForSome}
-use Rattle.cloud_server.proofs.NoCommands.{empty_stands}
-use Rattle.local_link.specs.Calls.{header_of}
+use Rattle.serve_command.proofs.CloudServer.NoCommands.{empty_stands}
+use Rattle.read_command.specs.LocalLink.Calls.{header_of}
 use Rattle.session.specs.Fault.{Fault}
 use Rattle.session.specs.Lines.{next_line}
 use Rattle.session.specs.Reading.{header_at}
 use Rattle.session.specs.Scripts.{Place, Begins}
-use Rattle.session_model.specs.Vault.{Setting, opening}
-use Rattle.session_model.specs.Run.{Answered}
-use Rattle.session_model.specs.Headline.{Session, IsRun, DisksStand}
-use Rattle.replay_core.specs.Endings.{Call, NoEnding, HasCause}
-use Rattle.replay_core.specs.Replayed.{Replayed, BeginsEmpty}
+use Rattle.generated_session.specs.SessionModel.Vault.{Setting, opening}
+use Rattle.generated_session.specs.SessionModel.Run.{Answered}
+use Rattle.generated_session.specs.SessionModel.Headline.{Session, IsRun, DisksStand}
+use Rattle.generated_session.specs.ReplayCore.Endings.{Call, NoEnding, HasCause}
+use Rattle.generated_session.specs.ReplayCore.Replayed.{Replayed, BeginsEmpty}
 use Rattle.cd_top.specs.Replay.{IsReplayed}
 
 -- ---- the setting that a script's first line says, and any setting where there is none

@@ -7,7 +7,7 @@ use Rattle.cd_edges.specs.declared.area.Area.{Area}
 use Rattle.cd_edges.specs.Disk.{Cloud}
 use Rattle.session.specs.declared.event.Event.{Event}
 use Rattle.session.specs.Scripts.{Place, Reaches, IsEnd}
-use Rattle.replay_core.specs.Endings.{Call, IsEmptyAt}
+use Rattle.generated_session.specs.ReplayCore.Endings.{Call, IsEmptyAt}
 
 -- the bytes are a script for clouds of this shape, to its last line
 pub record IsScript (script : List ℕ) (shape : Shape) : Type 0 where

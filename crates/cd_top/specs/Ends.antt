@@ -2,9 +2,9 @@
 use Rattle.std.specs.Prelude.{◌≡◌, ℕ, List, Option}
 use Rattle.std.specs.Io.KnownBytes.{Appends}
 use Rattle.cd_edges.specs.Causes.{Rose}
-use Rattle.replay_core.specs.declared.end.ReplayEnd.{ReplayEnd}
-use Rattle.replay_core.specs.declared.end.ReplayEnd.TheVariants as ends
-use Rattle.replay_core.specs.Replayed.{status_of, ending_of}
+use Rattle.generated_session.specs.ReplayCore.end.ReplayEnd.{ReplayEnd}
+use Rattle.generated_session.specs.ReplayCore.end.ReplayEnd.TheVariants as ends
+use Rattle.generated_session.specs.ReplayCore.Replayed.{status_of, ending_of}
 use Rattle.cd_top.specs.Replay.{ending_text, WritesFront}
 
 -- a last line is due that isn't written yet

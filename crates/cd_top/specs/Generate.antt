@@ -4,13 +4,13 @@ use Rattle.std.specs.Io.KnownBytes.{Appends}
 use Rattle.journal_start.specs.Ranges.{usual_rooms}
 use Rattle.cd_edges.specs.Causes.{Rose}
 use Rattle.session.specs.declared.event.Event.{Event}
-use Rattle.session_model.specs.Kept.{uploads}
-use Rattle.session_model.specs.Run.{script_of}
-use Rattle.session_model.specs.Headline.{Session, script_in}
-use Rattle.replay_core.specs.declared.end.ReplayEnd.{ReplayEnd}
-use Rattle.replay_core.specs.declared.end.ReplayEnd.TheVariants as ends
-use Rattle.replay_core.specs.Endings.{IsFirstFilled}
-use Rattle.replay_core.specs.Replayed.{Replayed, status_of, ending_of}
+use Rattle.generated_session.specs.SessionModel.Kept.{uploads}
+use Rattle.generated_session.specs.SessionModel.Run.{script_of}
+use Rattle.generated_session.specs.SessionModel.Headline.{Session, script_in}
+use Rattle.generated_session.specs.ReplayCore.end.ReplayEnd.{ReplayEnd}
+use Rattle.generated_session.specs.ReplayCore.end.ReplayEnd.TheVariants as ends
+use Rattle.generated_session.specs.ReplayCore.Endings.{IsFirstFilled}
+use Rattle.generated_session.specs.ReplayCore.Replayed.{Replayed, status_of, ending_of}
 use Rattle.generated_session.specs.declared.numbers.Numbers.{Numbers}
 use Rattle.generated_session.specs.Lines.{generated_lines}
 use Rattle.generated_session.specs.Numbers.{HasNumbers, summary_text}

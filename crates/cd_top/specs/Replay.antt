@@ -6,12 +6,12 @@ use Rattle.transcript.specs.declared.ending.Ending.TheVariants as endings
 use Rattle.transcript.specs.declared.line.Line.TheVariants as lines
 use Rattle.transcript.specs.Endings as texts
 use Rattle.transcript.specs.Transcript.{line_text}
-use Rattle.session_model.specs.Steps.{cloud_no}
+use Rattle.generated_session.specs.SessionModel.Steps.{cloud_no}
 use Rattle.session.specs.Texts.{text_of}
-use Rattle.session_model.specs.Headline.{Session, due}
-use Rattle.replay_core.specs.Endings.{Call, EndingLine, HasCause}
-use Rattle.replay_core.specs.Endings as due_lines
-use Rattle.replay_core.specs.Replayed.{Replayed}
+use Rattle.generated_session.specs.SessionModel.Headline.{Session, due}
+use Rattle.generated_session.specs.ReplayCore.Endings.{Call, EndingLine, HasCause}
+use Rattle.generated_session.specs.ReplayCore.Endings as due_lines
+use Rattle.generated_session.specs.ReplayCore.Replayed.{Replayed}
 use Rattle.cd_top.specs.declared.ending.LastErr.{LastErr}
 use Rattle.cd_top.specs.declared.ending.LastErr.TheVariants as errors
 

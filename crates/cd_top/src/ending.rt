@@ -2,13 +2,13 @@
 
 ghost use Rattle.std.specs.Prelude.{◌≡◌, IfSome, IfNone};
 ghost use Rattle.transcript.specs.Endings.{ending_text as text_of_ending};
-ghost use Rattle.replay_core.specs.Replayed.{status_of as status_due, ending_of};
+ghost use Rattle.generated_session.specs.ReplayCore.Replayed.{status_of as status_due, ending_of};
 ghost use Rattle.cd_top.specs.Replay.{ending_text, WritesLast};
 ghost use Rattle.cd_top.specs.Ends.{Closes, WantsLast, WantsNone};
 
 use cd_base::{Bytes, NoMemory};
 use cd_edges::{Sink, write_all};
-use replay_core::ReplayEnd;
+use generated_session::ReplayEnd;
 use std::alloc::Global;
 use transcript::{Ending, write_ending};
 

@@ -8,4 +8,5 @@ mod read;
 mod serve;
 mod top;
 
+pub use serve_command::{OpenErr, Server};
 pub use top::run;

@@ -5,7 +5,7 @@ ghost use Rattle.command_words.specs.Asked.{AskedFile, AskedRead, AskedServe, As
 ghost use Rattle.command_words.specs.Asked.{ForBackup, ForDelete, ForGenerate, ForRead, ForRestore, ForServe};
 ghost use Rattle.command_words.specs.Commands.{IsAnyCommand, IsCommand};
 ghost use Rattle.command_words.specs.Views.{asked_of};
-ghost use Rattle.replay_core.specs.Endings.{Call};
+ghost use Rattle.generated_session.specs.ReplayCore.Endings.{Call};
 ghost use Rattle.cd_top.specs.Complete.{GoesWell};
 ghost use Rattle.backup_command.specs.Reading.{input_of};
 ghost use Rattle.backup_command.specs.Writing.{output_of as output_by};
@@ -26,7 +26,7 @@ use crate::serve::serve_in;
 use cd_base::NoMemory;
 use cd_edges::{Failed, Ports, Shelf, Sink, Source};
 use command_words::{Command, law_of_words, read_words};
-use replay_core::replay;
+use generated_session::replay;
 use std::alloc::Global;
 
 // Runs the script in the source over the clouds in the directory.

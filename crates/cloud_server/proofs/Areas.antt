@@ -3,8 +3,8 @@ use Rattle.std.proofs.Common.{◌≡◌, refl, sym, subst}
 use Rattle.cd_edges.specs.Disk.{Areas, Cloud, Image, IsImage}
 use Rattle.user_dedup.specs.Exec.{Peer, MaySettleAs}
 use Rattle.cloud_areas.specs.Peers.{StandsForSome}
-use Rattle.open_store.specs.declared.store.OpenStore.{OpenStore}
-use Rattle.open_store.proofs.Keeping.{areas_serve}
+use Rattle.server_requests.specs.OpenStore.store.OpenStore.{OpenStore}
+use Rattle.server_requests.proofs.OfOpenStore.Keeping.{areas_serve}
 use Rattle.cloud_server.specs.Serving.{ServesAs}
 
 pub areas_keep : (s : OpenStore) (old new : Cloud) (p : Peer) → new.told ≡ old.told → new.now ≡ old.now → ServesAs s old p

@@ -17,9 +17,9 @@ use Rattle.user_dedup.specs.Exec.{Peer, MaySettleAs, Settles, CountsOn, Answers,
 use Rattle.user_dedup.specs.Spending.{IsWithin}
 use Rattle.user_dedup.specs.Served.{served_by}
 use Rattle.cloud_areas.specs.Peers.{StandsForSome, ImagesSince, MayBecome}
-use Rattle.open_store.specs.declared.store.OpenStore.{OpenStore}
-use Rattle.open_store.specs.Store.{IsOpen}
-use Rattle.server_commands.specs.Serving.{serves, Served, IsServedOrNot}
+use Rattle.server_requests.specs.OpenStore.store.OpenStore.{OpenStore}
+use Rattle.server_requests.specs.OpenStore.Store.{IsOpen}
+use Rattle.server_requests.specs.ServerCommands.Serving.{serves, Served, IsServedOrNot}
 use Rattle.cloud_server.specs.Refusals.{Refuses}
 use Rattle.cloud_server.specs.Serving.{ServesAs, ExecutesAs, settled_with}
 use Rattle.cloud_server.specs.Steps.{OpensAs, Cuts, Does}

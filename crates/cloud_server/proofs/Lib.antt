@@ -1,9 +1,10 @@
-mod Headers
-mod Bytes
-pub mod NoCommands
 mod Areas
-mod Peers
-mod Openings
-mod Executed
 mod Bounds
+mod Bytes
+mod Executed
+mod Headers
+pub mod NoCommands
+mod Openings
+mod Peers
 mod Refusing
+pub mod StoreOpening

@@ -24,8 +24,8 @@ use Rattle.cloud_memory.specs.Rooms.{memory_of}
 use Rattle.record_laws.specs.Leaving.{MayHold}
 use Rattle.store_opening.specs.Exact.{Opens}
 use Rattle.store_opening.specs.Spared.{IsOkOrFault, MayBegin, Spares}
-use Rattle.open_store.specs.declared.store.OpenStore.{OpenStore}
-use Rattle.open_store.specs.Store.{IsOpen, ServesSome}
+use Rattle.server_requests.specs.OpenStore.store.OpenStore.{OpenStore}
+use Rattle.server_requests.specs.OpenStore.Store.{IsOpen, ServesSome}
 use Rattle.cloud_server.specs.Openings.{OpensTo, NotBegunIs}
 use Rattle.cloud_server.specs.Refusals.{MayCome}
 use Rattle.cloud_server.specs.Serving.{ServesAs, ReopensAs, IsUnopened, an_error, settled_with}

@@ -20,8 +20,8 @@ use Rattle.cloud_areas.specs.Standing.{StandsFor}
 use Rattle.cloud_disk.proofs.Standing.{images_on}
 use Rattle.record_laws.specs.Leaving.{MayHold}
 use Rattle.store_opening.proofs.Current.{not_unbegun}
-use Rattle.open_store.specs.declared.store.OpenStore.{OpenStore}
-use Rattle.open_store.specs.Store.{IsOpen, ServesSome}
+use Rattle.server_requests.specs.OpenStore.store.OpenStore.{OpenStore}
+use Rattle.server_requests.specs.OpenStore.Store.{IsOpen, ServesSome}
 use Rattle.cloud_server.specs.Serving.{ServesAs, settled_with}
 
 -- ---- a store that serves a list

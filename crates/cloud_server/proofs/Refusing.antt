@@ -14,9 +14,9 @@ use Rattle.messages.specs.declared.request.Request.TheVariants as requests
 use Rattle.messages.specs.declared.reply.Reply.{Reply}
 use Rattle.messages.specs.declared.reply.Reply.TheVariants as replies
 use Rattle.messages.specs.Replies.{IsReply, reply_bytes}
-use Rattle.server_commands.specs.Leaving.{StoresNothing, EntersNothing, FindsNone, FindsForeign, LeavesAll}
-use Rattle.open_store.specs.declared.store.OpenStore.{OpenStore}
-use Rattle.open_store.specs.Store.{IsOpen}
+use Rattle.server_requests.specs.ServerCommands.Leaving.{StoresNothing, EntersNothing, FindsNone, FindsForeign, LeavesAll}
+use Rattle.server_requests.specs.OpenStore.store.OpenStore.{OpenStore}
+use Rattle.server_requests.specs.OpenStore.Store.{IsOpen}
 use Rattle.cloud_server.specs.Refusals.{IsRefusal, Refuses, MayCome}
 use Rattle.cloud_server.specs.Serving.{Answered, an_error}
 

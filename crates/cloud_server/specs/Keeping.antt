@@ -3,9 +3,9 @@ use Rattle.std.specs.Prelude.{◌≡◌, ◌⊎◌, ℕ, ◌≤◌}
 use Rattle.std.proofs.Common.{inl, inr, sym, ap, ◌∙◌}
 use Rattle.std.proofs.Props.{props}
 use Rattle.cd_base.specs.Limits.{recipe_limit}
-use Rattle.open_store.specs.declared.store.OpenStore.{OpenStore}
-use Rattle.open_store.specs.Store.{IsOpen, IsSettled}
-use Rattle.server_commands.specs.Executing.{IsReady}
+use Rattle.server_requests.specs.OpenStore.store.OpenStore.{OpenStore}
+use Rattle.server_requests.specs.OpenStore.Store.{IsOpen, IsSettled}
+use Rattle.server_requests.specs.ServerCommands.Executing.{IsReady}
 
 -- The store is settled, and ready for requests where it is open; and the buffer has place for the longest recipe.
 pub record IsKept (store : OpenStore) (buffer : ℕ) : Type 0 where

@@ -1,6 +1,9 @@
 pub mod Keeping
 pub mod Names
+pub mod OpenStore
 pub mod Openings
 pub mod Refusals
+pub mod ServerCommands
 pub mod Serving
 pub mod Steps
+pub mod StoreOpening

@@ -24,11 +24,11 @@ use Rattle.cloud_areas.specs.Standing.{StandsFor}
 use Rattle.cloud_memory.specs.Rooms.{memory_of}
 use Rattle.store_opening.specs.Exact.{Opens}
 use Rattle.store_opening.specs.Spared.{IsOkOrFault, Spares}
-use Rattle.open_store.specs.declared.store.OpenStore.{OpenStore}
-use Rattle.open_store.specs.Store.{IsOpen, ServesSome}
-use Rattle.server_commands.specs.Executing.{GrowsBehind, LeavesBoth}
-use Rattle.server_commands.specs.Leaving.{IsSteady}
-use Rattle.server_commands.specs.Serving.{serves}
+use Rattle.server_requests.specs.OpenStore.store.OpenStore.{OpenStore}
+use Rattle.server_requests.specs.OpenStore.Store.{IsOpen, ServesSome}
+use Rattle.server_requests.specs.ServerCommands.Executing.{GrowsBehind, LeavesBoth}
+use Rattle.server_requests.specs.ServerCommands.Leaving.{IsSteady}
+use Rattle.server_requests.specs.ServerCommands.Serving.{serves}
 use Rattle.cloud_server.specs.Openings.{OpensTo, OtherStoreIs}
 use Rattle.cloud_server.specs.Refusals.{Refuses}
 use Rattle.cloud_server.specs.declared.server.Server.{Server}

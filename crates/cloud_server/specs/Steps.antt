@@ -14,9 +14,9 @@ use Rattle.user_dedup.specs.Exec.{Peer, Settles, Stays, CountsOn, Answers, IsCut
 use Rattle.cloud_memory.specs.Rooms.{memory_of}
 use Rattle.store_opening.specs.Exact.{Opens}
 use Rattle.store_opening.specs.Spared.{Spares}
-use Rattle.open_store.specs.declared.store.OpenStore.{OpenStore}
-use Rattle.open_store.specs.Store.{IsOpen}
-use Rattle.server_commands.specs.Serving.{serves}
+use Rattle.server_requests.specs.OpenStore.store.OpenStore.{OpenStore}
+use Rattle.server_requests.specs.OpenStore.Store.{IsOpen}
+use Rattle.server_requests.specs.ServerCommands.Serving.{serves}
 use Rattle.cloud_server.specs.Serving.{ServesAs, some_commands}
 
 -- What becomes of a peer whose server is open then, or isn't where a device failed.

@@ -11,8 +11,7 @@ use frames::ReplyBuf;
 use half_journal::OpenErr;
 use journal_start::{Header, Rooms};
 use messages::write_malformed;
-use open_store::OpenStore;
-use server_requests::Asked;
+use server_requests::{Asked, OpenStore};
 use std::alloc::Global;
 
 /// The server of one cloud: it keeps a memory of the list of commands that lies on the cloud's disk, and adds to both.
@@ -50,8 +49,8 @@ impl Server {
     ghost use Rattle.store_opening.specs.Exact.{Opens};
     ghost use Rattle.store_opening.specs.Spared.{IsOkOrFault, MayBegin, Spares};
     ghost use Rattle.store_opening.specs.Synced.{BeginsSynced};
-    ghost use Rattle.open_store.specs.Store.{IsOpen, ServesSome, closed};
-    ghost use Rattle.server_commands.specs.Leaving.{IsFound, LeavesAll};
+    ghost use Rattle.server_requests.specs.OpenStore.Store.{IsOpen, ServesSome, closed};
+    ghost use Rattle.server_requests.specs.ServerCommands.Leaving.{IsFound, LeavesAll};
     ghost use Rattle.server_requests.specs.Asking.{IsForMemory};
     ghost use Rattle.cloud_server.specs.Names.{header_of};
     ghost use Rattle.cloud_server.specs.Openings.{NotBegunIs, OtherStoreIs};

@@ -13,9 +13,9 @@ ghost use Rattle.user_dedup.specs.Exec.{Peer, MaySettleAs};
 ghost use Rattle.user_dedup.specs.Requests.{HasRecipe};
 ghost use Rattle.cloud_areas.specs.Peers.{ImagesSince, MayBecome};
 ghost use Rattle.cloud_memory.specs.Rooms.{memory_of};
-ghost use Rattle.open_store.specs.Store.{IsOpen, ServesSome};
-ghost use Rattle.server_commands.specs.Leaving.{IsFound, LeavesAll};
-ghost use Rattle.server_commands.specs.Serving.{serves};
+ghost use Rattle.server_requests.specs.OpenStore.Store.{IsOpen, ServesSome};
+ghost use Rattle.server_requests.specs.ServerCommands.Leaving.{IsFound, LeavesAll};
+ghost use Rattle.server_requests.specs.ServerCommands.Serving.{serves};
 ghost use Rattle.server_requests.specs.Asking.{request_of, IsOfShape, IsForMemory};
 ghost use Rattle.cloud_server.specs.Keeping.{IsKept};
 ghost use Rattle.cloud_server.specs.Refusals.{MayCome};
@@ -29,8 +29,7 @@ use cloud_areas::peers::law_of_peers;
 use frames::ReplyBuf;
 use half_journal::OpenErr;
 use messages::write_fault;
-use open_store::OpenStore;
-use server_requests::{Asked, dispatch};
+use server_requests::{Asked, OpenStore, dispatch};
 
 // The reply to a request becomes the content, by an open store.
 fn serve<V: Shelf>(

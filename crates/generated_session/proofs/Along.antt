@@ -17,7 +17,7 @@ use Rattle.user_dedup.specs.Exec.{Peer}
 use Rattle.upload_job.specs.Upload.{FileVersion}
 use Rattle.upload_job.specs.Lanes.{LaneView, lanes_begun}
 use Rattle.restore_job.specs.declared.error.RestoreErr.{RestoreErr}
-use Rattle.local_link.specs.declared.link.LocalLink.{LocalLink}
+use Rattle.replay_core.specs.LocalLink.link.LocalLink.{LocalLink}
 use Rattle.session.specs.Spelling.{AreBytes, IsJob}
 use Rattle.session.specs.declared.event.Event.{Event}
 use Rattle.session.specs.declared.event.Event.TheVariants as events
@@ -25,18 +25,18 @@ use Rattle.transcript.specs.declared.line.Line.{Line}
 use Rattle.transcript.specs.declared.line.Line.TheVariants as lines
 use Rattle.transcript.specs.declared.refusal.Refusal.{Refusal}
 use Rattle.session.specs.Scripts.{jobs_after}
-use Rattle.session_model.specs.Vault.{Setting, Vault, lanes_of}
-use Rattle.session_model.specs.Steps.{version_of, all_done, IsGetLine}
-use Rattle.session_model.specs.Kept.{upload_of}
-use Rattle.session_model.specs.Run.{Answered, script_of}
-use Rattle.session_model.specs.Headline.{IsPartOf}
-use Rattle.script_lines.specs.At.{IsAt, Leaves}
-use Rattle.script_lines.specs.Does.{Goes, Cut}
-use Rattle.script_lines.specs.Finishing.{FinishedPart}
-use Rattle.script_lines.specs.Jobs.{job_lanes}
-use Rattle.script_lines.proofs.Going.{leaves_all}
-use Rattle.script_lines.proofs.Others.{upload_goes}
-use Rattle.script_lines.proofs.Bringing.{finish_cut}
+use Rattle.replay_core.specs.SessionModel.Vault.{Setting, Vault, lanes_of}
+use Rattle.replay_core.specs.SessionModel.Steps.{version_of, all_done, IsGetLine}
+use Rattle.replay_core.specs.SessionModel.Kept.{upload_of}
+use Rattle.replay_core.specs.SessionModel.Run.{Answered, script_of}
+use Rattle.replay_core.specs.SessionModel.Headline.{IsPartOf}
+use Rattle.replay_core.specs.ScriptLines.At.{IsAt, Leaves}
+use Rattle.replay_core.specs.ScriptLines.Does.{Goes, Cut}
+use Rattle.replay_core.specs.ScriptLines.Finishing.{FinishedPart}
+use Rattle.replay_core.specs.ScriptLines.Jobs.{job_lanes}
+use Rattle.replay_core.proofs.ScriptLines.Going.{leaves_all}
+use Rattle.replay_core.proofs.ScriptLines.Others.{upload_goes}
+use Rattle.replay_core.proofs.ScriptLines.Bringing.{finish_cut}
 use Rattle.replay_core.specs.Opening.{IsThere, before_first}
 use Rattle.replay_core.specs.Going.{SaysNext, CanBe}
 use Rattle.replay_core.proofs.Sessions.{Later, Here, answered, come_on, script_more}

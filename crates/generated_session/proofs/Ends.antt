@@ -10,14 +10,14 @@ use Rattle.cd_edges.specs.declared.area.Area.{Area}
 use Rattle.cd_edges.specs.Causes.{Rose}
 use Rattle.cd_edges.specs.Disk.{Cloud, IsImage, reads}
 use Rattle.user_dedup.specs.Exec.{Peer}
-use Rattle.local_link.specs.declared.link.LocalLink.{LocalLink}
-use Rattle.local_link.specs.Calls.{no_commands}
+use Rattle.replay_core.specs.LocalLink.link.LocalLink.{LocalLink}
+use Rattle.replay_core.specs.LocalLink.Calls.{no_commands}
 use Rattle.session.specs.declared.event.Event.{Event}
-use Rattle.session_model.specs.Vault.{Setting, Vault, opening}
-use Rattle.session_model.specs.Kept.{uploads}
-use Rattle.session_model.specs.Run.{Answered, Turns, script_of}
-use Rattle.session_model.specs.Headline.{Session, Begun, IsRun, IsPartOf, event_of}
-use Rattle.script_lines.specs.At.{header_in}
+use Rattle.replay_core.specs.SessionModel.Vault.{Setting, Vault, opening}
+use Rattle.replay_core.specs.SessionModel.Kept.{uploads}
+use Rattle.replay_core.specs.SessionModel.Run.{Answered, Turns, script_of}
+use Rattle.replay_core.specs.SessionModel.Headline.{Session, Begun, IsRun, IsPartOf, event_of}
+use Rattle.replay_core.specs.ScriptLines.At.{header_in}
 use Rattle.replay_core.specs.declared.end.ReplayEnd.{ReplayEnd}
 use Rattle.replay_core.specs.declared.end.ReplayEnd.TheVariants as ends
 use Rattle.replay_core.specs.Endings.{IsEmptyAt}

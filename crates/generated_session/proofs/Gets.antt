@@ -9,20 +9,20 @@ use Rattle.cd_base.specs.declared.shape.Shape.{Shape}
 use Rattle.cd_edges.specs.Disk.{Cloud}
 use Rattle.upload_job.specs.Upload.{FileVersion}
 use Rattle.restore_job.specs.declared.error.RestoreErr.{RestoreErr}
-use Rattle.local_link.specs.declared.link.LocalLink.{LocalLink}
+use Rattle.replay_core.specs.LocalLink.link.LocalLink.{LocalLink}
 use Rattle.session.specs.Spelling.{AreBytes, AreSources}
 use Rattle.session.specs.declared.event.Event.{Event}
 use Rattle.session.specs.declared.event.Event.TheVariants as events
 use Rattle.transcript.specs.declared.line.Line.{Line}
 use Rattle.transcript.specs.declared.line.Line.TheVariants as lines
 use Rattle.transcript.specs.declared.refusal.Refusal.{Refusal}
-use Rattle.session_model.specs.Vault.{Setting}
+use Rattle.replay_core.specs.SessionModel.Vault.{Setting}
 use Rattle.subset_restore.specs.Refusals.{refusal_of}
-use Rattle.session_model.specs.Steps.{version_of, IsGetLine}
-use Rattle.session_model.specs.Headline.{IsPartOf}
-use Rattle.script_lines.specs.At.{Leaves}
-use Rattle.script_lines.specs.Does.{Goes}
-use Rattle.script_lines.proofs.Others.{Read, get_goes, get_cut}
+use Rattle.replay_core.specs.SessionModel.Steps.{version_of, IsGetLine}
+use Rattle.replay_core.specs.SessionModel.Headline.{IsPartOf}
+use Rattle.replay_core.specs.ScriptLines.At.{Leaves}
+use Rattle.replay_core.specs.ScriptLines.Does.{Goes}
+use Rattle.replay_core.proofs.ScriptLines.Others.{Read, get_goes, get_cut}
 use Rattle.replay_core.specs.Going.{CanBe}
 use Rattle.replay_core.proofs.Sessions.{Later, Here}
 use Rattle.generated_session.specs.declared.numbers.Numbers.{Numbers}

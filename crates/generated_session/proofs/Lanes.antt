@@ -7,21 +7,21 @@ use Rattle.upload_job.specs.declared.news.LaneNews.{LaneNews}
 use Rattle.upload_job.specs.Lanes.{LaneView, with_state}
 use Rattle.lane_steps.specs.Runs.{starting, lane_at}
 use Rattle.lane_steps.specs.Steps.{Heard, Finishes}
-use Rattle.local_link.specs.declared.link.LocalLink.{LocalLink}
-use Rattle.local_link.specs.Tells.{telling}
+use Rattle.replay_core.specs.LocalLink.link.LocalLink.{LocalLink}
+use Rattle.replay_core.specs.LocalLink.Tells.{telling}
 use Rattle.session.specs.Spelling.{IsJob}
 use Rattle.transcript.specs.declared.line.Line.{Line}
-use Rattle.session_model.specs.Vault.{Setting, Vault, Executes, lanes_of, with_lanes}
-use Rattle.session_model.specs.Steps.{moment_of, step_line, all_done, stored_line}
+use Rattle.replay_core.specs.SessionModel.Vault.{Setting, Vault, Executes, lanes_of, with_lanes}
+use Rattle.replay_core.specs.SessionModel.Steps.{moment_of, step_line, all_done, stored_line}
 use Rattle.session.specs.Texts.{text_of}
-use Rattle.script_lines.specs.At.{IsAt}
-use Rattle.script_lines.specs.Jobs.{job_lanes, with_job}
-use Rattle.script_lines.specs.Stepping.{stored_if}
-use Rattle.script_lines.specs.Finishing.{Finished, FinishedPart}
-use Rattle.script_lines.proofs.Going.{images_still}
-use Rattle.script_lines.proofs.Walking.{views_are, jobs_with, run_along, along_run, walk}
-use Rattle.script_lines.proofs.Lines.{stored_same}
-use Rattle.script_lines.proofs.Bringing.{lanes_join, first_lanes, images_later, part_join}
+use Rattle.replay_core.specs.ScriptLines.At.{IsAt}
+use Rattle.replay_core.specs.ScriptLines.Jobs.{job_lanes, with_job}
+use Rattle.replay_core.specs.ScriptLines.Stepping.{stored_if}
+use Rattle.replay_core.specs.ScriptLines.Finishing.{Finished, FinishedPart}
+use Rattle.replay_core.proofs.ScriptLines.Going.{images_still}
+use Rattle.replay_core.proofs.ScriptLines.Walking.{views_are, jobs_with, run_along, along_run, walk}
+use Rattle.replay_core.proofs.ScriptLines.Lines.{stored_same}
+use Rattle.replay_core.proofs.ScriptLines.Bringing.{lanes_join, first_lanes, images_later, part_join}
 use Rattle.generated_session.specs.declared.numbers.Numbers.{Numbers}
 use Rattle.generated_session.specs.Progress.{Adds, Brings}
 use Rattle.generated_session.proofs.Tallies.{adds_none, adds_join}

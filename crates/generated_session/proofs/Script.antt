@@ -9,8 +9,8 @@ use Rattle.user_dedup.proofs.Owned.{contains_here}
 use Rattle.cd_base.specs.declared.ids.Version.{Version}
 use Rattle.upload_job.specs.Upload.{FileVersion}
 use Rattle.session.specs.declared.event.Event.{Event}
-use Rattle.session_model.specs.Steps.{version_of}
-use Rattle.session_model.specs.Kept.{upload_of, uploads}
+use Rattle.replay_core.specs.SessionModel.Steps.{version_of}
+use Rattle.replay_core.specs.SessionModel.Kept.{upload_of, uploads}
 use Rattle.generated_session.specs.Drawn.{file_of}
 use Rattle.generated_session.specs.Lines.{user_at, version_at, file_path, upload_lines, get_line, generated_lines}
 use Rattle.generated_session.specs.Progress.{IsFileOf}

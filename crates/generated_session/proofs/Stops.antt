@@ -1,10 +1,10 @@
 -- Sessions that stopped within some lines, and lines behind them.
 use Rattle.std.proofs.Common.{◌≡◌, ℕ, List, [], ◌∷◌, ◌++◌, refl, sym, ap, ◌∙◌, subst, inl, inr, ◌⊎◌, append_assoc}
 use Rattle.cd_edges.specs.Disk.{Cloud}
-use Rattle.local_link.specs.declared.link.LocalLink.{LocalLink}
+use Rattle.replay_core.specs.LocalLink.link.LocalLink.{LocalLink}
 use Rattle.session.specs.declared.event.Event.{Event}
-use Rattle.session_model.specs.Vault.{Setting}
-use Rattle.session_model.specs.Run.{script_of}
+use Rattle.replay_core.specs.SessionModel.Vault.{Setting}
+use Rattle.replay_core.specs.SessionModel.Run.{script_of}
 use Rattle.generated_session.specs.Progress.{IsStopped}
 
 pub stopped_more : {V : Type 0} (clouds : V → ℕ → Cloud) (begun : ℕ → Cloud) (s : Setting) (link : LocalLink V) (script rest all : List Event) → IsStopped clouds begun s link script → script ++ rest ≡ all

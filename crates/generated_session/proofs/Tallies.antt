@@ -10,10 +10,10 @@ use Rattle.upload_job.specs.declared.news.LaneNews.TheVariants as lane_news
 use Rattle.session.specs.declared.event.Event.{Event}
 use Rattle.transcript.specs.declared.line.Line.{Line}
 use Rattle.transcript.specs.declared.line.Line.TheVariants as lines
-use Rattle.session_model.specs.Steps.{step_line}
-use Rattle.session_model.specs.Kept.{upload_of, uploads}
-use Rattle.session_model.specs.Run.{Answered, script_of, answers_of}
-use Rattle.script_lines.specs.Stepping.{stored_if}
+use Rattle.replay_core.specs.SessionModel.Steps.{step_line}
+use Rattle.replay_core.specs.SessionModel.Kept.{upload_of, uploads}
+use Rattle.replay_core.specs.SessionModel.Run.{Answered, script_of, answers_of}
+use Rattle.replay_core.specs.ScriptLines.Stepping.{stored_if}
 use Rattle.replay_core.proofs.Sessions.{script_more}
 use Rattle.generated_session.specs.declared.numbers.Numbers.{Numbers}
 use Rattle.generated_session.specs.Numbers.{stored_in, sent_in, known_in, GivesUploaded, Counts, bytes_in, HasNumbers}

@@ -6,9 +6,9 @@ use Rattle.cd_edges.specs.declared.area.Area.{Area}
 use Rattle.cd_edges.specs.Causes.{Rose}
 use Rattle.cd_edges.specs.Disk.{Cloud}
 use Rattle.session.specs.declared.event.Event.{Event}
-use Rattle.session_model.specs.Kept.{uploads}
-use Rattle.session_model.specs.Run.{script_of}
-use Rattle.session_model.specs.Headline.{Session, script_in}
+use Rattle.replay_core.specs.SessionModel.Kept.{uploads}
+use Rattle.replay_core.specs.SessionModel.Run.{script_of}
+use Rattle.replay_core.specs.SessionModel.Headline.{Session, script_in}
 use Rattle.replay_core.specs.declared.end.ReplayEnd.{ReplayEnd}
 use Rattle.replay_core.specs.declared.end.ReplayEnd.TheVariants as ends
 use Rattle.replay_core.specs.Endings.{IsEmptyAt, IsFirstFilled}

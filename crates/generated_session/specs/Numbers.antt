@@ -8,9 +8,9 @@ use Rattle.transcript.specs.Transcript.{ended}
 use Rattle.transcript.specs.declared.line.Line.{Line}
 use Rattle.transcript.specs.declared.line.Line.TheVariants as lines
 use Rattle.transcript.specs.declared.news.News.TheVariants as news
-use Rattle.session_model.specs.Steps.{version_of}
-use Rattle.session_model.specs.Kept.{uploads}
-use Rattle.session_model.specs.Run.{Answered, script_of, answers_of}
+use Rattle.replay_core.specs.SessionModel.Steps.{version_of}
+use Rattle.replay_core.specs.SessionModel.Kept.{uploads}
+use Rattle.replay_core.specs.SessionModel.Run.{Answered, script_of, answers_of}
 use Rattle.generated_session.specs.declared.numbers.Numbers.{Numbers}
 
 -- ---- what a line of the transcript counts

@@ -8,18 +8,18 @@ use Rattle.upload_job.specs.Lanes.{LaneView}
 use Rattle.upload_job.specs.declared.news.LaneNews.{LaneNews}
 use Rattle.upload_job.specs.declared.news.LaneNews.TheVariants as news
 use Rattle.restore_job.specs.declared.error.RestoreErr.{RestoreErr}
-use Rattle.local_link.specs.declared.link.LocalLink.{LocalLink}
+use Rattle.replay_core.specs.LocalLink.link.LocalLink.{LocalLink}
 use Rattle.session.specs.Spelling.{IsJob}
 use Rattle.session.specs.declared.event.Event.{Event}
 use Rattle.transcript.specs.declared.line.Line.{Line}
-use Rattle.session_model.specs.Vault.{Setting, Vault}
+use Rattle.replay_core.specs.SessionModel.Vault.{Setting, Vault}
 use Rattle.subset_restore.specs.Refusals.{refusal_of}
-use Rattle.session_model.specs.Steps.{Moment, FinishLanes}
-use Rattle.session_model.specs.Run.{script_of}
-use Rattle.script_lines.specs.At.{IsAt, Leaves}
-use Rattle.script_lines.specs.Does.{Images, Cut}
-use Rattle.script_lines.specs.Finishing.{FinishedPart}
-use Rattle.script_lines.specs.Jobs.{job_lanes}
+use Rattle.replay_core.specs.SessionModel.Steps.{Moment, FinishLanes}
+use Rattle.replay_core.specs.SessionModel.Run.{script_of}
+use Rattle.replay_core.specs.ScriptLines.At.{IsAt, Leaves}
+use Rattle.replay_core.specs.ScriptLines.Does.{Images, Cut}
+use Rattle.replay_core.specs.ScriptLines.Finishing.{FinishedPart}
+use Rattle.replay_core.specs.ScriptLines.Jobs.{job_lanes}
 use Rattle.replay_core.specs.Opening.{before_first}
 use Rattle.replay_core.specs.Going.{Start, HasCome, CanBe}
 use Rattle.generated_session.specs.declared.numbers.Numbers.{Numbers}

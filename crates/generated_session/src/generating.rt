@@ -3,7 +3,7 @@
 ghost use Rattle.std.specs.Prelude.{◌≡◌, ◌<◌, ◌≤◌, ◌*◌, ℕ, None};
 ghost use Rattle.cd_edges.specs.Disk.{Cloud};
 ghost use Rattle.journal_start.specs.Ranges.{usual_rooms};
-ghost use Rattle.session_model.specs.Vault.{Setting};
+ghost use Rattle.replay_core.specs.SessionModel.Vault.{Setting};
 ghost use Rattle.replay_core.specs.Opening.{IsEmpty, before_first};
 ghost use Rattle.replay_core.specs.Going.{IsReady};
 ghost use Rattle.generated_session.specs.Generates.{Generates, GoesWell, IsDone};
@@ -15,9 +15,10 @@ use cd_base::{Bytes, Shape};
 use cd_edges::{Shelf, Sink};
 use cloud_server::laws::law_of_no_commands;
 use journal_start::Rooms;
-use local_link::{LocalLink, Servers};
-use replay_core::{ReplayEnd, empty_clouds, open_clouds};
-use session_model::{law_of_acknowledged, law_of_moments, law_of_own_replies};
+use replay_core::{
+    LocalLink, ReplayEnd, Servers, empty_clouds, law_of_acknowledged, law_of_moments,
+    law_of_own_replies, open_clouds,
+};
 use std::alloc::Global;
 
 // Opens the clouds, which read as nothing, carries the session out, and writes its summary.

@@ -10,3 +10,4 @@ mod summary;
 
 pub use generating::generate;
 pub use numbers::Numbers;
+pub use replay_core::{Buffers, Jobs, LocalLink, ReplayEnd, carry_out, replay};

@@ -25,9 +25,9 @@ use Rattle.user_dedup.specs.Spending.{IsWithin}
 use Rattle.cloud_areas.specs.Peers.{ImagesNow, ImagesSince}
 use Rattle.cloud_areas.specs.Standing.{StandsFor}
 use Rattle.cloud_memory.specs.Rooms.{memory_of}
-use Rattle.store_opening.specs.Exact.{Opens}
-use Rattle.store_opening.specs.Spared.{IsOkOrFault, MayBegin, Spares}
-use Rattle.open_store.specs.Store.{IsOpen}
+use Rattle.cloud_server.specs.StoreOpening.Exact.{Opens}
+use Rattle.cloud_server.specs.StoreOpening.Spared.{IsOkOrFault, MayBegin, Spares}
+use Rattle.cloud_server.specs.OpenStore.Store.{IsOpen}
 use Rattle.cloud_server.specs.Names.{HasNoJournal}
 use Rattle.cloud_server.specs.Openings.{NotBegunIs, OtherStoreIs}
 use Rattle.cloud_server.specs.declared.server.Server.{Server}

@@ -23,8 +23,8 @@ use Rattle.user_dedup.proofs.Asked.{asked_law}
 use Rattle.user_dedup.proofs.Execs.{keeps_sound}
 use Rattle.cloud_areas.specs.Peers.{StandsForSome, ImagesNow, ImagesSince, MayBecome}
 use Rattle.cloud_memory.specs.Rooms.{memory_of}
-use Rattle.open_store.specs.Store.{IsOpen}
-use Rattle.server_commands.specs.Leaving.{IsFound}
+use Rattle.cloud_server.specs.OpenStore.Store.{IsOpen}
+use Rattle.cloud_server.specs.ServerCommands.Leaving.{IsFound}
 use Rattle.cloud_server.specs.declared.server.Server.{Server}
 use Rattle.cloud_server.specs.Serving.{IsServing, CanOpen, Refused, ChangesBehind, OpensFirst}
 use Rattle.local_link.specs.declared.servers.Servers.{Servers}

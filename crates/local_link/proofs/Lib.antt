@@ -1,6 +1,8 @@
+pub mod Calling
+pub mod CloudServer
+pub mod Executing
+pub mod Malformed
+pub mod Passing
 pub mod Placing
 pub mod Standing
-pub mod Malformed
-pub mod Executing
-pub mod Calling
-pub mod Passing
+pub mod StoreOpening

@@ -8,7 +8,7 @@ use Rattle.cd_base.specs.declared.ids.CloudNo.{CloudNo}
 use Rattle.cd_base.specs.declared.shape.Shape.{Shape}
 use Rattle.journal_start.specs.declared.rooms.Rooms.{Rooms}
 use Rattle.journal_start.specs.declared.start.Header.{Header}
-use Rattle.open_store.specs.Store.{IsOpen}
+use Rattle.cloud_server.specs.OpenStore.Store.{IsOpen}
 use Rattle.cloud_server.specs.Names.{header_of}
 use Rattle.cloud_server.specs.declared.server.Server.{Server}
 use Rattle.local_link.specs.Members.{IsServerOf, AreServers}

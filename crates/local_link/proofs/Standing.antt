@@ -13,7 +13,7 @@ use Rattle.user_dedup.specs.Exec.{Peer, MaySettleAs}
 use Rattle.user_dedup.specs.Link.{LeavesOthers}
 use Rattle.user_dedup.specs.Spending.{full_for, IsWithin}
 use Rattle.cloud_areas.specs.Peers.{ImagesNow}
-use Rattle.open_store.specs.Store.{IsOpen}
+use Rattle.cloud_server.specs.OpenStore.Store.{IsOpen}
 use Rattle.cloud_server.specs.Names.{header_of}
 use Rattle.cloud_server.specs.declared.server.Server.{Server}
 use Rattle.cloud_server.specs.Serving.{number_of, IsServing}

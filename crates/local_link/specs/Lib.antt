@@ -1,5 +1,7 @@
-pub mod Members
-pub mod Tells
-pub mod Steps
 pub mod Calls
+pub mod CloudServer
+pub mod Members
 pub mod Sounds
+pub mod Steps
+pub mod StoreOpening
+pub mod Tells

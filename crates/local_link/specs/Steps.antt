@@ -17,15 +17,15 @@ use Rattle.user_dedup.specs.declared.command.Command.{Command}
 use Rattle.user_dedup.specs.Requests.{asked_at}
 use Rattle.user_dedup.specs.Exec.{Peer, Exec, items_of}
 use Rattle.half_journal.specs.Openings.{OnFault, HasBegun}
-use Rattle.store_opening.specs.Spared.{IsOkOrFault, MayBegin, Spares}
+use Rattle.cloud_server.specs.StoreOpening.Spared.{IsOkOrFault, MayBegin, Spares}
 use Rattle.cloud_server.specs.Openings.{NotBegunIs, OtherStoreIs}
-use Rattle.store_opening.specs.Exact.{Opens}
+use Rattle.cloud_server.specs.StoreOpening.Exact.{Opens}
 use Rattle.user_dedup.specs.Spending.{IsWithin}
-use Rattle.open_store.specs.Store.{IsOpen}
+use Rattle.cloud_server.specs.OpenStore.Store.{IsOpen}
 use Rattle.cloud_areas.specs.Peers.{ImagesNow, ImagesSince, MayBecome}
 use Rattle.cloud_areas.specs.Standing.{StandsFor}
 use Rattle.cloud_memory.specs.Rooms.{memory_of}
-use Rattle.server_commands.specs.Leaving.{IsFound, LeavesAll}
+use Rattle.cloud_server.specs.ServerCommands.Leaving.{IsFound, LeavesAll}
 use Rattle.cloud_server.specs.declared.server.Server.{Server}
 use Rattle.user_dedup.specs.Cloud.{counted}
 use Rattle.cloud_server.specs.Serving.{number_of, IsServing, server_serves, settled_with, ReopensAs, CanOpen, Refused, ChangesBehind, OpensFirst}

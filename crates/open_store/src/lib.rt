@@ -12,3 +12,4 @@ mod store;
 mod writing;
 
 pub use store::{OpenStore, Unadded};
+pub use store_opening::reopen;

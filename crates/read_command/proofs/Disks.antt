@@ -15,19 +15,19 @@ use Rattle.half_journal.specs.Openings.{MayBecome, OnFault}
 use Rattle.journal_halves.specs.Beginnings.{IsUnbegun}
 use Rattle.journal_halves.specs.Halves.{IsCurrent}
 use Rattle.journal_start.specs.declared.start.Start.{Start}
-use Rattle.store_opening.proofs.OneStart.{current_whole}
+use Rattle.local_link.proofs.StoreOpening.OneStart.{current_whole}
 use Rattle.user_dedup.specs.declared.command.Command.{Command}
-use Rattle.store_opening.specs.Exact.{Opens}
+use Rattle.local_link.specs.StoreOpening.Exact.{Opens}
 use Rattle.cloud_memory.specs.Rooms.{memory_of}
-use Rattle.cloud_server.specs.Openings.{HasNoOther, NotBegunIs, OpensTo, OtherStoreIs}
-use Rattle.store_opening.specs.Spared.{IsOkOrFault, MayBegin, Spares}
+use Rattle.local_link.specs.CloudServer.Openings.{HasNoOther, NotBegunIs, OpensTo, OtherStoreIs}
+use Rattle.local_link.specs.StoreOpening.Spared.{IsOkOrFault, MayBegin, Spares}
 use Rattle.user_dedup.specs.Spending.{IsWithin}
 use Rattle.cloud_areas.specs.Peers.{StandsForSome, ImagesNow, ImagesSince}
 use Rattle.cloud_areas.specs.Standing.{StandsFor}
 use Rattle.cd_base.specs.declared.shape.Shape.{Shape}
-use Rattle.cloud_server.specs.declared.server.Server.{Server}
+use Rattle.local_link.specs.CloudServer.server.Server.{Server}
 use Rattle.user_dedup.specs.Cloud.{counted}
-use Rattle.cloud_server.specs.Serving.{settled_with}
+use Rattle.local_link.specs.CloudServer.Serving.{settled_with}
 use Rattle.local_link.specs.declared.link.LocalLink.{LocalLink}
 use Rattle.local_link.specs.declared.servers.Servers.{Servers}
 use Rattle.local_link.specs.Calls.{header_of}

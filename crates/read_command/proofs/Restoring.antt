@@ -21,7 +21,7 @@ use Rattle.user_dedup.specs.Link.{Talk}
 use Rattle.user_dedup.proofs.Owned.{contains_here, contains_later, contains_cases, contains_nothing}
 use Rattle.cloud_areas.specs.Peers.{StandsForSome, ImagesSince}
 use Rattle.cloud_areas.specs.Standing.{StandsFor}
-use Rattle.cloud_server.specs.Serving.{settled_with}
+use Rattle.local_link.specs.CloudServer.Serving.{settled_with}
 use Rattle.local_link.specs.declared.fate.Fate.TheVariants.{Deliver}
 use Rattle.local_link.specs.declared.link.LocalLink.{LocalLink}
 use Rattle.local_link.specs.Calls.{header_of}

@@ -11,14 +11,14 @@ use Rattle.cd_base.specs.declared.shape.Shape.{Shape}
 use Rattle.cd_edges.specs.declared.area.Area.TheVariants.{Journal}
 use Rattle.cd_edges.specs.Disk.{Cloud, IsImage, reads}
 use Rattle.journal_start.specs.declared.rooms.Rooms.{Rooms}
-use Rattle.cloud_server.specs.Names.{header_of}
+use Rattle.local_link.specs.CloudServer.Names.{header_of}
 use Rattle.cd_edges.specs.Shelf.{HasFailed}
 use Rattle.half_journal.specs.declared.errors.OpenErr.{OpenErr}
 use Rattle.half_journal.specs.declared.errors.OpenErr.TheVariants as errors
 use Rattle.user_dedup.specs.declared.command.Command.{Command}
 use Rattle.user_dedup.proofs.Owned.{contains_here, contains_nothing}
-use Rattle.cloud_server.specs.declared.server.Server.{Server}
-use Rattle.cloud_server.specs.Serving.{settled_with}
+use Rattle.local_link.specs.CloudServer.server.Server.{Server}
+use Rattle.local_link.specs.CloudServer.Serving.{settled_with}
 use Rattle.local_link.specs.declared.link.LocalLink.{LocalLink}
 use Rattle.local_link.specs.Tells.{server_at, rooms_of, IsPeer, LeavesRest}
 use Rattle.read_command.specs.declared.end.ReadEnd.{ReadEnd}

@@ -14,7 +14,7 @@ use Rattle.journal_start.specs.declared.rooms.Rooms.{Rooms}
 use Rattle.journal_start.specs.declared.start.Start.{Start}
 use Rattle.journal_start.specs.Ranges.{usual_rooms}
 use Rattle.user_dedup.specs.declared.command.Command.{Command}
-use Rattle.cloud_server.specs.Openings.{HasNoOther, NotBegunIs, OpensTo, OtherStoreIs}
+use Rattle.local_link.specs.CloudServer.Openings.{HasNoOther, NotBegunIs, OpensTo, OtherStoreIs}
 use Rattle.user_dedup.specs.Spending.{IsWithin}
 use Rattle.cloud_areas.specs.Peers.{ImagesNow, ImagesSince}
 use Rattle.cloud_areas.specs.Standing.{StandsFor}

@@ -11,7 +11,7 @@ use Rattle.cd_edges.specs.Disk.{Cloud, reads}
 use Rattle.user_dedup.specs.declared.command.Command.{Command}
 use Rattle.user_dedup.specs.Spending.{IsWithin}
 use Rattle.cloud_areas.specs.Standing.{StandsFor}
-use Rattle.cloud_server.specs.Names.{header_of}
+use Rattle.local_link.specs.CloudServer.Names.{header_of}
 use Rattle.journal_start.specs.declared.rooms.Rooms.{Rooms}
 use Rattle.journal_start.specs.declared.start.Header.{Header}
 use Rattle.kept_files.specs.Kept.{key_of}

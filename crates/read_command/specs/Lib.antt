@@ -1,4 +1,5 @@
 pub mod Disks
+pub mod Ends
+pub mod LocalLink
 pub mod Opening
 pub mod Refusals
-pub mod Ends

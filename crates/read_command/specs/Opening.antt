@@ -9,12 +9,12 @@ use Rattle.cd_edges.specs.Shelf.{HasFailed, KeepsCounts}
 use Rattle.half_journal.specs.declared.errors.OpenErr.{OpenErr}
 use Rattle.half_journal.specs.declared.errors.OpenErr.TheVariants as errors
 use Rattle.journal_start.specs.declared.start.Header.{Header}
-use Rattle.cloud_server.specs.Names.{header_of}
+use Rattle.local_link.specs.CloudServer.Names.{header_of}
 use Rattle.journal_start.specs.declared.rooms.Rooms.{Rooms}
 use Rattle.user_dedup.specs.declared.command.Command.{Command}
 use Rattle.user_dedup.specs.Spending.{IsWithin}
 use Rattle.cloud_areas.specs.Standing.{StandsFor}
-use Rattle.cloud_server.specs.Serving.{settled_with}
+use Rattle.local_link.specs.CloudServer.Serving.{settled_with}
 use Rattle.local_link.specs.declared.link.LocalLink.{LocalLink}
 use Rattle.local_link.specs.Tells.{StandsAt, rooms_at}
 use Rattle.read_command.specs.declared.end.ReadEnd.{ReadEnd}

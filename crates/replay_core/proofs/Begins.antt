@@ -11,15 +11,15 @@ use Rattle.cd_edges.specs.Causes.{Rose}
 use Rattle.cd_edges.specs.Disk.{Cloud, IsImage, reads}
 use Rattle.cd_edges.proofs.Moments.{weaker, at_end, each_since}
 use Rattle.cloud_areas.specs.Peers.{StandsForSome}
-use Rattle.local_link.specs.declared.link.LocalLink.{LocalLink}
-use Rattle.local_link.specs.Calls.{no_commands}
+use Rattle.script_lines.specs.LocalLink.link.LocalLink.{LocalLink}
+use Rattle.script_lines.specs.LocalLink.Calls.{no_commands}
 use Rattle.cloud_server.specs.declared.server.Server.{Server}
-use Rattle.local_link.specs.declared.fate.Fate.TheVariants.{Deliver}
-use Rattle.local_link.specs.declared.servers.Servers.{Servers}
-use Rattle.local_link.specs.Steps.{IsClosedIn}
-use Rattle.local_link.specs.Tells as tells
-use Rattle.local_link.specs.Tells.{server_at, rooms_of, StandsAt}
-use Rattle.local_link.proofs.Standing.{some_server}
+use Rattle.script_lines.specs.LocalLink.fate.Fate.TheVariants.{Deliver}
+use Rattle.script_lines.specs.LocalLink.servers.Servers.{Servers}
+use Rattle.script_lines.specs.LocalLink.Steps.{IsClosedIn}
+use Rattle.script_lines.specs.LocalLink.Tells as tells
+use Rattle.script_lines.specs.LocalLink.Tells.{server_at, rooms_of, StandsAt}
+use Rattle.script_lines.proofs.OfLocalLink.Standing.{some_server}
 use Rattle.session.specs.Fault.{Fault}
 use Rattle.session.specs.Lines.{Lines, next_line}
 use Rattle.session.specs.Reading.{header_at}
@@ -27,10 +27,10 @@ use Rattle.transcript.specs.declared.line.Line.TheVariants as lines
 use Rattle.transcript.specs.Transcript.{line_text}
 use Rattle.session.specs.Scripts.{Place, Begins, Reaches, IsWrongFirst}
 use Rattle.session.specs.Texts.{text_of}
-use Rattle.session_model.specs.Vault.{Setting, opening}
-use Rattle.session_model.specs.Run.{IsListIn}
-use Rattle.session_model.specs.Headline.{Session, IsRun}
-use Rattle.session_model.proofs.Faults.{faults_rose}
+use Rattle.script_lines.specs.SessionModel.Vault.{Setting, opening}
+use Rattle.script_lines.specs.SessionModel.Run.{IsListIn}
+use Rattle.script_lines.specs.SessionModel.Headline.{Session, IsRun}
+use Rattle.script_lines.proofs.SessionModel.Faults.{faults_rose}
 use Rattle.script_lines.specs.At.{header_in}
 use Rattle.script_lines.proofs.Going.{header_is}
 use Rattle.replay_core.specs.declared.end.ReplayEnd.{ReplayEnd}

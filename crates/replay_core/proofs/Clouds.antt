@@ -13,7 +13,7 @@ use Rattle.half_journal.specs.declared.errors.OpenErr.{OpenErr}
 use Rattle.half_journal.specs.declared.errors.OpenErr.TheVariants as errors
 use Rattle.journal_start.specs.declared.start.Header.{Header}
 use Rattle.half_journal.specs.Openings.{OnFault}
-use Rattle.store_opening.specs.Spared.{IsOkOrFault}
+use Rattle.cloud_server.specs.StoreOpening.Spared.{IsOkOrFault}
 use Rattle.cloud_areas.specs.Peers.{StandsForSome}
 use Rattle.cloud_areas.specs.Standing.{StandsFor}
 use Rattle.cloud_server.specs.Names.{HasNoJournal}

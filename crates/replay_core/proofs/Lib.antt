@@ -1,7 +1,9 @@
-pub mod Clouds
-pub mod Links
-pub mod Firsts
-pub mod Steps
-pub mod Sessions
-pub mod Whole
 pub mod Begins
+pub mod Clouds
+pub mod Firsts
+pub mod Links
+pub mod ScriptLines
+pub mod SessionModel
+pub mod Sessions
+pub mod Steps
+pub mod Whole

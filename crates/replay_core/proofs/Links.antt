@@ -10,7 +10,7 @@ use Rattle.cd_edges.specs.Shelf.{IsCall}
 use Rattle.cd_edges.proofs.Moments.{weaker}
 use Rattle.half_journal.specs.declared.errors.OpenErr.{OpenErr}
 use Rattle.journal_start.specs.declared.start.Header.{Header}
-use Rattle.store_opening.specs.Spared.{IsOkOrFault, MayBegin}
+use Rattle.cloud_server.specs.StoreOpening.Spared.{IsOkOrFault, MayBegin}
 use Rattle.journal_start.specs.declared.rooms.Rooms.{Rooms}
 use Rattle.user_dedup.specs.Spending.{IsWithin}
 use Rattle.cloud_areas.specs.Peers.{StandsForSome, ImagesNow, ImagesSince}
@@ -20,10 +20,10 @@ use Rattle.cloud_server.specs.Names.{header_of}
 use Rattle.cloud_server.specs.Serving.{settled_with}
 use Rattle.user_dedup.specs.declared.command.Command.{Command}
 use Rattle.user_dedup.proofs.Owned.{contains_here, contains_cases, contains_nothing}
-use Rattle.local_link.specs.declared.link.LocalLink.{LocalLink}
-use Rattle.local_link.specs.Calls.{no_commands}
-use Rattle.local_link.specs.Tells.{server_at, rooms_at, header_at, IsPeer, StandsAt, LeavesRest}
-use Rattle.local_link.proofs.Standing.{peer_moves}
+use Rattle.script_lines.specs.LocalLink.link.LocalLink.{LocalLink}
+use Rattle.script_lines.specs.LocalLink.Calls.{no_commands}
+use Rattle.script_lines.specs.LocalLink.Tells.{server_at, rooms_at, header_at, IsPeer, StandsAt, LeavesRest}
+use Rattle.script_lines.proofs.OfLocalLink.Standing.{peer_moves}
 use Rattle.script_lines.proofs.Going.{rooms_kept}
 use Rattle.replay_core.specs.Opening.{Prepares, PreparesAll, IsEmpty, OpensTo}
 use Rattle.replay_core.proofs.Clouds.{EmptyStands, prepares_same, prepares_from}

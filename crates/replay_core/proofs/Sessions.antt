@@ -10,7 +10,7 @@ use Rattle.cloud_areas.specs.Peers.{StandsForSome, ImagesNow, ImagesSince}
 use Rattle.user_dedup.specs.declared.command.Command.{Command}
 use Rattle.user_dedup.specs.Exec.{Peer, MaySettleAs}
 use Rattle.upload_job.specs.Lanes.{LaneView}
-use Rattle.local_link.specs.declared.link.LocalLink.{LocalLink}
+use Rattle.script_lines.specs.LocalLink.link.LocalLink.{LocalLink}
 use Rattle.session.specs.Lines.{Lines}
 use Rattle.session.specs.Spelling.{Fits, IsTyped}
 use Rattle.session.specs.declared.event.Event.{Event}
@@ -19,10 +19,10 @@ use Rattle.transcript.specs.declared.line.Line.TheVariants as lines
 use Rattle.transcript.specs.Transcript.{line_text}
 use Rattle.session.specs.Scripts.{jobs_after, jobs_of, AreLines, Place, Says, Leads, Reaches}
 use Rattle.session.specs.Texts.{text_of}
-use Rattle.session_model.specs.Vault.{Setting, Vault, opening}
-use Rattle.session_model.specs.Steps.{Moment, VStep}
-use Rattle.session_model.specs.Run.{Answered, Turns, script_of, moments_of, answers_of, IsListIn}
-use Rattle.session_model.specs.Headline.{Begun, IsPartOf, event_of, moments_begun}
+use Rattle.script_lines.specs.SessionModel.Vault.{Setting, Vault, opening}
+use Rattle.script_lines.specs.SessionModel.Steps.{Moment, VStep}
+use Rattle.script_lines.specs.SessionModel.Run.{Answered, Turns, script_of, moments_of, answers_of, IsListIn}
+use Rattle.script_lines.specs.SessionModel.Headline.{Begun, IsPartOf, event_of, moments_begun}
 use Rattle.script_lines.specs.At.{header_in, Leaves}
 use Rattle.script_lines.specs.Does.{Goes, Cut}
 use Rattle.script_lines.proofs.Going.{left_at}

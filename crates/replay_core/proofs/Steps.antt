@@ -6,7 +6,7 @@ use Rattle.cd_base.specs.declared.shape.Shape.{Shape}
 use Rattle.cd_edges.specs.Causes.{Rose}
 use Rattle.cd_edges.specs.Disk.{Cloud}
 use Rattle.upload_job.specs.Lanes.{LaneView}
-use Rattle.local_link.specs.declared.link.LocalLink.{LocalLink}
+use Rattle.script_lines.specs.LocalLink.link.LocalLink.{LocalLink}
 use Rattle.session.specs.Fault.{Fault}
 use Rattle.session.specs.Lines.{Lines, NextLine, TakesLine, IsAtEnd, next_line, after_line}
 use Rattle.session.specs.declared.event.Event.{Event}

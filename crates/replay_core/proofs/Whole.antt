@@ -9,7 +9,7 @@ use Rattle.cd_edges.specs.Disk.{Cloud, IsImage, reads}
 use Rattle.cd_edges.proofs.Moments.{each_since}
 use Rattle.user_dedup.specs.Exec.{Peer}
 use Rattle.upload_job.specs.Lanes.{LaneView}
-use Rattle.local_link.specs.declared.link.LocalLink.{LocalLink}
+use Rattle.script_lines.specs.LocalLink.link.LocalLink.{LocalLink}
 use Rattle.session.specs.Fault.{Fault}
 use Rattle.session.specs.Lines.{Lines}
 use Rattle.session.specs.Reading.{header_at}
@@ -20,10 +20,10 @@ use Rattle.transcript.specs.declared.line.Line.TheVariants as lines
 use Rattle.transcript.specs.Transcript.{line_text}
 use Rattle.session.specs.Scripts.{jobs_after, Place, Begins, Reaches, IsEnd, IsWrong, IsWrongFirst}
 use Rattle.session.specs.Texts.{text_of}
-use Rattle.session_model.specs.Vault.{Setting, Vault}
-use Rattle.session_model.specs.Run.{Answered, script_of, answers_of}
-use Rattle.session_model.specs.Headline.{Session, Begun, IsRun, due, event_of, GivesAcknowledged, GivesFromMore, DisksKeep, AnswersPrivately}
-use Rattle.session_model.proofs.Faults.{faults_rose}
+use Rattle.script_lines.specs.SessionModel.Vault.{Setting, Vault}
+use Rattle.script_lines.specs.SessionModel.Run.{Answered, script_of, answers_of}
+use Rattle.script_lines.specs.SessionModel.Headline.{Session, Begun, IsRun, due, event_of, GivesAcknowledged, GivesFromMore, DisksKeep, AnswersPrivately}
+use Rattle.script_lines.proofs.SessionModel.Faults.{faults_rose}
 use Rattle.script_lines.specs.At.{Leaves}
 use Rattle.replay_core.specs.declared.end.ReplayEnd.{ReplayEnd}
 use Rattle.replay_core.specs.declared.end.ReplayEnd.TheVariants as ends

@@ -9,8 +9,8 @@ use Rattle.cd_base.specs.declared.shape.Shape.{Shape}
 use Rattle.journal_start.specs.declared.rooms.Rooms.{Rooms}
 use Rattle.session.specs.declared.event.Event.TheVariants as events
 use Rattle.session.specs.Scripts.{Place, Begins, Reaches, IsEnd, IsWrong, IsWrongFirst}
-use Rattle.session_model.specs.Steps.{cloud_no}
-use Rattle.session_model.specs.Headline.{Session, Begun, script_in}
+use Rattle.script_lines.specs.SessionModel.Steps.{cloud_no}
+use Rattle.script_lines.specs.SessionModel.Headline.{Session, Begun, script_in}
 
 -- what the outside tells of a call: the source's bytes before and after; the counts of the source, the sink and the
 -- whole shelf before and after; and the clouds before and after

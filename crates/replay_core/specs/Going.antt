@@ -6,9 +6,9 @@ use Rattle.cd_edges.specs.Causes.{Rose}
 use Rattle.cd_edges.specs.Disk.{Cloud}
 use Rattle.cloud_areas.specs.Peers.{ImagesSince}
 use Rattle.upload_job.specs.Lanes.{LaneView}
-use Rattle.local_link.specs.declared.fate.Fate.TheVariants.{Deliver}
-use Rattle.local_link.specs.declared.link.LocalLink.{LocalLink}
-use Rattle.local_link.specs.Tells.{rooms_at}
+use Rattle.script_lines.specs.LocalLink.fate.Fate.TheVariants.{Deliver}
+use Rattle.script_lines.specs.LocalLink.link.LocalLink.{LocalLink}
+use Rattle.script_lines.specs.LocalLink.Tells.{rooms_at}
 use Rattle.session.specs.Fault.{Fault}
 use Rattle.session.specs.Lines.{Lines}
 use Rattle.session.specs.declared.reading.ScriptErr.{ScriptErr}
@@ -19,8 +19,8 @@ use Rattle.transcript.specs.declared.line.Line.{Line}
 use Rattle.transcript.specs.declared.line.Line.TheVariants as lines
 use Rattle.session.specs.Scripts.{jobs_after, jobs_of, AreLines, Place, Says, Reaches, IsEnd, IsWrong}
 use Rattle.session.specs.Texts.{text_of}
-use Rattle.session_model.specs.Vault.{Setting, Vault, opening}
-use Rattle.session_model.specs.Run.{Answered, Turns, script_of, moments_of, answers_of, IsListIn}
+use Rattle.script_lines.specs.SessionModel.Vault.{Setting, Vault, opening}
+use Rattle.script_lines.specs.SessionModel.Run.{Answered, Turns, script_of, moments_of, answers_of, IsListIn}
 use Rattle.script_lines.specs.declared.error.CarryErr.{CarryErr}
 use Rattle.script_lines.specs.declared.error.CarryErr.TheVariants as carry_errors
 use Rattle.script_lines.specs.At.{header_in, IsAt}

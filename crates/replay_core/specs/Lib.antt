@@ -1,4 +1,7 @@
 pub mod Endings
-pub mod Replayed
-pub mod Opening
 pub mod Going
+pub mod LocalLink
+pub mod Opening
+pub mod Replayed
+pub mod ScriptLines
+pub mod SessionModel

@@ -10,9 +10,9 @@ use Rattle.journal_start.specs.declared.start.Header.{Header}
 use Rattle.half_journal.specs.declared.errors.OpenErr.{OpenErr}
 use Rattle.half_journal.specs.declared.errors.OpenErr.TheVariants as open_errors
 use Rattle.cloud_areas.specs.Peers.{ImagesSince}
-use Rattle.local_link.specs.declared.link.LocalLink.{LocalLink}
-use Rattle.local_link.specs.Calls.{no_commands}
-use Rattle.local_link.specs.Tells.{server_at, rooms_at, header_at, StandsAt}
+use Rattle.script_lines.specs.LocalLink.link.LocalLink.{LocalLink}
+use Rattle.script_lines.specs.LocalLink.Calls.{no_commands}
+use Rattle.script_lines.specs.LocalLink.Tells.{server_at, rooms_at, header_at, StandsAt}
 use Rattle.session.specs.Fault.{Fault}
 use Rattle.session.specs.Lines.{Lines}
 use Rattle.session.specs.declared.lines.LineErr.{LineErr}

@@ -11,8 +11,8 @@ use Rattle.session.specs.Texts.{text_of}
 use Rattle.transcript.specs.Transcript.{line_text}
 use Rattle.replay_core.specs.declared.end.ReplayEnd.{ReplayEnd}
 use Rattle.replay_core.specs.declared.end.ReplayEnd.TheVariants as ends
-use Rattle.session_model.specs.Headline.{Session, IsRun, due, GivesAcknowledged, GivesFromMore, DisksKeep, DisksStand, AnswersPrivately}
-use Rattle.session_model.specs.Faults.{FaultsRose}
+use Rattle.script_lines.specs.SessionModel.Headline.{Session, IsRun, due, GivesAcknowledged, GivesFromMore, DisksKeep, DisksStand, AnswersPrivately}
+use Rattle.script_lines.specs.SessionModel.Faults.{FaultsRose}
 use Rattle.script_lines.specs.At.{header_in}
 use Rattle.replay_core.specs.Endings.{Call, EndingLine, NoEnding, DoneEnding, ScriptEnding, ShelfEnding, StoreEnding, DamagedEnding, IsDue, HasCause}
 

@@ -10,3 +10,7 @@ mod writing;
 pub use end::ReplayEnd;
 pub use opening::{empty_clouds, open_clouds};
 pub use script::replay;
+pub use script_lines::{
+    Buffers, Jobs, LocalLink, Servers, carry_out, law_of_acknowledged, law_of_moments,
+    law_of_own_replies, law_of_parts,
+};

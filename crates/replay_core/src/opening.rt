@@ -6,8 +6,8 @@ ghost use Rattle.journal_start.specs.declared.start.Header.{Header};
 ghost use Rattle.journal_start.specs.Ranges.{AreRooms};
 ghost use Rattle.session.specs.Reading as reading;
 ghost use Rattle.session.specs.Lines.{script_limit};
-ghost use Rattle.local_link.specs.Calls.{no_commands};
-ghost use Rattle.local_link.specs.Tells.{rooms_at, header_at, StandsAt, LeavesRest};
+ghost use Rattle.script_lines.specs.LocalLink.Calls.{no_commands};
+ghost use Rattle.script_lines.specs.LocalLink.Tells.{rooms_at, header_at, StandsAt, LeavesRest};
 ghost use Rattle.replay_core.specs.Endings.{IsEmptyAt, AreEmptyBefore};
 ghost use Rattle.replay_core.specs.Opening.{before_first, IsHead, EndsFirst, Prepares, PreparesAll, AreSame, IsEmpty, EndsEmpty, EndsOpening, EndsUnopened, OpensTo, SaysHeader, IsEndOf};
 
@@ -18,7 +18,7 @@ use cd_edges::{Area, Failed, Shelf, Source};
 use cloud_server::laws::law_of_no_commands;
 use cloud_server::{OpenErr, damage_of};
 use journal_start::Rooms;
-use local_link::LocalLink;
+use script_lines::LocalLink;
 use session::LineReader;
 
 // What the first line says, or how the replay ends there.

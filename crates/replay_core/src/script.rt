@@ -3,7 +3,7 @@
 ghost use Rattle.std.specs.Prelude.{◌≡◌, ◌<◌, ◌≤◌, ℕ, [], IsTrue, length};
 ghost use Rattle.cd_base.specs.declared.shape.Shape.{Shape};
 ghost use Rattle.session.specs.Lines.{script_limit};
-ghost use Rattle.session_model.specs.Vault.{Setting};
+ghost use Rattle.script_lines.specs.SessionModel.Vault.{Setting};
 ghost use Rattle.script_lines.specs.Jobs.{AreReached};
 ghost use Rattle.replay_core.specs.Endings.{Call};
 ghost use Rattle.replay_core.specs.Replayed.{Replays};
@@ -16,10 +16,10 @@ use crate::opening::{empty_clouds, first_line, open_clouds};
 use crate::writing::write_one;
 use cd_edges::{Shelf, Sink, Source};
 use cloud_server::laws::law_of_no_commands;
-use local_link::{LocalLink, Servers};
-use script_lines::{Buffers, Jobs};
+use script_lines::{
+    Buffers, Jobs, LocalLink, Servers, law_of_acknowledged, law_of_moments, law_of_own_replies,
+};
 use session::LineReader;
-use session_model::{law_of_acknowledged, law_of_moments, law_of_own_replies};
 use std::alloc::Global;
 use transcript::{Answer, Line};
 

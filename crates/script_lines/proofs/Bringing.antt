@@ -20,8 +20,8 @@ use Rattle.lane_steps.specs.Runs.{Turn, Progress, starting, request_of, progress
 use Rattle.lane_steps.specs.declared.error.StepErr.{StepErr}
 use Rattle.lane_steps.specs.declared.error.StepErr.TheVariants as step_errors
 use Rattle.lane_steps.specs.Steps.{Heard, Untaken, LaneSteps, Finishes, IsFound}
-use Rattle.local_link.specs.declared.link.LocalLink.{LocalLink}
-use Rattle.local_link.specs.Tells.{telling}
+use Rattle.session_model.specs.LocalLink.link.LocalLink.{LocalLink}
+use Rattle.session_model.specs.LocalLink.Tells.{telling}
 use Rattle.session.specs.Spelling.{IsJob}
 use Rattle.session.specs.declared.event.Event.TheVariants as events
 use Rattle.transcript.specs.declared.line.Line.{Line}

@@ -9,11 +9,11 @@ use Rattle.user_dedup.specs.Requests.{asked_at}
 use Rattle.user_dedup.specs.Exec.{Peer}
 use Rattle.user_dedup.specs.Link.{LeavesOthers, Does, serves}
 use Rattle.cloud_areas.specs.Peers.{ImagesSince, MayBecome}
-use Rattle.cloud_server.specs.declared.server.Server.{Server}
-use Rattle.local_link.specs.declared.fate.Fate.TheVariants as fates
-use Rattle.local_link.specs.declared.fate.Fate.TheVariants.{Deliver}
-use Rattle.local_link.specs.declared.link.LocalLink.{LocalLink}
-use Rattle.local_link.specs.Tells.{rooms_at, header_at, telling, StandsAt, LeavesRest}
+use Rattle.session_model.specs.CloudServer.server.Server.{Server}
+use Rattle.session_model.specs.LocalLink.fate.Fate.TheVariants as fates
+use Rattle.session_model.specs.LocalLink.fate.Fate.TheVariants.{Deliver}
+use Rattle.session_model.specs.LocalLink.link.LocalLink.{LocalLink}
+use Rattle.session_model.specs.LocalLink.Tells.{rooms_at, header_at, telling, StandsAt, LeavesRest}
 use Rattle.script_lines.specs.Dropping.{Executed}
 
 module _ {V : Type 0} (clouds : V → ℕ → Cloud) (cloud : ℕ) (content : List ℕ) where

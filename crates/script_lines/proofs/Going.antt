@@ -6,7 +6,7 @@ use Rattle.cd_base.specs.declared.shape.Shape.{Shape}
 use Rattle.cd_edges.specs.Disk.{Cloud}
 use Rattle.cd_edges.proofs.Moments.{weaker, left_alone, started, at_end}
 use Rattle.journal_start.specs.declared.start.Header.{Header}
-use Rattle.cloud_server.specs.Names.{header_of}
+use Rattle.session_model.specs.CloudServer.Names.{header_of}
 use Rattle.messages.specs.declared.request.Request.{Request}
 use Rattle.messages.specs.declared.reply.Reply.{Reply}
 use Rattle.user_dedup.specs.declared.command.Command.{Command}
@@ -17,11 +17,11 @@ use Rattle.user_dedup.specs.Link.{LeavesOthers, Exchange, Passes}
 use Rattle.user_dedup.proofs.Owned.{contains_here}
 use Rattle.cloud_areas.specs.Peers.{StandsForSome, ImagesNow, ImagesSince, MayBecome}
 use Rattle.upload_job.specs.Lanes.{LaneView}
-use Rattle.local_link.specs.declared.fate.Fate.TheVariants.{Deliver}
-use Rattle.local_link.specs.declared.link.LocalLink.{LocalLink}
-use Rattle.local_link.specs.declared.servers.Servers.{Servers}
-use Rattle.local_link.specs.Tells.{rooms_of, rooms_at, header_at, full_at, telling, serving_at, StandsAt, LeavesRest}
-use Rattle.local_link.proofs.Passing.{read_images}
+use Rattle.session_model.specs.LocalLink.fate.Fate.TheVariants.{Deliver}
+use Rattle.session_model.specs.LocalLink.link.LocalLink.{LocalLink}
+use Rattle.session_model.specs.LocalLink.servers.Servers.{Servers}
+use Rattle.session_model.specs.LocalLink.Tells.{rooms_of, rooms_at, header_at, full_at, telling, serving_at, StandsAt, LeavesRest}
+use Rattle.session_model.proofs.OfLocalLink.Passing.{read_images}
 use Rattle.session.specs.declared.event.Event.{Event}
 use Rattle.transcript.specs.declared.line.Line.{Line}
 use Rattle.session_model.specs.Vault.{Setting, Vault, Executes, served_at}

@@ -31,19 +31,19 @@ use Rattle.restore_job.specs.declared.error.RestoreErr.{RestoreErr}
 use Rattle.restore_job.specs.declared.error.RestoreErr.TheVariants as restore_errors
 use Rattle.subset_restore.specs.Ends.{AnyEnds}
 use Rattle.subset_restore.specs.Going.{sought}
-use Rattle.cloud_server.specs.declared.server.Server.{Server}
-use Rattle.cloud_server.specs.Serving.{ReopensAs}
+use Rattle.session_model.specs.CloudServer.server.Server.{Server}
+use Rattle.session_model.specs.CloudServer.Serving.{ReopensAs}
 use Rattle.upload_job.specs.Lanes.{LaneView, lanes_begun, request_at, IsAsked}
 use Rattle.lane_steps.specs.Reached.{IsReached}
 use Rattle.kept_files.specs.Kept.{key_of}
-use Rattle.local_link.specs.declared.fate.Fate.{Fate}
-use Rattle.local_link.specs.declared.fate.Fate.TheVariants as fates
-use Rattle.local_link.specs.declared.fate.Fate.TheVariants.{Deliver}
-use Rattle.local_link.specs.declared.link.LocalLink.{LocalLink}
-use Rattle.local_link.specs.declared.servers.Servers.{Servers}
-use Rattle.local_link.specs.Tells.{rooms_at, header_at, is_delivered, telling, StandsAt, LeavesRest}
-use Rattle.local_link.specs.Calls.{Armed}
-use Rattle.local_link.proofs.Passing.{read_images, read_others, read_same}
+use Rattle.session_model.specs.LocalLink.fate.Fate.{Fate}
+use Rattle.session_model.specs.LocalLink.fate.Fate.TheVariants as fates
+use Rattle.session_model.specs.LocalLink.fate.Fate.TheVariants.{Deliver}
+use Rattle.session_model.specs.LocalLink.link.LocalLink.{LocalLink}
+use Rattle.session_model.specs.LocalLink.servers.Servers.{Servers}
+use Rattle.session_model.specs.LocalLink.Tells.{rooms_at, header_at, is_delivered, telling, StandsAt, LeavesRest}
+use Rattle.session_model.specs.LocalLink.Calls.{Armed}
+use Rattle.session_model.proofs.OfLocalLink.Passing.{read_images, read_others, read_same}
 use Rattle.session.specs.declared.event.Event.TheVariants as events
 use Rattle.session.specs.Spelling.{AreSources}
 use Rattle.transcript.specs.declared.line.Line.{Line}
@@ -60,7 +60,7 @@ use Rattle.script_lines.specs.Jobs.{job_lanes}
 use Rattle.script_lines.specs.Dropping.{Executed, Drops}
 use Rattle.script_lines.proofs.Getting.{GetsIf, got_by}
 use Rattle.script_lines.proofs.Walking.{views_are}
-use Rattle.cloud_server.specs.Refusals.{IsDamage}
+use Rattle.session_model.specs.CloudServer.Refusals.{IsDamage}
 use Rattle.script_lines.specs.Stepping.{IsOpening}
 use Rattle.script_lines.proofs.Going.{put, put_here, put_other, before_exec, now_by, moves, executes, listed, images_weaker, images_still, images_one, images_executed, header_is, asks_rooms}
 

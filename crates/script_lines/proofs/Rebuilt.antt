@@ -16,11 +16,11 @@ use Rattle.user_dedup.proofs.Owned.{contains_cases, contains_here, contains_late
 use Rattle.cloud_areas.specs.Peers.{StandsForSome, ImagesSince, MayBecome}
 use Rattle.upload_job.specs.Lanes.{LaneView}
 use Rattle.lane_steps.specs.Runs.{Turn}
-use Rattle.local_link.specs.declared.fate.Fate.{Fate}
-use Rattle.local_link.specs.declared.fate.Fate.TheVariants as fates
-use Rattle.local_link.specs.declared.fate.Fate.TheVariants.{Deliver}
-use Rattle.local_link.specs.declared.link.LocalLink.{LocalLink}
-use Rattle.local_link.specs.Tells.{is_delivered, full_at, telling, StandsAt}
+use Rattle.session_model.specs.LocalLink.fate.Fate.{Fate}
+use Rattle.session_model.specs.LocalLink.fate.Fate.TheVariants as fates
+use Rattle.session_model.specs.LocalLink.fate.Fate.TheVariants.{Deliver}
+use Rattle.session_model.specs.LocalLink.link.LocalLink.{LocalLink}
+use Rattle.session_model.specs.LocalLink.Tells.{is_delivered, full_at, telling, StandsAt}
 use Rattle.restore_job.specs.Asking.{TellsAll}
 use Rattle.restore_job.specs.declared.error.RestoreErr.TheVariants as restore_errors
 use Rattle.rebuild.specs.declared.error.RebuildErr.{RebuildErr}

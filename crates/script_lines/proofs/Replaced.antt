@@ -21,14 +21,14 @@ use Rattle.user_dedup.specs.Exec.{Peer, MaySettleAs}
 use Rattle.user_dedup.specs.Link.{LeavesOthers}
 use Rattle.user_dedup.proofs.Owned.{contains_here, contains_cases, contains_nothing}
 use Rattle.cloud_areas.specs.Peers.{StandsForSome, ImagesNow, ImagesSince}
-use Rattle.cloud_server.specs.declared.server.Server.{Server}
-use Rattle.cloud_server.specs.Serving.{ReopensAs}
-use Rattle.cloud_server.proofs.NoCommands.{empty_stands}
+use Rattle.session_model.specs.CloudServer.server.Server.{Server}
+use Rattle.session_model.specs.CloudServer.Serving.{ReopensAs}
+use Rattle.session_model.proofs.CloudServer.NoCommands.{empty_stands}
 use Rattle.upload_job.specs.Lanes.{LaneView}
-use Rattle.local_link.specs.declared.link.LocalLink.{LocalLink}
-use Rattle.local_link.specs.Tells.{rooms_at, header_at, telling, StandsAt, LeavesRest}
-use Rattle.local_link.specs.Calls.{Replaces}
-use Rattle.local_link.proofs.Calling.{was_before}
+use Rattle.session_model.specs.LocalLink.link.LocalLink.{LocalLink}
+use Rattle.session_model.specs.LocalLink.Tells.{rooms_at, header_at, telling, StandsAt, LeavesRest}
+use Rattle.session_model.specs.LocalLink.Calls.{Replaces}
+use Rattle.session_model.proofs.OfLocalLink.Calling.{was_before}
 use Rattle.session.specs.declared.event.Event.TheVariants as events
 use Rattle.transcript.specs.declared.line.Line.{Line}
 use Rattle.transcript.specs.declared.line.Line.TheVariants as lines

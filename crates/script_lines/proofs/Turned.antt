@@ -19,10 +19,10 @@ use Rattle.user_dedup.proofs.Owned.{contains_here, contains_later}
 use Rattle.cloud_areas.specs.Peers.{StandsForSome, ImagesSince, MayBecome}
 use Rattle.user_dedup.specs.Spending.{full_for}
 use Rattle.lane_steps.specs.Runs.{Turn}
-use Rattle.local_link.specs.declared.link.LocalLink.{LocalLink}
-use Rattle.local_link.specs.Tells.{server_at, rooms_at, header_at, full_at, telling, serving_at, StandsAt, IsPeer, PassesOn}
-use Rattle.local_link.proofs.Passing.{read_images}
-use Rattle.local_link.proofs.Standing.{peer_moves}
+use Rattle.session_model.specs.LocalLink.link.LocalLink.{LocalLink}
+use Rattle.session_model.specs.LocalLink.Tells.{server_at, rooms_at, header_at, full_at, telling, serving_at, StandsAt, IsPeer, PassesOn}
+use Rattle.session_model.proofs.OfLocalLink.Passing.{read_images}
+use Rattle.session_model.proofs.OfLocalLink.Standing.{peer_moves}
 use Rattle.restore_job.specs.Asking.{MayRead}
 use Rattle.restore_job.specs.declared.error.RestoreErr.TheVariants as restore_errors
 use Rattle.restore_job.proofs.Held.{lost_moves}

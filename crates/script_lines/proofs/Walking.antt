@@ -15,8 +15,8 @@ use Rattle.upload_job.specs.declared.news.LaneNews.{LaneNews}
 use Rattle.upload_job.specs.Lanes.{LaneView}
 use Rattle.lane_steps.specs.Runs.{Turn, Progress, moved, request_of, progress_after, LaneRun, LaneAlong, Tell}
 use Rattle.lane_steps.specs.Steps.{Heard}
-use Rattle.local_link.specs.declared.link.LocalLink.{LocalLink}
-use Rattle.local_link.specs.Tells.{telling}
+use Rattle.session_model.specs.LocalLink.link.LocalLink.{LocalLink}
+use Rattle.session_model.specs.LocalLink.Tells.{telling}
 use Rattle.session_model.specs.Vault.{Setting, JobState, Executes, lanes_at, with_lanes_at, lanes_of, with_lanes}
 use Rattle.session_model.specs.Steps.{Moment, moment_of}
 use Rattle.session_model.specs.Run.{IsListIn}

@@ -4,10 +4,10 @@ use Rattle.cd_edges.specs.Disk.{Cloud}
 use Rattle.journal_start.specs.declared.start.Header.{Header}
 use Rattle.user_dedup.specs.Exec.{Peer}
 use Rattle.upload_job.specs.Lanes.{LaneView}
-use Rattle.local_link.specs.declared.fate.Fate.TheVariants.{Deliver}
-use Rattle.local_link.specs.declared.link.LocalLink.{LocalLink}
-use Rattle.local_link.specs.Tells.{rooms_at, StandsAt}
-use Rattle.cloud_server.specs.Names.{header_of}
+use Rattle.session_model.specs.LocalLink.fate.Fate.TheVariants.{Deliver}
+use Rattle.session_model.specs.LocalLink.link.LocalLink.{LocalLink}
+use Rattle.session_model.specs.LocalLink.Tells.{rooms_at, StandsAt}
+use Rattle.session_model.specs.CloudServer.Names.{header_of}
 use Rattle.session_model.specs.Vault.{Setting, JobState, Vault}
 
 -- the header of a cloud of the session's store

@@ -4,7 +4,7 @@ use Rattle.cd_edges.specs.Disk.{Cloud}
 use Rattle.user_dedup.specs.Exec.{Peer, MaySettleAs}
 use Rattle.cloud_areas.specs.Peers.{ImagesNow, ImagesSince}
 use Rattle.upload_job.specs.Lanes.{LaneView}
-use Rattle.local_link.specs.declared.link.LocalLink.{LocalLink}
+use Rattle.session_model.specs.LocalLink.link.LocalLink.{LocalLink}
 use Rattle.session.specs.declared.event.Event.{Event}
 use Rattle.transcript.specs.declared.line.Line.{Line}
 use Rattle.session_model.specs.Vault.{Setting, Vault}

@@ -7,9 +7,9 @@ use Rattle.user_dedup.specs.Requests.{asked_at}
 use Rattle.user_dedup.specs.Exec.{Peer, Exec}
 use Rattle.user_dedup.specs.Link.{LeavesOthers}
 use Rattle.cloud_areas.specs.Peers.{ImagesSince, MayBecome}
-use Rattle.local_link.specs.declared.fate.Fate.TheVariants.{Deliver}
-use Rattle.local_link.specs.declared.link.LocalLink.{LocalLink}
-use Rattle.local_link.specs.Tells.{telling, serving_at, StandsAt, LeavesRest, rooms_at, header_at}
+use Rattle.session_model.specs.LocalLink.fate.Fate.TheVariants.{Deliver}
+use Rattle.session_model.specs.LocalLink.link.LocalLink.{LocalLink}
+use Rattle.session_model.specs.LocalLink.Tells.{telling, serving_at, StandsAt, LeavesRest, rooms_at, header_at}
 
 -- The cloud executed the content, and what it replied is lost.
 pub record Executed {V : Type 0} (clouds : V → ℕ → Cloud) (cloud : ℕ) (content : List ℕ) (old new : LocalLink V)

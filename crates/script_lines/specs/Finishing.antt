@@ -6,7 +6,7 @@ use Rattle.upload_job.specs.declared.news.LaneNews.{LaneNews}
 use Rattle.upload_job.specs.Lanes.{LaneView}
 use Rattle.lane_steps.specs.declared.error.StepErr.{StepErr}
 use Rattle.lane_steps.specs.declared.error.StepErr.TheVariants as step_errors
-use Rattle.local_link.specs.declared.link.LocalLink.{LocalLink}
+use Rattle.session_model.specs.LocalLink.link.LocalLink.{LocalLink}
 use Rattle.transcript.specs.declared.line.Line.{Line}
 use Rattle.transcript.specs.declared.line.Line.TheVariants as lines
 use Rattle.transcript.specs.declared.news.News.TheVariants as news

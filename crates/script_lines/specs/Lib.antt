@@ -1,10 +1,12 @@
 pub mod At
 pub mod Does
-pub mod Jobs
-pub mod Stepping
+pub mod Dropping
 pub mod Finishing
 pub mod Getting
-pub mod Dropping
+pub mod Jobs
+pub mod LocalLink
 pub mod Paging
-pub mod Replacing
 pub mod Rebuilding
+pub mod Replacing
+pub mod SessionModel
+pub mod Stepping

@@ -11,7 +11,7 @@ use Rattle.messages.specs.declared.reply.Reply.TheVariants as replies
 use Rattle.user_dedup.specs.Exec.{Peer}
 use Rattle.upload_job.specs.Lanes.{LaneView}
 use Rattle.lane_steps.specs.Runs.{Turn}
-use Rattle.local_link.specs.declared.link.LocalLink.{LocalLink}
+use Rattle.session_model.specs.LocalLink.link.LocalLink.{LocalLink}
 use Rattle.session.specs.declared.event.Event.TheVariants as events
 use Rattle.transcript.specs.declared.refusal.Refusal.{Refusal}
 use Rattle.transcript.specs.declared.line.Line.TheVariants as lines

@@ -5,7 +5,7 @@ use Rattle.cd_edges.specs.Causes.{Rose}
 use Rattle.cd_edges.specs.Disk.{Cloud}
 use Rattle.half_journal.specs.declared.errors.OpenErr.{OpenErr}
 use Rattle.upload_job.specs.Lanes.{LaneView}
-use Rattle.local_link.specs.declared.link.LocalLink.{LocalLink}
+use Rattle.session_model.specs.LocalLink.link.LocalLink.{LocalLink}
 use Rattle.session.specs.declared.event.Event.{Event}
 use Rattle.session.specs.declared.event.Event.TheVariants as events
 use Rattle.transcript.specs.declared.line.Line.{Line}

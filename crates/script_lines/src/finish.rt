@@ -17,8 +17,7 @@ use cd_base::{Bytes, CloudNo, NoMemory};
 use cd_edges::Shelf;
 use frames::ReplyBuf;
 use lane_steps::StepErr;
-use local_link::LocalLink;
-use session_model::law_of_parts;
+use session_model::{LocalLink, law_of_parts};
 use transcript::{Answer, Line, News};
 use upload_job::LaneNews;
 

@@ -20,8 +20,7 @@ use cd_base::{Bytes, CloudNo, NoMemory};
 use cd_edges::Shelf;
 use frames::ReplyBuf;
 use lane_steps::{StepErr, law_of_lane_requests};
-use local_link::{Fate, LocalLink};
-use session_model::law_of_parts;
+use session_model::{Fate, LocalLink, law_of_parts};
 use transcript::{Answer, Line, News};
 use upload_job::LaneNews;
 

@@ -17,3 +17,6 @@ mod upload;
 pub use carry::{Buffers, carry_out};
 pub use error::CarryErr;
 pub use jobs::Jobs;
+pub use session_model::{
+    LocalLink, Servers, law_of_acknowledged, law_of_moments, law_of_own_replies, law_of_parts,
+};

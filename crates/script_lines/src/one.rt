@@ -6,15 +6,13 @@ ghost use Rattle.script_lines.specs.At.{Leaves};
 ghost use Rattle.script_lines.specs.Does.{CarriesOut, IsCutOff};
 ghost use Rattle.script_lines.specs.Replacing.{IsNewStore, IsShelfFault};
 ghost use Rattle.script_lines.specs.Stepping.{IsOpening};
-ghost use Rattle.cloud_server.specs.Serving.{an_error};
+ghost use Rattle.session_model.specs.CloudServer.Serving.{an_error};
 
 use crate::news::put_line;
 use crate::{CarryErr, Jobs};
 use cd_base::{CloudNo, NoMemory};
 use cd_edges::{Failed, Shelf};
-use cloud_server::{OpenErr, damage_of};
-use local_link::LocalLink;
-use session_model::law_of_parts;
+use session_model::{LocalLink, OpenErr, damage_of, law_of_parts};
 use transcript::{Answer, Line};
 
 /// `arm CLOUD CALLS KEEP`: a later write or sync of the cloud is cut.

@@ -13,9 +13,9 @@ use Rattle.journal_start.specs.declared.start.Start.{Start}
 use Rattle.journal_halves.specs.Beginnings.{IsUnbegun}
 use Rattle.journal_halves.specs.Findings.{IsFoundDamage}
 use Rattle.journal_halves.specs.Halves.{IsCurrent}
-use Rattle.store_opening.specs.Spared.{IsOkOrFault}
-use Rattle.store_opening.proofs.Current.{not_unbegun}
-use Rattle.store_opening.proofs.OneStart.{current_whole, unbegun_whole}
+use Rattle.cloud_server.specs.StoreOpening.Spared.{IsOkOrFault}
+use Rattle.cloud_server.proofs.StoreOpening.Current.{not_unbegun}
+use Rattle.cloud_server.proofs.StoreOpening.OneStart.{current_whole, unbegun_whole}
 use Rattle.user_dedup.specs.declared.command.Command.{Command}
 use Rattle.user_dedup.specs.Spending.{IsWithin}
 use Rattle.user_dedup.proofs.Spending.{none_within}

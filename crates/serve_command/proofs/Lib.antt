@@ -1,7 +1,9 @@
 pub mod Along
 pub mod Carrying
+pub mod CloudServer
 pub mod Completing
 pub mod Ending
+mod InRooms
 pub mod Openings
 pub mod Passing
 pub mod PassingOn
@@ -9,4 +11,3 @@ pub mod Replied
 pub mod Rows
 pub mod Running
 pub mod Texts
-mod InRooms

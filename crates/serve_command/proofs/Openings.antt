@@ -13,8 +13,8 @@ use Rattle.journal_start.specs.declared.start.Header.{Header}
 use Rattle.half_journal.specs.Openings.{OnFault}
 use Rattle.user_dedup.specs.declared.command.Command.{Command}
 use Rattle.user_dedup.specs.Exec.{Peer}
-use Rattle.store_opening.specs.Exact.{Opens}
-use Rattle.store_opening.specs.Spared.{IsOkOrFault, MayBegin, Spares}
+use Rattle.cloud_server.specs.StoreOpening.Exact.{Opens}
+use Rattle.cloud_server.specs.StoreOpening.Spared.{IsOkOrFault, MayBegin, Spares}
 use Rattle.cloud_memory.specs.Memory.{Memory}
 use Rattle.cloud_memory.specs.Rooms.{memory_of}
 use Rattle.cloud_server.specs.Openings.{OpensTo, OtherStoreIs}

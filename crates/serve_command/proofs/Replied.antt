@@ -7,7 +7,7 @@ use Rattle.messages.specs.declared.reply.Reply.{Reply}
 use Rattle.messages.specs.declared.reply.Reply.TheVariants as replies
 use Rattle.messages.specs.Replies.{reply_bytes}
 use Rattle.user_dedup.specs.Requests.{asked_at}
-use Rattle.open_store.specs.declared.store.OpenStore.{OpenStore}
+use Rattle.cloud_server.specs.OpenStore.store.OpenStore.{OpenStore}
 use Rattle.cloud_server.specs.Serving.{Answered}
 use Rattle.serve_command.specs.Serving.{RepliesOne}
 

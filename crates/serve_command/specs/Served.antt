@@ -21,7 +21,7 @@ use Rattle.journal_halves.specs.Halves.{IsCurrent}
 use Rattle.half_journal.specs.Openings.{OnFault}
 use Rattle.user_dedup.specs.declared.command.Command.{Command}
 use Rattle.user_dedup.specs.Exec.{Peer, MaySettleAs}
-use Rattle.store_opening.specs.Spared.{IsOkOrFault, Spares}
+use Rattle.cloud_server.specs.StoreOpening.Spared.{IsOkOrFault, Spares}
 use Rattle.cloud_server.specs.Openings.{OpensTo, OtherStoreIs}
 use Rattle.user_dedup.specs.Spending.{IsWithin}
 use Rattle.user_dedup.specs.Served.{served_by}

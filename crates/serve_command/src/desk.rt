@@ -3,7 +3,7 @@
 ghost use Rattle.std.specs.Prelude.{◌≡◌, ◌<◌, IfOk};
 ghost use Rattle.cloud_server.specs.Names.{header_of};
 ghost use Rattle.journal_start.specs.Ranges.{AreRooms};
-ghost use Rattle.open_store.specs.Store.{IsOpen};
+ghost use Rattle.cloud_server.specs.OpenStore.Store.{IsOpen};
 
 use cd_base::{CloudNo, NoMemory, Shape};
 use cloud_server::Server;

@@ -14,6 +14,7 @@ mod responder;
 mod served;
 mod stop;
 
+pub use cloud_server::{OpenErr, Server};
 pub use command::serve;
 pub use connection::serve_connection;
 pub use frame_responder::Responder;

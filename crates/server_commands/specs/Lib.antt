@@ -1,6 +1,7 @@
-pub mod Serving
-pub mod Leaving
 pub mod Entering
 pub mod Executing
-pub mod Steps
+pub mod Leaving
+pub mod OpenStore
 pub mod Picked
+pub mod Serving
+pub mod Steps

@@ -8,7 +8,7 @@ use Rattle.user_dedup.specs.declared.command.Command.{Command}
 use Rattle.user_dedup.specs.Dedup.{only}
 use Rattle.cloud_memory.specs.Memory.{Remembers}
 use Rattle.cloud_memory.specs.Rooms.{memory_of}
-use Rattle.open_store.specs.declared.store.OpenStore.{OpenStore}
+use Rattle.server_commands.specs.OpenStore.store.OpenStore.{OpenStore}
 use Rattle.server_commands.specs.Executing.{IsReady, Executes}
 use Rattle.server_commands.specs.Leaving.{IsFound}
 use Rattle.server_commands.specs.Serving.{serves, Gives}

@@ -1,4 +1,5 @@
+pub mod Alone
+pub mod Contents
+pub mod OfOpenStore
 pub mod Places
 pub mod Readings
-pub mod Contents
-pub mod Alone

@@ -15,10 +15,10 @@ use Rattle.user_dedup.specs.Dedup.{only, answer_over}
 use Rattle.cloud_areas.specs.Standing.{Chain}
 use Rattle.cloud_disk.specs.Disk.{Disk, IsReadThrough}
 use Rattle.cloud_memory.specs.Rooms.{memory_of}
-use Rattle.open_store.specs.declared.store.OpenStore.{OpenStore}
-use Rattle.open_store.specs.Store.{IsSettled, IsOpen, Serves, ServesSome, closed}
-use Rattle.open_store.specs.Adding.{NoneStaged}
-use Rattle.open_store.proofs.Keeping.{reads_serve, reads_settled, reads_meet}
+use Rattle.server_commands.specs.OpenStore.store.OpenStore.{OpenStore}
+use Rattle.server_commands.specs.OpenStore.Store.{IsSettled, IsOpen, Serves, ServesSome, closed}
+use Rattle.server_commands.specs.OpenStore.Adding.{NoneStaged}
+use Rattle.server_commands.proofs.OfOpenStore.Keeping.{reads_serve, reads_settled, reads_meet}
 use Rattle.server_reads.specs.Found.{ReadsLog}
 use Rattle.server_reads.proofs.Logs.{log_still}
 use Rattle.server_commands.specs.Executing.{IsReady, Executes}

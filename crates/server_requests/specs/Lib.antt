@@ -1,3 +1,5 @@
 pub mod Asking
 pub mod Hashed
+pub mod OpenStore
 pub mod Reading
+pub mod ServerCommands

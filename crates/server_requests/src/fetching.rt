@@ -27,7 +27,7 @@ use cd_edges::{Failed, Shelf};
 use cloud_disk::CloudDisk;
 use cloud_memory::CloudMemory;
 use frames::ReplyBuf;
-use open_store::OpenStore;
+use server_commands::OpenStore;
 use server_reads::recipe;
 
 // The same as `recipe`, by the disk.

@@ -9,4 +9,5 @@ mod sending;
 mod serving;
 
 pub use asked::Asked;
+pub use server_commands::OpenStore;
 pub use serving::dispatch;

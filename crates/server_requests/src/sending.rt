@@ -30,7 +30,7 @@ use cloud_disk::CloudDisk;
 use cloud_memory::CloudMemory;
 use frames::ReplyBuf;
 use message_fields::FpsView;
-use open_store::OpenStore;
+use server_commands::OpenStore;
 use server_reads::shares;
 
 // The same as `shares`, by the disk.

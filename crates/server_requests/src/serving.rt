@@ -15,8 +15,7 @@ use crate::fetching::send_recipe;
 use crate::sending::send_shares;
 use cd_edges::{Failed, Shelf};
 use frames::ReplyBuf;
-use open_store::OpenStore;
-use server_commands::{commit, delete, put};
+use server_commands::{OpenStore, commit, delete, put};
 use server_reads::{entries, hello, known};
 
 /// Executes a request by an open store. The reply becomes the content.

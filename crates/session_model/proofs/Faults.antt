@@ -23,7 +23,7 @@ use Rattle.user_dedup.specs.Pages.{page_of}
 use Rattle.user_dedup.specs.Exec.{Peer, ExecTold, ExecUntold}
 use Rattle.user_dedup.proofs.Owned.{contains_cases, contains_nothing}
 use Rattle.user_dedup.specs.Spending.{full_for}
-use Rattle.cloud_server.specs.Serving.{ReopensAs}
+use Rattle.local_link.specs.CloudServer.Serving.{ReopensAs}
 use Rattle.upload_job.specs.declared.news.LaneNews.{LaneNews}
 use Rattle.upload_job.specs.declared.news.LaneNews.TheVariants as lane_news
 use Rattle.upload_job.specs.Lane.{lane_request}

@@ -16,7 +16,7 @@ use Rattle.user_dedup.specs.declared.command.Command.{Command}
 use Rattle.user_dedup.specs.Dedup.{Outcome}
 use Rattle.user_dedup.proofs.Growing.{Each, GrowsBy, IfCommand, AddsBy, AsksNoDelete, IsNoDelete, adds_no_delete, grows_then}
 use Rattle.user_dedup.specs.Exec.{Peer, MaySettleAs, Settles, Stays, IsCut, Exec, ExecTold, ExecUntold}
-use Rattle.cloud_server.specs.Serving.{ReopensAs}
+use Rattle.local_link.specs.CloudServer.Serving.{ReopensAs}
 use Rattle.upload_job.specs.Upload.{FileVersion}
 use Rattle.upload_job.specs.Lanes as lanes
 use Rattle.lane_steps.specs.Runs.{Turn, Progress, LaneRun, lane_at, progress_after}

@@ -1,17 +1,19 @@
-pub mod Private
-pub mod Ranged
-pub mod With
+pub mod Acknowledged
+pub mod CloudServer
+pub mod Committed
+pub mod Counts
+mod Examples
+pub mod Faults
+pub mod Filled
 pub mod Growing
 pub mod Jobs
-pub mod Committed
-pub mod Seen
 pub mod Lines
-pub mod Refilled
-pub mod Acknowledged
+pub mod OfLocalLink
 pub mod Parts
-pub mod Unmoved
-pub mod Filled
+pub mod Private
+pub mod Ranged
+pub mod Refilled
+pub mod Seen
 pub mod Stopped
-pub mod Counts
-pub mod Faults
-mod Examples
+pub mod Unmoved
+pub mod With

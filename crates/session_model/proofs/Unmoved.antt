@@ -14,7 +14,7 @@ use Rattle.messages.specs.declared.request.Request.TheVariants as requests
 use Rattle.messages.specs.declared.reply.Reply.TheVariants as replies
 use Rattle.user_dedup.specs.Exec.{Peer, CountsOn}
 use Rattle.user_dedup.proofs.Owned.{contains_here}
-use Rattle.cloud_server.specs.Serving.{ReopensAs}
+use Rattle.local_link.specs.CloudServer.Serving.{ReopensAs}
 use Rattle.restore_job.specs.Asking.{MayRead}
 use Rattle.restore_job.specs.declared.error.RestoreErr.TheVariants as restore_errors
 use Rattle.rebuild.specs.declared.error.RebuildErr.TheVariants as rebuild_errors

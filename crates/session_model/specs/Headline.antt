@@ -13,7 +13,7 @@ use Rattle.user_dedup.specs.Dedup.{answer_by_view}
 use Rattle.user_dedup.specs.Requests.{asker}
 use Rattle.user_dedup.specs.Exec.{Peer, MaySettleAs}
 use Rattle.cloud_areas.specs.Standing.{StandsFor}
-use Rattle.cloud_server.specs.Names.{header_of}
+use Rattle.local_link.specs.CloudServer.Names.{header_of}
 use Rattle.upload_job.specs.Upload.{FileVersion}
 use Rattle.restore_job.specs.Restored.{recipe_in}
 use Rattle.subset_restore.specs.Subsets.{IsSubset}

@@ -1,7 +1,9 @@
-pub mod Vault
-pub mod Steps
-pub mod Run
-pub mod Kept
-pub mod Headline
+pub mod CloudServer
 pub mod Cut
 pub mod Faults
+pub mod Headline
+pub mod Kept
+pub mod LocalLink
+pub mod Run
+pub mod Steps
+pub mod Vault

@@ -17,7 +17,7 @@ use Rattle.messages.specs.declared.reply.Reply.{Reply}
 use Rattle.messages.specs.declared.reply.Reply.TheVariants as replies
 use Rattle.user_dedup.specs.Exec.{Peer, Stays, CountsOn}
 use Rattle.user_dedup.specs.Link.{LinkTelling}
-use Rattle.cloud_server.specs.Serving.{ReopensAs}
+use Rattle.local_link.specs.CloudServer.Serving.{ReopensAs}
 use Rattle.upload_job.specs.declared.news.LaneNews.{LaneNews}
 use Rattle.upload_job.specs.declared.news.LaneNews.TheVariants as lane_news
 use Rattle.upload_job.specs.Lane.{LaneState, Done, news_of}

@@ -8,3 +8,4 @@ pub use laws::{
     law_of_acknowledged, law_of_counts, law_of_faults, law_of_moments, law_of_own_commands,
     law_of_own_replies, law_of_parts,
 };
+pub use local_link::{Fate, LocalLink, OpenErr, Servers, damage_of};

@@ -5,7 +5,7 @@
 use cd_base::{CloudNo, NoMemory, Shape};
 use cd_edges::{Area, Shelf};
 use cd_fakes::MemShelf;
-use cloud_server::Server;
+use cd_top::Server;
 use frames::ReplyBuf;
 use journal_start::Rooms;
 use std::alloc::Global;

@@ -8,9 +8,8 @@ use crate::ground::{
 };
 use cd_base::{Bytes, CloudNo};
 use cd_fakes::MemShelf;
-use cloud_server::OpenErr;
 use journal_start::Rooms;
-use local_link::LocalLink;
+use local_link::{LocalLink, OpenErr};
 use std::alloc::Global;
 use std::test::Fail;
 

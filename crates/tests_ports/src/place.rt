@@ -5,10 +5,9 @@ ghost use Rattle.std.specs.Prelude.{◌≡◌, ◌≤◌};
 use cd_base::{Bytes, CloudNo, NoMemory, Shape};
 use cd_edges::{Ports, Shelf};
 use cd_fakes::{MemPorts, MemShelf};
-use cloud_server::Server;
 use frames::{Framer, ReplyBuf};
 use journal_start::Rooms;
-use serve_command::{Served, serve_connection};
+use serve_command::{Served, Server, serve_connection};
 use std::alloc::Global;
 use std::test::Fail;
 

@@ -4,7 +4,7 @@ use crate::faults_place::replayed;
 use cd_base::{CloudNo, NoMemory, Shape};
 use cd_edges::{Area, Shelf};
 use cd_fakes::{MemShelf, MemSink, MemSource};
-use cloud_server::{OpenErr, Server};
+use cd_top::{OpenErr, Server};
 use journal_start::Rooms;
 use std::alloc::Global;
 use std::test::Fail;

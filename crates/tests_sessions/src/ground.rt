@@ -2,13 +2,12 @@
 
 ghost use Rattle.std.specs.Prelude.{◌≡◌};
 ghost use Rattle.journal_start.specs.Ranges.{AreRooms};
-ghost use Rattle.script_lines.specs.Jobs.{AreReached};
+ghost use Rattle.generated_session.specs.ScriptLines.Jobs.{AreReached};
 
 use cd_base::{Bytes, Shape};
 use cd_fakes::{MemShelf, MemSink};
+use generated_session::{Buffers, Jobs, LocalLink, carry_out};
 use journal_start::Rooms;
-use local_link::LocalLink;
-use script_lines::{Buffers, Jobs, carry_out};
 use session::read_line;
 use std::alloc::Global;
 use std::test::Fail;

@@ -3,8 +3,7 @@
 use cd_base::CloudNo;
 use cd_edges::{Area, Shelf};
 use cd_fakes::{MemShelf, MemSink};
-use generated_session::generate;
-use replay_core::ReplayEnd;
+use generated_session::{ReplayEnd, generate};
 use std::alloc::Global;
 use std::test::Fail;
 

@@ -3,12 +3,11 @@
 use crate::damage::empty_commit;
 use cd_base::{Bytes, NoMemory};
 use cd_edges::{Area, Shelf};
-use cloud_server::{OpenErr, Server};
 use std::alloc::Global;
 use std::test::Fail;
 use tests_server::replies::{COMMITTED, FAULT, HELLO, NONE_NEW, ONE_NEW};
 use tests_server::requests::put_of;
-use tests_server::{Cloud, SMALL, TWO, WIDE, server_of};
+use tests_server::{Cloud, OpenErr, SMALL, Server, TWO, WIDE, server_of};
 
 // A stop in a device call, counted from 1, of which so many bytes are kept, and how many commands are found behind it.
 type Stop = (u32, u32, u64);

@@ -2,12 +2,11 @@
 
 use cd_base::{Bytes, Fp, NoMemory, sha256};
 use cd_edges::{Area, Shelf};
-use cloud_server::OpenErr;
 use std::alloc::Global;
 use std::test::Fail;
 use tests_server::replies::{COMMITTED, DELETED, ONE_NEW};
 use tests_server::requests::{commit_of, delete_of, fp_of, put_of, recipe_of, share_of};
-use tests_server::{Cloud, Row, TWO, WIDE, is_stored};
+use tests_server::{Cloud, OpenErr, Row, TWO, WIDE, is_stored};
 
 // The place of the gate behind the two commands below, and of the body behind that.
 const GATE: u64 = 192;

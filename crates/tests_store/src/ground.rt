@@ -12,9 +12,9 @@ use cloud_disk::CloudDisk;
 use cloud_memory::CloudMemory;
 use half_journal::OpenErr;
 use journal_start::{Header, Rooms};
+use open_store::reopen;
 use record_bodies::{BodyBuf, CommitBody, DeleteBody, PutItem};
 use std::alloc::Global;
-use store_opening::reopen;
 
 pub(crate) const ZERO: CloudNo = CloudNo(0);
 

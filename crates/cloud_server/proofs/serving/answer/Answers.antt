@@ -5,10 +5,10 @@ use Rattle.journal_start.specs.declared.start.Header.{Header}
 use Rattle.user_dedup.specs.Exec.{Peer}
 use Rattle.cloud_areas.specs.Peers.{ImagesSince, MayBecome}
 use Rattle.cloud_memory.specs.Rooms.{memory_of}
-use Rattle.open_store.specs.declared.store.OpenStore.{OpenStore}
-use Rattle.open_store.specs.Store.{ServesSome}
-use Rattle.server_commands.specs.Leaving.{IsFound}
-use Rattle.server_commands.specs.Serving.{serves}
+use Rattle.server_requests.specs.OpenStore.store.OpenStore.{OpenStore}
+use Rattle.server_requests.specs.OpenStore.Store.{ServesSome}
+use Rattle.server_requests.specs.ServerCommands.Leaving.{IsFound}
+use Rattle.server_requests.specs.ServerCommands.Serving.{serves}
 use Rattle.server_requests.specs.Asking.{request_of}
 use Rattle.cloud_server.specs.Serving.{ServesAs, Answered, ChangesBehind}
 use Rattle.cloud_server.specs.Steps.{Does}

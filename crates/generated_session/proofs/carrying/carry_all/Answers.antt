@@ -2,7 +2,7 @@ use Rattle.std.proofs.Common.{◌≡◌, ◌∙◌, List, [], ◌∷◌, ◌++�
 use Rattle.std.specs.List.{flat_map, range_with_len}
 use Rattle.cd_base.specs.declared.shape.Shape.{Shape}
 use Rattle.session.specs.declared.event.Event.{Event}
-use Rattle.session_model.specs.Kept.{uploads}
+use Rattle.replay_core.specs.SessionModel.Kept.{uploads}
 use Rattle.generated_session.specs.Lines.{upload_lines, get_line, generated_lines}
 use Rattle.generated_session.specs.Progress.{HasMade, IsStopped}
 use Rattle.generated_session.proofs.Stops.{stopped_more}

@@ -3,10 +3,10 @@ use Rattle.std.specs.List.{range_with_len}
 use Rattle.cd_base.specs.declared.shape.Shape.{Shape}
 use Rattle.lane_steps.specs.Reached.{IsReached}
 use Rattle.session.specs.Spelling.{IsJob}
-use Rattle.script_lines.specs.Finishing.{FinishedPart}
-use Rattle.script_lines.proofs.Going.{leaves_all, leaves_join}
-use Rattle.script_lines.proofs.Lines.{on_err}
-use Rattle.script_lines.proofs.Bringing.{part_longer, range_more, range_at}
+use Rattle.replay_core.specs.ScriptLines.Finishing.{FinishedPart}
+use Rattle.replay_core.proofs.ScriptLines.Going.{leaves_all, leaves_join}
+use Rattle.replay_core.proofs.ScriptLines.Lines.{on_err}
+use Rattle.replay_core.proofs.ScriptLines.Bringing.{part_longer, range_more, range_at}
 use Rattle.generated_session.specs.Progress.{Brings, Grows}
 use Rattle.generated_session.proofs.Lanes.{brings_none, brings_join, brings_cut}
 use Rattle.generated_session.proofs.Growing.{grows_none, grows_more, grows_within, room_for}

@@ -1,7 +1,7 @@
 use Rattle.std.proofs.Common.{◌≡◌}
 use Rattle.std.specs.List.{range_with_len}
 use Rattle.lane_steps.specs.Reached.{IsReached}
-use Rattle.script_lines.specs.At.{Leaves}
+use Rattle.replay_core.specs.ScriptLines.At.{Leaves}
 use Rattle.generated_session.specs.Progress.{Grows, BringsLanes}
 use Rattle.generated_session.proofs.carrying.finish_lanes.Given as goal
 

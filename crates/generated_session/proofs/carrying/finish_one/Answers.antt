@@ -3,11 +3,11 @@ use Rattle.std.specs.Prelude.{Ok, sum_by, if◌then◌else◌}
 use Rattle.cd_base.specs.declared.shape.Shape.{Shape}
 use Rattle.upload_job.specs.declared.news.LaneNews.{LaneNews}
 use Rattle.upload_job.specs.Lanes.{LaneView}
-use Rattle.local_link.specs.Tells.{is_delivered, telling}
+use Rattle.replay_core.specs.LocalLink.Tells.{is_delivered, telling}
 use Rattle.lane_steps.specs.Steps.{Finishes}
-use Rattle.script_lines.specs.Jobs.{with_job}
-use Rattle.script_lines.proofs.Reaching.{reached_len, count_with, lanes_with, all_done_is}
-use Rattle.script_lines.proofs.Bringing.{lane_cut, one_leaves}
+use Rattle.replay_core.specs.ScriptLines.Jobs.{with_job}
+use Rattle.replay_core.proofs.ScriptLines.Reaching.{reached_len, count_with, lanes_with, all_done_is}
+use Rattle.replay_core.proofs.ScriptLines.Bringing.{lane_cut, one_leaves}
 use Rattle.generated_session.specs.declared.numbers.Numbers.{Numbers}
 use Rattle.generated_session.specs.Progress.{sent_by, known_by}
 use Rattle.generated_session.proofs.Tallies.{adds_lane}

@@ -2,8 +2,8 @@ use Rattle.std.proofs.Common.{◌≡◌, ◌+◌, ◌<◌, ◌≤◌, ◌∙◌,
 use Rattle.std.specs.List.{range_with_len}
 use Rattle.cd_base.specs.declared.shape.Shape.{Shape}
 use Rattle.session.specs.declared.event.Event.{Event}
-use Rattle.session_model.specs.Kept.{uploads}
-use Rattle.script_lines.proofs.Lines.{on_err}
+use Rattle.replay_core.specs.SessionModel.Kept.{uploads}
+use Rattle.replay_core.proofs.ScriptLines.Lines.{on_err}
 use Rattle.generated_session.specs.Lines.{get_line, generated_lines}
 use Rattle.generated_session.specs.Progress.{HasMade}
 use Rattle.generated_session.proofs.Script.{gets_so_far, gets_front, file_known}

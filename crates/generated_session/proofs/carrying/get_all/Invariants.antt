@@ -1,6 +1,6 @@
 use Rattle.std.proofs.Common.{◌≡◌, ◌≤◌, map}
 use Rattle.std.specs.List.{range_with_len}
-use Rattle.session_model.specs.Kept.{uploads}
+use Rattle.replay_core.specs.SessionModel.Kept.{uploads}
 use Rattle.generated_session.specs.Lines.{get_line, generated_lines}
 use Rattle.generated_session.specs.Progress.{Makes}
 use Rattle.generated_session.proofs.carrying.get_all.Given as goal

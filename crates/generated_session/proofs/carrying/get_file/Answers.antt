@@ -4,8 +4,8 @@ use Rattle.cd_base.specs.declared.ids.Version.{Version}
 use Rattle.session.specs.Spelling.{AreSources}
 use Rattle.session.specs.declared.event.Event.{Event}
 use Rattle.session.specs.declared.event.Event.TheVariants as events
-use Rattle.script_lines.proofs.Lines.{on_ok, on_err}
-use Rattle.script_lines.proofs.Others.{read_by, get_leaves, get_same}
+use Rattle.replay_core.proofs.ScriptLines.Lines.{on_ok, on_err}
+use Rattle.replay_core.proofs.ScriptLines.Others.{read_by, get_leaves, get_same}
 use Rattle.generated_session.specs.Drawn.{file_of}
 use Rattle.generated_session.specs.Lines.{user_at, version_at, file_path, clouds_at, get_line}
 use Rattle.generated_session.specs.Progress.{HasMade, IsFileOf, IsStopped}

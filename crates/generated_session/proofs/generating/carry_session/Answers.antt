@@ -1,8 +1,8 @@
 use Rattle.std.proofs.Common.{◌≡◌, ◌*◌, ◌≤◌, ◌∙◌, ℕ, List, [], ◌∷◌, ◌++◌, Some, None, refl, sym, ap, subst, append-nil}
 use Rattle.cd_base.specs.declared.shape.Shape.{Shape}
 use Rattle.cd_edges.specs.Disk.{Cloud}
-use Rattle.session_model.specs.Kept.{uploads}
-use Rattle.script_lines.specs.At.{header_in}
+use Rattle.replay_core.specs.SessionModel.Kept.{uploads}
+use Rattle.replay_core.specs.ScriptLines.At.{header_in}
 use Rattle.replay_core.specs.Opening.{EndsUnopened, before_first}
 use Rattle.replay_core.proofs.Clouds.{empty_stands, all_same}
 use Rattle.replay_core.proofs.Begins.{same_all, all_ready}

@@ -2,11 +2,11 @@ use Rattle.std.proofs.Common.{rules, ◌≡◌, ℕ, [], Some, None, refl, subst
 use Rattle.journal_start.specs.Ranges.{usual_rooms}
 use Rattle.journal_start.specs.declared.rooms.Rooms.{Rooms}
 use Rattle.cloud_server.specs.declared.server.Server.{Server}
-use Rattle.local_link.specs.Steps.{IsClosedIn}
-use Rattle.local_link.specs.Tells.{server_at}
-use Rattle.session_model.specs.Vault.{Setting}
+use Rattle.replay_core.specs.LocalLink.Steps.{IsClosedIn}
+use Rattle.replay_core.specs.LocalLink.Tells.{server_at}
+use Rattle.replay_core.specs.SessionModel.Vault.{Setting}
 use Rattle.replay_core.specs.Opening.{before_first}
-use Rattle.script_lines.specs.At.{header_in}
+use Rattle.replay_core.specs.ScriptLines.At.{header_in}
 use Rattle.replay_core.proofs.Clouds.{empty_stands, all_same}
 use Rattle.replay_core.proofs.Begins.{ready_by}
 use Rattle.generated_session.specs.Generates.{Order, Passing, Generates}

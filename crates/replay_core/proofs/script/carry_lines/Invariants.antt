@@ -1,6 +1,6 @@
 use Rattle.std.proofs.Common.{◌≡◌, ◌≤◌, ◌-◌, [], length}
 use Rattle.session.specs.Lines.{script_limit}
-use Rattle.session_model.specs.Vault.{Setting}
+use Rattle.script_lines.specs.SessionModel.Vault.{Setting}
 use Rattle.script_lines.specs.Jobs.{AreReached}
 use Rattle.replay_core.specs.Going.{Start, HasCome}
 use Rattle.replay_core.proofs.script.carry_lines.Given as goal

@@ -1,6 +1,6 @@
 use Rattle.std.proofs.Common.{rules, ◌≡◌, refl, subst}
 use Rattle.replay_core.specs.declared.end.ReplayEnd.TheVariants as ends
-use Rattle.session_model.specs.Vault.{Setting}
+use Rattle.script_lines.specs.SessionModel.Vault.{Setting}
 use Rattle.script_lines.specs.At.{header_in}
 use Rattle.replay_core.specs.Going.{Start, call_of}
 use Rattle.replay_core.specs.Replayed.{Replays}

@@ -1,7 +1,7 @@
 use Rattle.std.proofs.Common.{◌<◌, List, ◌++◌, ap, ◌∙◌, subst}
 use Rattle.cd_base.specs.declared.shape.Shape.{Shape}
 use Rattle.upload_job.specs.declared.news.LaneNews.{LaneNews}
-use Rattle.local_link.specs.Tells.{is_delivered, telling}
+use Rattle.session_model.specs.LocalLink.Tells.{is_delivered, telling}
 use Rattle.lane_steps.specs.Steps.{Finishes}
 use Rattle.session.specs.Texts.{text_of}
 use Rattle.script_lines.specs.Jobs.{job_lanes}

@@ -1,6 +1,6 @@
 use Rattle.std.proofs.Common.{◌<◌, length, ap, subst}
 use Rattle.cd_base.specs.declared.shape.Shape.{Shape}
-use Rattle.local_link.specs.Tells.{is_delivered}
+use Rattle.session_model.specs.LocalLink.Tells.{is_delivered}
 use Rattle.session.specs.declared.event.Event.TheVariants as events
 use Rattle.script_lines.specs.Stepping.{step_lines}
 use Rattle.script_lines.proofs.Reaching.{lane_below}

@@ -1,6 +1,6 @@
 use Rattle.std.proofs.Common.{sym, subst}
 use Rattle.cd_base.specs.declared.shape.Shape.{Shape}
-use Rattle.script_lines.specs.Jobs.{AreReached}
+use Rattle.generated_session.specs.ScriptLines.Jobs.{AreReached}
 use Rattle.tests_sessions.proofs.ground.played.Goals as goal
 
 pub loop-line-preserved : goal.loop-line-preserved

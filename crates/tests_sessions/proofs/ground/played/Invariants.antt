@@ -1,4 +1,4 @@
-use Rattle.script_lines.specs.Jobs.{AreReached}
+use Rattle.generated_session.specs.ScriptLines.Jobs.{AreReached}
 use Rattle.tests_sessions.proofs.ground.played.Given as goal
 
 abbrev pub invariant-loop-line : goal.invariant-loop-line

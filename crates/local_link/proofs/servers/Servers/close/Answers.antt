@@ -1,5 +1,5 @@
 use Rattle.std.proofs.Common.{refl, ap}
-use Rattle.open_store.specs.declared.store.OpenStore.{OpenStore}
+use Rattle.cloud_server.specs.OpenStore.store.OpenStore.{OpenStore}
 use Rattle.local_link.proofs.Placing.{stands_at}
 use Rattle.local_link.proofs.servers.Servers.close.Goals as goal
 

@@ -1,0 +1,2 @@
+-- What server_commands says, for callers.
+pub use Rattle.server_requests.specs.ServerCommands.Leaving

@@ -1,0 +1,2 @@
+-- What local_link has proved, for callers.
+pub use Rattle.session_model.proofs.OfLocalLink.Standing

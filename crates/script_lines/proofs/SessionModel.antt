@@ -1,0 +1,3 @@
+-- What session_model has proved, for callers.
+pub use Rattle.session_model.proofs.Counts
+pub use Rattle.session_model.proofs.Faults

@@ -1,0 +1,2 @@
+-- What open_store has proved, for callers.
+pub use Rattle.open_store.proofs.Keeping

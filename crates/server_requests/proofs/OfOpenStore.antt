@@ -1,0 +1,2 @@
+-- What open_store has proved, for callers.
+pub use Rattle.server_commands.proofs.OfOpenStore.Keeping

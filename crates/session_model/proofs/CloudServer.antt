@@ -1,0 +1,2 @@
+-- What cloud_server has proved, for callers.
+pub use Rattle.local_link.proofs.CloudServer.NoCommands
