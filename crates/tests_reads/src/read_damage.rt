@@ -58,7 +58,7 @@ fn a_damaged_share_is_8_and_a_recipe_7(rt: HostRuntime) -> Result<(), Fail> {
 }
 
 // A byte of cloud 0's journal: its place, what it is and what it becomes, and what a read comes to.
-static JOURNAL: [(u64, u8, u8, u8, &str); 16] = [
+static JOURNAL: [(u64, u8, u8, u8, &str); 19] = [
     // the header: its letters, format, k, which no longer fits, cloud, and rooms
     (8, 0x54, 0x55, 7, "damaged 0 8 55\n"),
     (9, 2, 3, 7, "damaged 0 9 03\n"),
@@ -68,7 +68,11 @@ static JOURNAL: [(u64, u8, u8, u8, &str); 16] = [
     (17, 0, 1, 7, "damaged 0 17 01\n"),
     (28, 0, 1, 7, "damaged 0 25 00\n"),
     (37, 0, 1, 7, "damaged 0 37 01\n"),
-    (39, 4, 0, 7, "other 0 2 4 3 0\n"),
+    // rooms for eight users, and for seven, of which user 7 is none; for no shares; for no versions
+    (16, 16, 8, 0, "A"),
+    (16, 16, 7, 7, "damaged 0 47 00\n"),
+    (35, 0x80, 0, 7, "damaged 0 47 00\n"),
+    (39, 4, 0, 7, "damaged 0 104 00\n"),
     // the Put: its gate, which ends the list, length, kind, flag, and the share's length
     (41, 1, 0, 8, "refused missing 0\n"),
     (42, 0, 0xff, 7, "damaged 0 42 ff\n"),
