@@ -114,11 +114,12 @@ name commands.Arm = codes "arm"
 name commands.Restart = codes "restart"
 name commands.Replace = codes "replace"
 name commands.Rebuild = codes "rebuild"
+name commands.Delete = codes "delete"
 
 abbrev pub all_commands : List Command
 all_commands =
     commands.Upload ∷ commands.Step ∷ commands.Lose ∷ commands.Drop ∷ commands.Finish ∷ commands.Get ∷ commands.List ∷ commands.Arm
-    ∷ commands.Restart ∷ commands.Replace ∷ commands.Rebuild ∷ []
+    ∷ commands.Restart ∷ commands.Replace ∷ commands.Rebuild ∷ commands.Delete ∷ []
 
 abbrev pub named_command : List ℕ → Option Command
 named_command text = find (λ c. bytes_eq text (name c)) all_commands
@@ -172,6 +173,12 @@ make_rebuild x = events.Rebuild (record { 0 = x.0 }) (record { 0 = x.1.0 }) x.1.
 unfoldable pub rebuild_at : Shape → List ℕ → Result Event ℕ
 rebuild_at shape = whole make_rebuild (field_at user ▷ (field_at (cloud shape) ▷▷ λ target. field_at (others shape target)))
 
+abbrev pub make_delete : ℕ × (List ℕ × (ℕ × ℕ)) → Event
+make_delete x = events.Delete (record { 0 = x.0 }) x.1.0 (record { 0 = x.1.1.0 }) (record { 0 = x.1.1.1 })
+
+unfoldable pub delete_at : Shape → List ℕ → Result Event ℕ
+delete_at shape = whole make_delete (field_at user ▷ field_at path ▷ field_at version ▷ field_at (cloud shape))
+
 abbrev pub make_step : ℕ × ℕ → Event
 make_step x = events.Step x.0 (record { 0 = x.1 })
 
@@ -208,6 +215,7 @@ fields_at shape jobs commands.Arm bytes = arm_at shape bytes
 fields_at shape jobs commands.Restart bytes = read_as make_restart (cloud_at shape bytes)
 fields_at shape jobs commands.Replace bytes = read_as make_replace (cloud_at shape bytes)
 fields_at shape jobs commands.Rebuild bytes = rebuild_at shape bytes
+fields_at shape jobs commands.Delete bytes = delete_at shape bytes
 
 unfoldable pub event_left : Shape → ℕ → List ℕ → Result Event ℕ
 event_left shape jobs line = do

@@ -22,6 +22,7 @@ jobs_after jobs (events.Arm cloud calls keep) = jobs
 jobs_after jobs (events.Restart cloud) = jobs
 jobs_after jobs (events.Replace cloud) = jobs
 jobs_after jobs (events.Rebuild user target from) = jobs
+jobs_after jobs (events.Delete user path version cloud) = jobs
 
 abbrev pub jobs_of : ℕ → List Event → ℕ
 jobs_of jobs [] = jobs

@@ -276,6 +276,7 @@ pub enum Command {
     Restart,
     Replace,
     Rebuild,
+    Delete,
 }
 
 // The command of a name.
@@ -304,6 +305,8 @@ fn named_by(word: &[u8]) -> Option<Command>
         Some(Command::Replace)
     } else if word == b"rebuild".as_slice() {
         Some(Command::Rebuild)
+    } else if word == b"delete".as_slice() {
+        Some(Command::Delete)
     } else {
         None
     }
@@ -325,6 +328,7 @@ fn may_come(command: Command, jobs: u32) -> bool
         Command::Restart => true,
         Command::Replace => true,
         Command::Rebuild => true,
+        Command::Delete => true,
     }
 }
 

@@ -6,7 +6,7 @@ ghost use Rattle.journal_start.specs.declared.rooms.Rooms.{Rooms};
 ghost use Rattle.journal_start.specs.Ranges.{AreRooms};
 ghost use Rattle.grammar.specs.Readers.{Gives};
 ghost use Rattle.session.specs.Reading.{Reads, header_at, event_at, event_left, fields_at, upload_at, lane_at, job_at};
-ghost use Rattle.session.specs.Reading.{cloud_at, get_at, list_at, arm_at, rebuild_at};
+ghost use Rattle.session.specs.Reading.{cloud_at, get_at, list_at, arm_at, rebuild_at, delete_at};
 ghost use Rattle.session.specs.Spelling.{Fits, IsLine, IsHeader};
 ghost use Rattle.session.specs.declared.event.Event.{Event};
 
@@ -171,6 +171,25 @@ fn rebuild_of(alloc: Global, shape: Shape, bytes: &[u8]) -> Result<Event, Stop>
     })
 }
 
+#[tactic(auto, unfolding(crate::specs::Reading::delete_at))]
+fn delete_of(alloc: Global, shape: Shape, bytes: &[u8]) -> Result<Event, Stop>
+    ensures { Gives (λ x. x) result (delete_at shape bytes.now) }
+{
+    let (user, bytes) = u32_field(bytes, 0, u32::MAX)?;
+    let (path, bytes) = path_field(alloc, bytes)?;
+    let (version, bytes) = u64_field(bytes, 0, u64::MAX)?;
+    let (cloud, bytes) = cloud_field(bytes, shape)?;
+    if !bytes.is_empty() {
+        return Err(Stop::Left(bytes.len()));
+    }
+    Ok(Event::Delete {
+        user: UserId(user),
+        path,
+        version: Version(version),
+        cloud,
+    })
+}
+
 // What a line asks for, by its first word.
 fn fields_of(
     alloc: Global,
@@ -211,6 +230,7 @@ fn fields_of(
             Ok(Event::Replace { cloud })
         }
         Command::Rebuild => rebuild_of(alloc, shape, bytes),
+        Command::Delete => delete_of(alloc, shape, bytes),
     }
 }
 

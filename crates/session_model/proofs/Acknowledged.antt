@@ -31,7 +31,6 @@ use Rattle.subset_restore.proofs.Files.{lacking_refuses}
 use Rattle.subset_restore.proofs.Standing.{ends_among}
 use Rattle.kept_files.specs.Kept.{Keeps, key_of}
 use Rattle.kept_files.proofs.Giving.{kept_is_given}
-use Rattle.kept_files.proofs.Keeping.{keeps_still, harmless_all}
 use Rattle.rebuild.specs.declared.error.SkipWhy.TheVariants as whys
 use Rattle.rebuild.specs.declared.error.RebuildErr.{RebuildErr}
 use Rattle.rebuild.specs.declared.skips.Rebuilt.{Rebuilt}
@@ -52,10 +51,11 @@ use Rattle.session_model.specs.Kept.{upload_of, uploads, Commits, Ends as Ended,
 use Rattle.session_model.specs.Headline.{Session, IsRun, script_in, moments_in, moments_begun, event_of, Clashes, GivesVersion, GivesAcknowledged, Lacks, GivesFromSome, GivesFromMore, DisksKeep}
 use Rattle.session.specs.Spelling.{AreSources}
 use Rattle.session_model.proofs.Ranged.{IsRanged, are_ranged, chosen_of, is_chosen, are_choice, line_fits, get_sources, chosen_below}
-use Rattle.session_model.proofs.Growing.{grows_last, stays_in, settles_in, grows_step}
+use Rattle.session_model.proofs.Growing.{TagsApart, keeps_but, grows_last, stays_in, settles_in, grows_step}
 use Rattle.session_model.proofs.Jobs.{brings_turns}
 use Rattle.session_model.proofs.Seen.{Seen, seen_turns}
-use Rattle.session_model.proofs.Lines.{Sees, commit_step, keeps_on}
+use Rattle.session_model.proofs.Lines.{Sees, commit_step}
+use Rattle.session_model.proofs.Names.{tags_apart}
 use Rattle.session_model.proofs.Refilled.{refilled}
 
 -- ---- lists
@@ -130,7 +130,7 @@ module _ (clouds : ℕ → Cloud) (run : Session) (is : IsRun clouds run) (apart
     where
       by_test : (b : Bool) → bytes_eq string (share run.setting.shape c secret) ≡ b → string ≡ share run.setting.shape c secret
       by_test true e = (bytes_eq-Decides string (share run.setting.shape c secret)).0 e
-      by_test false e = absurd (apart_all (record {
+      by_test false e = absurd (apart_all (inl (record {
         cloud = c;
         below = below;
         one = string;
@@ -139,7 +139,10 @@ module _ (clouds : ℕ → Cloud) (run : Session) (is : IsRun clouds run) (apart
         second = inl (v, uploaded, map_has (share run.setting.shape c) (secrets v.file) secret among);
         different = λ q. (let f : true ≡ false = sym ((bytes_eq-Decides string (share run.setting.shape c secret)).1 q) ∙ e in cc);
         same = same;
-      }))
+      })))
+
+  tags : (v : FileVersion) → Contains (uploads (script_in run)) v → (event : Event) → Contains (script_in run) event → TagsApart run.setting.shape v event
+  tags v uploaded event has = tags_apart run.setting.shape (script_in run) is.lines (λ clash. apart_all (inr clash)) v uploaded (ranged v uploaded).path event has
 
   sees : (c : ℕ) (xs : List Answered) (a : Answered) (ys : List Answered) → run.history ≡ xs ++ a ∷ ys → Turns run.setting a.after ys run.between → Sees (Known c) c a.moments a.after.peers
   sees c xs a ys e behind = record {
@@ -246,9 +249,8 @@ module _ (clouds : ℕ → Cloud) (run : Session) (is : IsRun clouds run) (apart
               (subst (Contains (script_in run)) x.event_is (among run (reverse earlier) later a e)) in
               fits.1.1.1 (subst (Contains x.from) same has)
   kept_by a earlier later c below v told uploaded e mid front step behind (inr (inr x)) more =
-      let r = ranged v uploaded in
-      keeps_on run.setting c told v (record { path = r.path; few = r.few }) (Known c) (apart c below v uploaded) (mid.peers c) (a.after.peers c) (more c below x.0)
-      (grows_step run.setting c told v mid a.event a.answers a.moments a.after step x.1)
+      keeps_but run.setting.shape c v (mid.peers c) (a.after.peers c) (more c below x.0)
+      (grows_step run.setting c told v mid a.event a.answers a.moments a.after step (tags v uploaded a.event (among run (reverse earlier) later a e)) x.1)
 
   -- what a told cloud acknowledged, each list that it may settle as keeps
   kept_keeps : (rev later : List Answered) (c : ℕ) → c < run.setting.shape.n → (v : FileVersion) → run.history ≡ reverse rev ++ later → (mid : Vault) → Turns run.setting (opening clouds) (reverse rev) mid → Turns run.setting mid later run.between
@@ -434,6 +436,7 @@ disks_keep clouds new run is cloud v image list below still apart left settles s
     let keeps = kept_keeps clouds run is apart ranged (reverse run.history) [] cloud below v e run.between
     (subst (λ (l : List Answered). Turns run.setting (opening clouds) l run.between) (sym back) is.answered) refl kept in
     let told = kept_told clouds run is apart ranged (reverse run.history) cloud v kept in
-    let x = grows_last run.setting cloud told v run.between run.begun run.last is.begun still.lasts list settles in
-    subst (λ (l : List Command). Keeps run.setting.shape cloud l v.user v.path v.number v.file) (sym x.1.1)
-    (keeps_still run.setting.shape cloud x.0 x.1.0 v.user v.path v.number v.file (harmless_all v.user (key_of run.setting.shape v.path v.number) x.1.0 x.1.2) (keeps x.0 x.2))
+    let uploaded = kept_uploaded clouds run is apart ranged (reverse run.history) [] cloud v e kept in
+    keeps_but run.setting.shape cloud v (run.between.peers cloud) (run.last cloud) keeps
+    (grows_last run.setting cloud told v run.between run.begun run.last is.begun
+    (λ event has. tags clouds run is apart ranged v uploaded event (Contains-append_right (script_of run.history) (event_of run.begun) event has)) still.lasts) list settles

@@ -148,6 +148,7 @@ module _ (f : ℕ) (small : f < 2 ^ 64) where
       | inl same ↦ keeps_up (old.peers c).faults (new.peers c).faults (subst (λ (n : ℕ). (old.peers n).faults ≤ (new.peers n).faults) (sym same) x.0.leaves.counts.faults)
       | inr ne ↦ keeps_up (old.peers c).faults (new.peers c).faults (x.0.leaves.read c ne).1.faults
     ]
+    keeps_step old (events.Delete user path version cloud) answers moments new x = keeps_executes cloud.0 old.peers new.peers _ x.0.0 x.0.2
 
     pub keeps_turns : (history : List Answered) (old new : Vault) → Turns s old history new → Keeps (old.peers c) (new.peers c)
     keeps_turns [] old new turns le = keeps_same (old.peers c) (new.peers c) (ap (λ (v : Vault). v.peers c) turns) le
@@ -234,6 +235,7 @@ module _ (f : ℕ) (small : f < 2 ^ 64) where
           | inl same ↦ keeps_same (old.peers c) (m.peers c) (ap (λ (n : Moment). n.peers c) (sym same))
           | inr later ↦ keeps_rebuild old.peers target.0 x.0.turns new.peers x.0.executes m later
         ]
+    keeps_at old (events.Delete user path version cloud) answers moments new x = keeps_alone old.peers _ moments x.0.5
 
     -- a line that was begun
     pub keeps_last : (between : Vault) (begun : Option Begun) (last : ℕ → Peer) → MatchOption begun (last ≡ between.peers) (λ b. IsPartOf s between b last) → Keeps (between.peers c) (last c)

@@ -26,7 +26,7 @@ use Rattle.transcript.specs.declared.refusal.Refusal.TheVariants as refusals
 use Rattle.session_model.specs.Vault.{Setting, Vault, new_job, opening}
 use Rattle.session_model.specs.Steps.{Moment, quiet, cloud_no, version_of, lose_lines, all_done, stored_line, LaneStep, EndsListing, IsReplaceLine, AreRebuildLines, VStep}
 use Rattle.session_model.specs.Run.{Answered}
-use Rattle.session_model.specs.Kept.{uploads, IsJobOf, Kept}
+use Rattle.session_model.specs.Kept.{uploads, IsJobOf, Ends, Kept}
 use Rattle.session_model.specs.Headline.{Session, IsRun, due, GivesVersion}
 
 shape : Shape
@@ -57,6 +57,17 @@ two_jobs = refl
 second_job : IsJobOf script 2 two
 unfolding script upload
 second_job = (1, refl, refl)
+
+-- ---- what a deletion ends
+
+-- the version at the cloud of the line
+deleted_ends : Ends 2 one (events.Delete user (97 ∷ []) (record { 0 = 1 }) (cloud_no 2))
+unfolding one
+deleted_ends = (refl, refl, refl, refl)
+
+-- not at another cloud
+elsewhere_lasts : ¬ Ends 1 one (events.Delete user (97 ∷ []) (record { 0 = 1 }) (cloud_no 2))
+elsewhere_lasts ends = let same : 2 ≡ 1 = ends.0 in omega arith
 
 third_job : (v : FileVersion) → IsJobOf script 3 v → ⊥
 unfolding script upload

@@ -18,8 +18,12 @@ use Rattle.messages.specs.declared.request.Request.{Request}
 use Rattle.messages.specs.declared.request.Request.TheVariants as requests
 use Rattle.messages.specs.declared.reply.Reply.{Reply}
 use Rattle.messages.specs.declared.reply.Reply.TheVariants as replies
+use Rattle.user_dedup.specs.declared.command.Command.{Command}
+use Rattle.user_dedup.specs.declared.command.Command.TheVariants as commands
+use Rattle.user_dedup.specs.declared.file_list.FileEntry.{FileEntry}
 use Rattle.user_dedup.specs.Cloud.{user_view}
-use Rattle.user_dedup.specs.Pages.{page_of}
+use Rattle.user_dedup.specs.Dedup.{FullRoom, delete_outcome, by_room, unless_full}
+use Rattle.user_dedup.specs.Pages.{page_of, entry_at}
 use Rattle.user_dedup.specs.Exec.{Peer, ExecTold, ExecUntold}
 use Rattle.user_dedup.proofs.Owned.{contains_cases, contains_nothing}
 use Rattle.user_dedup.specs.Spending.{full_for}
@@ -51,7 +55,7 @@ use Rattle.transcript.specs.declared.refusal.TargetWhy.TheVariants as target_why
 use Rattle.transcript.specs.declared.line.Line.{Line}
 use Rattle.transcript.specs.declared.line.Line.TheVariants as lines
 use Rattle.session_model.specs.Vault.{Setting, Vault, Executes, served_at, lanes_of, opening}
-use Rattle.session_model.specs.Steps.{Moment, cloud_no, step_line, stored_line, LaneStep, DropStep, FinishLanes, IsGetLine, GetStep, behind_page, EndsListing, ListRun, entry_line, list_lines, told_so, IsRestartLine, RestartStep, ReopensUntold, IsReplaceLine, skip_line, rebuild_refusal, AreRebuildLines, RebuildStep, lose_lines, asked_by, VStep}
+use Rattle.session_model.specs.Steps.{Moment, cloud_no, step_line, stored_line, LaneStep, DropStep, FinishLanes, IsGetLine, GetStep, behind_page, EndsListing, ListRun, entry_line, list_lines, told_so, IsRestartLine, RestartStep, ReopensUntold, IsReplaceLine, skip_line, IsDeleteLine, DeleteStep, rebuild_refusal, AreRebuildLines, RebuildStep, lose_lines, asked_by, VStep}
 use Rattle.session_model.specs.Run.{Answered, Turns}
 use Rattle.session_model.specs.Headline.{Session, IsRun}
 use Rattle.session_model.specs.Faults.{IsTarget, SaysFault, FaultsRose}
@@ -325,6 +329,53 @@ module _ (event : Event) (c : ℕ) where
     replace_says told cloud before after (lines.NoMemory at) is says = absurd is
     replace_says told cloud before after (lines.Strange at kind) is says = absurd is
 
+    -- ---- a deletion
+
+    not_failed : (entry : Option FileEntry) (command : Command) (full : Command → Option FullRoom) → (unless_full full (delete_outcome entry command)).reply ≡ replies.Fault → ⊥
+    not_failed None command full e = cc
+    not_failed (Some entry) command full e = by_full (full command) e
+      where
+        by_full : (room : Option FullRoom) → (by_room (delete_outcome (Some entry) command) room).reply ≡ replies.Fault → ⊥
+        by_full None e = cc
+        by_full (Some f) e = cc
+
+    delete_rose : (user : UserId) (tag : Tag) (version : Version) (cloud : ℕ) (old : ℕ → Peer) (reply : Reply) (new : ℕ → Peer)
+        → Executes s cloud old (requests.Delete user tag version) reply new → reply ≡ replies.Fault → Rose (old cloud).faults (new cloud).faults
+    delete_rose user tag version cloud old reply new x is = by_told (s.told cloud) x.does.does
+      where
+        by_told : (b : Bool) → MatchBool b (ExecTold (served_at s cloud) (old cloud) (requests.Delete user tag version) reply (new cloud)) (ExecUntold s.shape (old cloud) (requests.Delete user tag version) reply (new cloud))
+            → Rose (old cloud).faults (new cloud).faults
+        by_told true (inl a) =
+            absurd (not_failed (entry_at (user_view s.shape a.before user).files (tag, version)) (commands.Delete user tag version) (full_for s.shape s.rooms a.before) (sym a.served ∙ is))
+        by_told true (inr f) = f.rose
+        by_told false u = u.fault is
+
+    deleted_says : (cloud : ℕ) (reply : Reply) (only : Line) → IsDeleteLine cloud reply only → Says only → (reply ≡ replies.Fault) × (cloud ≡ c)
+    deleted_says cloud replies.Deleted only is says = absurd (subst Says is says)
+    deleted_says cloud replies.Missing only is says = absurd (subst Says is says)
+    deleted_says cloud (replies.Full room used need limit) only is says = absurd (subst Says is says)
+    deleted_says cloud replies.Fault only is says = (refl, subst Says is says)
+    deleted_says cloud (replies.Damaged at byte) only is says = absurd (subst Says is says)
+    deleted_says cloud (replies.Rotten named found) only is says = absurd (subst Says is says)
+    deleted_says cloud (replies.Hello n k own format) only is says = absurd is
+    deleted_says cloud (replies.Known flags) only is says = absurd is
+    deleted_says cloud (replies.Stored new) only is says = absurd is
+    deleted_says cloud replies.Committed only is says = absurd is
+    deleted_says cloud replies.Exists only is says = absurd is
+    deleted_says cloud (replies.Lacking place) only is says = absurd is
+    deleted_says cloud (replies.Recipe bytes) only is says = absurd is
+    deleted_says cloud (replies.Shares shares) only is says = absurd is
+    deleted_says cloud (replies.NotYours place) only is says = absurd is
+    deleted_says cloud (replies.Entries entries) only is says = absurd is
+    deleted_says cloud (replies.Malformed at) only is says = absurd is
+    deleted_says cloud replies.NoMemory only is says = absurd is
+
+    delete_says : (user : UserId) (path : List ℕ) (version : Version) (cloud : ℕ) (old : ℕ → Peer) (answers : List Line) (moments : List Moment) (new : ℕ → Peer) → DeleteStep s user path version cloud old answers moments new
+        → (line : Line) → Contains answers line → Says line → Rose (old c).faults (new c).faults
+    delete_says user path version cloud old answers moments new x line has says =
+        let y = deleted_says cloud x.0 x.1 x.3 (alone Says x.1 line answers x.4 has says) in
+        subst (λ (n : ℕ). Rose (old n).faults (new n).faults) y.1 (delete_rose user (key_of s.shape path version).0 version cloud old x.0 new x.2 y.0)
+
     -- ---- a rebuild
 
     rebuilt_says : (user : UserId) (target : ℕ) (from : List ℕ) (old : ℕ → Peer) (answers : List Line) (moments : List Moment) (new : ℕ → Peer) → RebuildStep s user target from old answers moments new
@@ -412,6 +463,8 @@ says_rose s c old (events.Replace cloud) answers moments new x line has says =
     (replace_says e c s (s.told cloud.0) cloud.0 (old.peers cloud.0).faults (new.peers cloud.0).faults x.0 x.1.goes.says (alone (Says e c) x.0 line answers x.2 has says))
 says_rose s c old (events.Rebuild user target from) answers moments new x line has says =
     rebuilt_says (events.Rebuild user target from) c s user target.0 from old.peers answers moments new.peers x.0 (λ n is. is) line has says
+says_rose s c old (events.Delete user path version cloud) answers moments new x line has says =
+    delete_says (events.Delete user path version cloud) c s user path version cloud.0 old.peers answers moments new.peers x.0 line has says
 
 -- ---- a session
 

@@ -2,22 +2,31 @@
 use Rattle.std.proofs.Common.{◌≡◌, ℕ, Bool, true, List, [], ◌∷◌, ◌++◌, map, Option, Some, None, Result, Ok, Err, refl, sym, ap, ◌∙◌, subst, inl, inr, ◌⊎◌, ◌-◌, length, append-nil}
 use Rattle.std.specs.Prelude.{IsTrue, IsSomeAnd, MatchOption, option_to_list, slice_get}
 use Rattle.std.specs.List.{Contains}
-use Rattle.std.proofs.lemmas.List.Elements.{Contains-append_cases, Contains-append_right}
+use Rattle.std.proofs.lemmas.List.Elements.{All-nil, All-cons, Contains-append_cases, Contains-append_right}
 use Rattle.std.specs.Bool.{MatchBool}
 use Rattle.std.proofs.lemmas.Bool.{cases_eq}
 use Rattle.cd_base.specs.declared.ids.Tag.{Tag}
 use Rattle.cd_base.specs.declared.ids.UserId.{UserId}
 use Rattle.cd_base.specs.declared.ids.Version.{Version}
+use Rattle.cd_base.specs.declared.shape.Shape.{Shape}
+use Rattle.caont_rs.specs.Package.{tag}
 use Rattle.half_journal.specs.declared.errors.OpenErr.{OpenErr}
 use Rattle.half_journal.specs.declared.errors.OpenErr.TheVariants as errors
 use Rattle.messages.specs.declared.request.Request.{Request}
+use Rattle.messages.specs.declared.request.Request.TheVariants as requests
 use Rattle.messages.specs.declared.reply.Reply.{Reply}
 use Rattle.user_dedup.specs.declared.command.Command.{Command}
-use Rattle.user_dedup.specs.Dedup.{Outcome}
-use Rattle.user_dedup.proofs.Growing.{Each, GrowsBy, IfCommand, AddsBy, AsksNoDelete, IsNoDelete, adds_no_delete, grows_then}
+use Rattle.user_dedup.specs.declared.command.Command.TheVariants as commands
+use Rattle.user_dedup.specs.declared.file_list.FileEntry.{FileEntry}
+use Rattle.user_dedup.specs.Cloud.{user_view}
+use Rattle.user_dedup.specs.Dedup.{Outcome, FullRoom, Ends as TakesOut, delete_outcome, by_room, unless_full}
+use Rattle.user_dedup.specs.Pages.{entry_at}
+use Rattle.user_dedup.proofs.Growing.{Each, GrowsBy, IfCommand, AddsBy, AsksNoDelete, IsNoDelete, adds_no_delete, ends_none, grows_then}
 use Rattle.user_dedup.specs.Exec.{Peer, MaySettleAs, Settles, Stays, IsCut, Exec, ExecTold, ExecUntold}
 use Rattle.local_link.specs.CloudServer.Serving.{ReopensAs}
 use Rattle.upload_job.specs.Upload.{FileVersion}
+use Rattle.kept_files.specs.Kept.{Keeps, key_of, AreHarmless}
+use Rattle.kept_files.proofs.Keeping.{keeps_still}
 use Rattle.upload_job.specs.Lanes as lanes
 use Rattle.lane_steps.specs.Runs.{Turn, Progress, LaneRun, lane_at, progress_after}
 use Rattle.rebuild.specs.declared.error.SkipWhy.{SkipWhy}
@@ -33,29 +42,26 @@ use Rattle.transcript.specs.declared.line.Line.{Line}
 use Rattle.session_model.specs.Vault.{Setting, Vault, Executes, OneGoes, served_at, lanes_of, with_peer, ExecutesAll}
 use Rattle.user_dedup.proofs.Owned.{contains_cases, contains_nothing, contains_here, contains_later}
 use Rattle.session_model.specs.Steps.{Moment, Execution, moment_of, turn_moment, target_moments, LaneStep, DropStep, FinishLanes, ListRun, ReopensUntold, VStep}
-use Rattle.session_model.specs.Kept.{Ends}
+use Rattle.session_model.specs.Kept.{Ends, paths_of}
 use Rattle.session_model.specs.Headline.{Begun, ComesTo, IsPartOf, event_of}
 use Rattle.session_model.proofs.Jobs.{asks_at}
 use Rattle.session_model.proofs.With.{with_here, same_other}
 
--- Each list that the cloud may settle as is one that it might have settled as before, and more commands, of which none is a Delete.
+-- Each list that the cloud may settle as is one that it might have settled as before, and more commands, each of which is such.
+abbrev pub GrowsAs : (Command → Type 0) → Peer → Peer → Type 0
+GrowsAs P p q = (list : List Command) → MaySettleAs q list → (before : List Command) × GrowsBy P before list × MaySettleAs p before
+
+-- .. none of which is a Delete
 abbrev pub Grows : Peer → Peer → Type 0
-Grows p q = (list : List Command) → MaySettleAs q list → (before : List Command) × GrowsBy IsNoDelete before list × MaySettleAs p before
+Grows p q = GrowsAs IsNoDelete p q
 
-just : (old new : List Command) → new ≡ old → GrowsBy IsNoDelete old new
-just old new e = ([], e ∙ sym (append-nil old), tt)
+-- the command takes no version of this key out
+abbrev pub Spares : UserId → Tag × Version → Command → Type 0
+Spares user key command = ¬ TakesOut user key command
 
-pub grows_in : (p q : Peer) → ((list : List Command) → MaySettleAs q list → MaySettleAs p list) → Grows p q
-grows_in p q fewer list settles = (list, just list list refl, fewer list settles)
-
-pub grows_same : (p q : Peer) → q ≡ p → Grows p q
-grows_same p q e = grows_in p q (λ list settles. subst (λ (x : Peer). MaySettleAs x list) e settles)
-
-pub grows_on : (p q r : Peer) → Grows p q → Grows q r → Grows p r
-grows_on p q r one two list settles =
-    let y = two list settles in
-    let x = one y.0 y.2 in
-    (x.0, grows_then IsNoDelete x.0 y.0 list x.1 y.1, x.2)
+-- .. each of which leaves the version
+abbrev pub GrowsBut : UserId → Tag × Version → Peer → Peer → Type 0
+GrowsBut user key p q = GrowsAs (Spares user key) p q
 
 nothing_pending : (p : Peer) (list : List Command) → p.pending ≡ None → MaySettleAs p list → list ≡ p.list
 nothing_pending p list is (inl same) = same
@@ -70,25 +76,82 @@ stays_in p q stays list (inr some) =
 pub settles_in : (p q : Peer) → Settles p q → (list : List Command) → MaySettleAs q list → MaySettleAs p list
 settles_in p q s list settles = subst (MaySettleAs p) (sym (nothing_pending q list s.pending settles)) s.list
 
-pending_grows : (l : List Command) (o : Option Command) (list : List Command) → IfCommand IsNoDelete o → IsSomeAnd o (λ command. list ≡ l ++ command ∷ []) → GrowsBy IsNoDelete l list
-pending_grows l None list quiet some = absurd some
-pending_grows l (Some command) list quiet some = (command ∷ [], some, (quiet, tt))
+module _ (P : Command → Type 0) where
+  just : (old new : List Command) → new ≡ old → GrowsBy P old new
+  just old new e = ([], e ∙ sym (append-nil old), tt)
 
-each_of : (o : Option Command) → IfCommand IsNoDelete o → Each IsNoDelete (option_to_list o)
-each_of None quiet = tt
-each_of (Some command) quiet = (quiet, tt)
+  pub in_as : (p q : Peer) → ((list : List Command) → MaySettleAs q list → MaySettleAs p list) → GrowsAs P p q
+  in_as p q fewer list settles = (list, just list list refl, fewer list settles)
+
+  pub same_as : (p q : Peer) → q ≡ p → GrowsAs P p q
+  same_as p q e = in_as p q (λ list settles. subst (λ (x : Peer). MaySettleAs x list) e settles)
+
+  pub on_as : (p q r : Peer) → GrowsAs P p q → GrowsAs P q r → GrowsAs P p r
+  on_as p q r one two list settles =
+      let y = two list settles in
+      let x = one y.0 y.2 in
+      (x.0, grows_then P x.0 y.0 list x.1 y.1, x.2)
+
+  pending_grows : (l : List Command) (o : Option Command) (list : List Command) → IfCommand P o → IsSomeAnd o (λ command. list ≡ l ++ command ∷ []) → GrowsBy P l list
+  pending_grows l None list quiet some = absurd some
+  pending_grows l (Some command) list quiet some = (command ∷ [], some, (quiet, tt))
+
+  each_of : (o : Option Command) → IfCommand P o → Each P (option_to_list o)
+  each_of None quiet = tt
+  each_of (Some command) quiet = (quiet, tt)
+
+  pub told_as : (serve : List Command → Request → Outcome) (p q : Peer) (request : Request) (reply : Reply) → AddsBy P serve request → ExecTold serve p request reply q → GrowsAs P p q
+  told_as serve p q request reply adds (inl a) list settles =
+      let added : List Command = option_to_list (serve a.before request).adds in
+      (a.before, (added, nothing_pending q list a.pending settles ∙ a.list, each_of (serve a.before request).adds (adds a.before)), a.settled)
+  told_as serve p q request reply adds (inr f) list settles = failed f.left settles
+    where
+      failed : Stays p q ⊎ IsCut serve p request q → MaySettleAs q list → (before : List Command) × GrowsBy P before list × MaySettleAs p before
+      failed (inl stays) settles = (list, just list list refl, stays_in p q stays list settles)
+      failed (inr cut) (inl same) = (q.list, just q.list list same, cut.list)
+      failed (inr cut) (inr some) =
+          (q.list, pending_grows q.list q.pending list (subst (IfCommand P) (sym cut.pending) (adds q.list)) some, cut.list)
+
+pub grows_in : (p q : Peer) → ((list : List Command) → MaySettleAs q list → MaySettleAs p list) → Grows p q
+grows_in p q fewer = in_as IsNoDelete p q fewer
+
+pub grows_same : (p q : Peer) → q ≡ p → Grows p q
+grows_same p q e = same_as IsNoDelete p q e
+
+pub grows_on : (p q r : Peer) → Grows p q → Grows q r → Grows p r
+grows_on p q r one two = on_as IsNoDelete p q r one two
 
 pub grows_told : (serve : List Command → Request → Outcome) (p q : Peer) (request : Request) (reply : Reply) → AddsBy IsNoDelete serve request → ExecTold serve p request reply q → Grows p q
-grows_told serve p q request reply adds (inl a) list settles =
-    let added : List Command = option_to_list (serve a.before request).adds in
-    (a.before, (added, nothing_pending q list a.pending settles ∙ a.list, each_of (serve a.before request).adds (adds a.before)), a.settled)
-grows_told serve p q request reply adds (inr f) list settles = failed f.left settles
-  where
-    failed : Stays p q ⊎ IsCut serve p request q → MaySettleAs q list → (before : List Command) × GrowsBy IsNoDelete before list × MaySettleAs p before
-    failed (inl stays) settles = (list, just list list refl, stays_in p q stays list settles)
-    failed (inr cut) (inl same) = (q.list, just q.list list same, cut.list)
-    failed (inr cut) (inr some) =
-        (q.list, pending_grows q.list q.pending list (subst (IfCommand IsNoDelete) (sym cut.pending) (adds q.list)) some, cut.list)
+grows_told serve p q request reply adds x = told_as IsNoDelete serve p q request reply adds x
+
+-- ---- a version that no command takes out
+
+module _ (user : UserId) (key : Tag × Version) where
+  each_spares : (more : List Command) → Each IsNoDelete more → Each (Spares user key) more
+  each_spares [] each = tt
+  each_spares (command ∷ more) each = (ends_none user key command each.0, each_spares more each.1)
+
+  -- what is no Delete takes none out
+  pub but_of : (p q : Peer) → Grows p q → GrowsBut user key p q
+  but_of p q grows list settles =
+      let x = grows list settles in
+      (x.0, (x.1.0, x.1.1, each_spares x.1.0 x.1.2), x.2)
+
+  harmless : (more : List Command) → Each (Spares user key) more → AreHarmless user key more
+  harmless [] each = All-nil (λ command. ¬ TakesOut user key command)
+  harmless (command ∷ more) each = All-cons (λ command. ¬ TakesOut user key command) command more each.0 (harmless more each.1)
+
+-- Where each list that the cloud may settle as keeps the version, so does each behind such commands.
+pub keeps_but : (shape : Shape) (c : ℕ) (v : FileVersion) (p q : Peer) → ((list : List Command) → MaySettleAs p list → Keeps shape c list v.user v.path v.number v.file)
+    → GrowsBut v.user (key_of shape v.path v.number) p q → (list : List Command) → MaySettleAs q list → Keeps shape c list v.user v.path v.number v.file
+keeps_but shape c v p q keeps grows list settles =
+    let x = grows list settles in
+    subst (λ (l : List Command). Keeps shape c l v.user v.path v.number v.file) (sym x.1.1)
+    (keeps_still shape c x.0 x.1.0 v.user v.path v.number v.file (harmless v.user (key_of shape v.path v.number) x.1.0 x.1.2) (keeps x.0 x.2))
+
+-- of the paths that the line names none but the version's own has its tag
+abbrev pub TagsApart : Shape → FileVersion → Event → Type 0
+TagsApart shape v event = (path : List ℕ) → Contains (paths_of event) path → tag shape path ≡ tag shape v.path → path ≡ v.path
 
 -- none of the turns asks a Delete
 abbrev pub AskNoDelete : {S : Type 0} → List (Turn S) → Type 0
@@ -195,28 +258,62 @@ module _ (s : Setting) (c : ℕ) (told : IsTrue (s.told c)) where
   grows_reopen (Err (errors.OtherStore found asked at)) p q r = absurd r
   grows_reopen (Err (errors.Damaged at byte)) p q r = absurd r
 
-  pub grows_step : (v : FileVersion) (old : Vault) (event : Event) (answers : List Line) (moments : List Moment) (new : Vault) → VStep s old event answers moments new → ¬ Ends c v event → Grows (old.peers c) (new.peers c)
-  grows_step v old (events.Upload user path version bytes) answers moments new x lasts = grows_same (old.peers c) (new.peers c) (ap (λ (f : ℕ → Peer). f c) x.2)
-  grows_step v old (events.Step job lane) answers moments new x lasts = grows_lane job lane.0 (lanes.request_at (lanes_of old.jobs job) lane.0) old answers moments new refl x
-  grows_step v old (events.Lose job lane) answers moments new x lasts = grows_same (old.peers c) (new.peers c) (ap (λ (v : Vault). v.peers c) x.2)
-  grows_step v old (events.Drop job lane) answers moments new x lasts = grows_drop job lane.0 (lanes.request_at (lanes_of old.jobs job) lane.0) old answers moments new refl x
-  grows_step v old (events.Finish job) answers moments new x lasts = grows_finish job _ old x.0 moments new x.1
-  grows_step v old (events.Get user path version clouds) answers moments new x lasts = grows_in (old.peers c) (new.peers c) (by_read (x.1.read.read c).0)
+  -- ---- a deletion
+
+  -- a deletion adds itself, or nothing
+  adds_deletion : (P : Command → Type 0) (cloud : ℕ) (user : UserId) (t : Tag) (version : Version) → P (commands.Delete user t version) → AddsBy P (served_at s cloud) (requests.Delete user t version)
+  adds_deletion P cloud user t version is list = by_entry (entry_at (user_view s.shape list user).files (t, version))
+    where
+      by_full : (entry : FileEntry) (room : Option FullRoom) → IfCommand P (by_room (delete_outcome (Some entry) (commands.Delete user t version)) room).adds
+      by_full entry None = is
+      by_full entry (Some full) = tt
+
+      by_entry : (entry : Option FileEntry) → IfCommand P (unless_full (full_for s.shape s.rooms list) (delete_outcome entry (commands.Delete user t version))).adds
+      by_entry None = tt
+      by_entry (Some entry) = by_full entry (full_for s.shape s.rooms list (commands.Delete user t version))
+
+  grows_deleted : (owner : UserId) (key : Tag × Version) (cloud : ℕ) (user : UserId) (t : Tag) (version : Version) (old new : ℕ → Peer) (reply : Reply)
+      → (c ≡ cloud → Spares owner key (commands.Delete user t version)) → Executes s cloud old (requests.Delete user t version) reply new → GrowsBut owner key (old c) (new c)
+  grows_deleted owner key cloud user t version old new reply spares x = elim (cases_eq c cloud) [
+    | inl same ↦ subst (λ (n : ℕ). GrowsBut owner key (old n) (new n)) (sym same)
+        (told_as (Spares owner key) (served_at s cloud) (old cloud) (new cloud) (requests.Delete user t version) reply
+        (adds_deletion (Spares owner key) cloud user t version (spares same))
+        (subst (λ (b : Bool). MatchBool b (ExecTold (served_at s cloud) (old cloud) (requests.Delete user t version) reply (new cloud)) (ExecUntold s.shape (old cloud) (requests.Delete user t version) reply (new cloud)))
+        (subst (λ (n : ℕ). IsTrue (s.told n)) same told) x.does.does))
+    | inr ne ↦ same_as (Spares owner key) (old c) (new c) (x.others c ne)
+  ]
+
+  -- ---- every line
+
+  but : (v : FileVersion) (old new : Vault) → Grows (old.peers c) (new.peers c) → GrowsBut v.user (key_of s.shape v.path v.number) (old.peers c) (new.peers c)
+  but v old new grows = but_of v.user (key_of s.shape v.path v.number) (old.peers c) (new.peers c) grows
+
+  pub grows_step : (v : FileVersion) (old : Vault) (event : Event) (answers : List Line) (moments : List Moment) (new : Vault) → VStep s old event answers moments new → TagsApart s.shape v event → ¬ Ends c v event
+      → GrowsBut v.user (key_of s.shape v.path v.number) (old.peers c) (new.peers c)
+  grows_step v old (events.Upload user path version bytes) answers moments new x apart lasts = but v old new (grows_same (old.peers c) (new.peers c) (ap (λ (f : ℕ → Peer). f c) x.2))
+  grows_step v old (events.Step job lane) answers moments new x apart lasts = but v old new (grows_lane job lane.0 (lanes.request_at (lanes_of old.jobs job) lane.0) old answers moments new refl x)
+  grows_step v old (events.Lose job lane) answers moments new x apart lasts = but v old new (grows_same (old.peers c) (new.peers c) (ap (λ (w : Vault). w.peers c) x.2))
+  grows_step v old (events.Drop job lane) answers moments new x apart lasts = but v old new (grows_drop job lane.0 (lanes.request_at (lanes_of old.jobs job) lane.0) old answers moments new refl x)
+  grows_step v old (events.Finish job) answers moments new x apart lasts = but v old new (grows_finish job _ old x.0 moments new x.1)
+  grows_step v old (events.Get user path version clouds) answers moments new x apart lasts = but v old new (grows_in (old.peers c) (new.peers c) (by_read (x.1.read.read c).0))
     where
       by_read : Stays (old.peers c) (new.peers c) ⊎ Settles (old.peers c) (new.peers c) → (list : List Command) → MaySettleAs (new.peers c) list → MaySettleAs (old.peers c) list
       by_read (inl stays) = stays_in (old.peers c) (new.peers c) stays
       by_read (inr settles) = settles_in (old.peers c) (new.peers c) settles
-  grows_step v old (events.Arm cloud calls keep) answers moments new x lasts =
-      grows_one cloud.0 _ old.peers new.peers x.0 (λ same armed. grows_in (old.peers cloud.0) (new.peers cloud.0) (stays_in (old.peers cloud.0) (new.peers cloud.0) armed.stays))
-  grows_step v old (events.Restart cloud) answers moments new x lasts =
-      grows_one cloud.0 _ old.peers new.peers x.1 (λ same r. grows_reopen r.0 (old.peers cloud.0) (new.peers cloud.0)
-      (subst (λ (b : Bool). MatchBool b (ReopensAs true (old.peers cloud.0) (new.peers cloud.0) r.0) (ReopensUntold r.0 (old.peers cloud.0) (new.peers cloud.0))) (subst (λ (n : ℕ). IsTrue (s.told n)) same told) r.2))
-  grows_step v old (events.List user cloud) answers moments new x lasts = grows_list user cloud.0 None old.peers x.0 x.1 new.peers x.2
-  grows_step v old (events.Replace cloud) answers moments new x lasts = grows_one cloud.0 _ old.peers new.peers x.1 (λ same r. absurd (lasts (sym same)))
-  grows_step v old (events.Rebuild user target from) answers moments new x lasts = elim (cases_eq c target.0) [
+  grows_step v old (events.Arm cloud calls keep) answers moments new x apart lasts =
+      but v old new (grows_one cloud.0 _ old.peers new.peers x.0 (λ same armed. grows_in (old.peers cloud.0) (new.peers cloud.0) (stays_in (old.peers cloud.0) (new.peers cloud.0) armed.stays)))
+  grows_step v old (events.Restart cloud) answers moments new x apart lasts =
+      but v old new (grows_one cloud.0 _ old.peers new.peers x.1 (λ same r. grows_reopen r.0 (old.peers cloud.0) (new.peers cloud.0)
+      (subst (λ (b : Bool). MatchBool b (ReopensAs true (old.peers cloud.0) (new.peers cloud.0) r.0) (ReopensUntold r.0 (old.peers cloud.0) (new.peers cloud.0))) (subst (λ (n : ℕ). IsTrue (s.told n)) same told) r.2)))
+  grows_step v old (events.List user cloud) answers moments new x apart lasts = but v old new (grows_list user cloud.0 None old.peers x.0 x.1 new.peers x.2)
+  grows_step v old (events.Replace cloud) answers moments new x apart lasts = but v old new (grows_one cloud.0 _ old.peers new.peers x.1 (λ same r. absurd (lasts (sym same))))
+  grows_step v old (events.Rebuild user target from) answers moments new x apart lasts = but v old new (elim (cases_eq c target.0) [
     | inl same ↦ grows_all (old.peers c) x.0.turns (new.peers c) (λ t has. own_no_delete s.shape user target.0 x.0.own.0 x.0.turns t x.0.own.1 has) (subst (λ (n : ℕ). ExecutesAll s n (old.peers n) x.0.turns (new.peers n)) (sym same) x.0.executes)
     | inr ne ↦ grows_read (old.peers c) (new.peers c) (x.0.leaves.read c ne).0
-  ]
+  ])
+  grows_step v old (events.Delete user path version cloud) answers moments new x apart lasts =
+      grows_deleted v.user (key_of s.shape v.path v.number) cloud.0 user (key_of s.shape path version).0 version old.peers new.peers x.0.0
+      (λ same out. lasts (sym same, out.0, apart path (contains_here path []) (ap (λ (k : Tag × Version). k.0.0) out.1), ap (λ (k : Tag × Version). k.1) out.1)) x.0.2
 
   -- ---- at each moment of a line
 
@@ -300,14 +397,20 @@ module _ (s : Setting) (c : ℕ) (told : IsTrue (s.told c)) where
         | inl same ↦ grows_same (old.peers c) (m.peers c) (ap (λ (n : Moment). n.peers c) (sym same))
         | inr later ↦ grows_rebuild old.peers target.0 x.0.turns new.peers (λ t among. own_no_delete s.shape user target.0 x.0.own.0 x.0.turns t x.0.own.1 among) x.0.executes m later
       ]
+  grows_at old (events.Delete user path version cloud) answers moments new x = grows_alone old.peers _ moments x.0.5
 
   pub grows_last : (v : FileVersion) (between : Vault) (begun : Option Begun) (last : ℕ → Peer) → MatchOption begun (last ≡ between.peers) (λ b. IsPartOf s between b last)
-      → ((event : Event) → Contains (event_of begun) event → ¬ Ends c v event) → Grows (between.peers c) (last c)
-  grows_last v between None last x lasts = grows_same (between.peers c) (last c) (ap (λ (f : ℕ → Peer). f c) x)
-  grows_last v between (Some b) last x lasts = by_rest x.1 x.3 x.4
+      → ((event : Event) → Contains (event_of begun) event → TagsApart s.shape v event) → ((event : Event) → Contains (event_of begun) event → ¬ Ends c v event)
+      → GrowsBut v.user (key_of s.shape v.path v.number) (between.peers c) (last c)
+  grows_last v between None last x apart lasts = same_as (Spares v.user (key_of s.shape v.path v.number)) (between.peers c) (last c) (ap (λ (f : ℕ → Peer). f c) x)
+  grows_last v between (Some b) last x apart lasts = by_rest x.1 x.3 x.4
     where
-      by_rest : (rest : List Moment) → VStep s between b.event x.0 (b.moments ++ rest) x.2 → ComesTo rest x.2.peers last → Grows (between.peers c) (last c)
-      by_rest [] step comes = grows_on (between.peers c) (x.2.peers c) (last c) (grows_step v between b.event x.0 (b.moments ++ []) x.2 step (lasts b.event (contains_here b.event []))) (grows_same (x.2.peers c) (last c) (ap (λ (f : ℕ → Peer). f c) comes))
+      by_rest : (rest : List Moment) → VStep s between b.event x.0 (b.moments ++ rest) x.2 → ComesTo rest x.2.peers last → GrowsBut v.user (key_of s.shape v.path v.number) (between.peers c) (last c)
+      by_rest [] step comes =
+          on_as (Spares v.user (key_of s.shape v.path v.number)) (between.peers c) (x.2.peers c) (last c)
+          (grows_step v between b.event x.0 (b.moments ++ []) x.2 step (apart b.event (contains_here b.event [])) (lasts b.event (contains_here b.event [])))
+          (same_as (Spares v.user (key_of s.shape v.path v.number)) (x.2.peers c) (last c) (ap (λ (f : ℕ → Peer). f c) comes))
       by_rest (m ∷ rest) step comes =
-          grows_on (between.peers c) (m.peers c) (last c) (grows_at between b.event x.0 (b.moments ++ m ∷ rest) x.2 step m (Contains-append_right b.moments (m ∷ rest) m (contains_here m rest)))
-          (grows_same (m.peers c) (last c) (ap (λ (f : ℕ → Peer). f c) comes))
+          but_of v.user (key_of s.shape v.path v.number) (between.peers c) (last c)
+          (grows_on (between.peers c) (m.peers c) (last c) (grows_at between b.event x.0 (b.moments ++ m ∷ rest) x.2 step m (Contains-append_right b.moments (m ∷ rest) m (contains_here m rest)))
+          (grows_same (m.peers c) (last c) (ap (λ (f : ℕ → Peer). f c) comes)))

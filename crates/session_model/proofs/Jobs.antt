@@ -129,6 +129,7 @@ module _ (s : Setting) where
   brings_step old (events.List user cloud) answers moments new vs x b = none_more new.jobs vs (stays s.shape old.jobs new.jobs vs x.5 b)
   brings_step old (events.Replace cloud) answers moments new vs x b = none_more new.jobs vs (stays s.shape old.jobs new.jobs vs x.4 b)
   brings_step old (events.Rebuild user target from) answers moments new vs x b = none_more new.jobs vs (stays s.shape old.jobs new.jobs vs x.1 b)
+  brings_step old (events.Delete user path version cloud) answers moments new vs x b = none_more new.jobs vs (stays s.shape old.jobs new.jobs vs x.1 b)
 
   pub brings_turns : (history : List Answered) (old new : Vault) (vs : List FileVersion) → Turns s old history new → Brings s.shape old.jobs vs → Brings s.shape new.jobs (vs ++ uploads (script_of history))
   brings_turns [] old new vs t b = none_more new.jobs vs (stays s.shape old.jobs new.jobs vs (ap (λ (v : Vault). v.jobs) t) b)

@@ -9,6 +9,7 @@ pub mod Growing
 pub mod Jobs
 pub mod Lines
 pub mod OfLocalLink
+pub mod Names
 pub mod Parts
 pub mod Private
 pub mod Ranged

@@ -14,6 +14,7 @@ use Rattle.half_journal.specs.declared.errors.OpenErr.{OpenErr}
 use Rattle.half_journal.specs.declared.errors.OpenErr.TheVariants as errors
 use Rattle.messages.specs.declared.request.Request.{Request}
 use Rattle.messages.specs.declared.reply.Reply.{Reply}
+use Rattle.messages.specs.declared.reply.Reply.TheVariants as replies
 use Rattle.user_dedup.specs.declared.command.Command.{Command}
 use Rattle.user_dedup.specs.Cloud.{fingerprint}
 use Rattle.user_dedup.specs.Exec.{Peer, MaySettleAs, ExecTold, ExecUntold}
@@ -40,7 +41,7 @@ use Rattle.transcript.specs.declared.line.Line.{Line}
 use Rattle.transcript.specs.declared.line.Line.TheVariants as lines
 use Rattle.transcript.specs.declared.news.News.TheVariants as news
 use Rattle.session_model.specs.Vault.{Setting, Vault, Executes, served_at, lanes_of}
-use Rattle.session_model.specs.Steps.{Moment, moment_of, as_told, cloud_no, step_line, lose_lines, stored_line, all_done, LaneStep, DropStep, FinishLanes, IsGetLine, entry_line, list_lines, IsRestartLine, RestartStep, IsReplaceLine, skip_word, skip_line, AreRebuildLines, VStep}
+use Rattle.session_model.specs.Steps.{Moment, moment_of, as_told, cloud_no, step_line, lose_lines, stored_line, all_done, LaneStep, DropStep, FinishLanes, IsGetLine, entry_line, list_lines, IsRestartLine, RestartStep, IsReplaceLine, skip_word, skip_line, AreRebuildLines, IsDeleteLine, VStep}
 use Rattle.session_model.proofs.Growing.{Grows, grows_run, grows_finish}
 use Rattle.session_model.proofs.Jobs.{AreOf, Brings, job_of, work_at, asks_at, lane_moved}
 use Rattle.session_model.proofs.Committed.{IsUpload, executed_keeps}
@@ -113,6 +114,26 @@ not_rebuilt user target (Ok rebuilt) answers j c are has =
       | inr later ↦ not_skipped rebuilt.skipped j c later
     ]
 not_rebuilt user target (Err e) answers j c are has = not_one (lines.Refused are.0) answers j c are.2 (λ q. cc) has
+
+not_deleted : (cloud : ℕ) (reply : Reply) (line : Line) (j c : ℕ) → IsDeleteLine cloud reply line → line ≡ lines.Step j (cloud_no c) news.Committed → ⊥
+not_deleted cloud replies.Deleted line j c is e = let f : lines.Deleted (cloud_no cloud) ≡ lines.Step j (cloud_no c) news.Committed = sym is ∙ e in cc
+not_deleted cloud replies.Missing line j c is e = let f : lines.Missing (cloud_no cloud) ≡ lines.Step j (cloud_no c) news.Committed = sym is ∙ e in cc
+not_deleted cloud (replies.Full room used need limit) line j c is e = let f : lines.Full (cloud_no cloud) room used need limit ≡ lines.Step j (cloud_no c) news.Committed = sym is ∙ e in cc
+not_deleted cloud replies.Fault line j c is e = let f : lines.Fault (cloud_no cloud) ≡ lines.Step j (cloud_no c) news.Committed = sym is ∙ e in cc
+not_deleted cloud (replies.Damaged at byte) line j c is e = let f : lines.Damaged (cloud_no cloud) at byte ≡ lines.Step j (cloud_no c) news.Committed = sym is ∙ e in cc
+not_deleted cloud (replies.Rotten named found) line j c is e = let f : lines.Rotten (cloud_no cloud) named found ≡ lines.Step j (cloud_no c) news.Committed = sym is ∙ e in cc
+not_deleted cloud (replies.Hello n k own format) line j c is e = is
+not_deleted cloud (replies.Known flags) line j c is e = is
+not_deleted cloud (replies.Stored new) line j c is e = is
+not_deleted cloud replies.Committed line j c is e = is
+not_deleted cloud replies.Exists line j c is e = is
+not_deleted cloud (replies.Lacking place) line j c is e = is
+not_deleted cloud (replies.Recipe bytes) line j c is e = is
+not_deleted cloud (replies.Shares shares) line j c is e = is
+not_deleted cloud (replies.NotYours place) line j c is e = is
+not_deleted cloud (replies.Entries entries) line j c is e = is
+not_deleted cloud (replies.Malformed at) line j c is e = is
+not_deleted cloud replies.NoMemory line j c is e = is
 
 -- the strings that the cloud has at these moments and behind them are known
 pub record Sees (Known : List ℕ → Type 0) (c : ℕ) (moments : List Moment) (new : ℕ → Peer) : Type 0 where
@@ -279,3 +300,5 @@ module _ (s : Setting) (c : ℕ) (told : IsTrue (s.told c)) (v : FileVersion) (g
     commit_step old (events.Replace cloud) answers moments new x b has sees =
         absurd (not_one x.0 answers j c x.2 (λ e. subst (IsReplaceLine (s.told cloud.0) cloud.0 (old.peers cloud.0).faults (new.peers cloud.0).faults) e x.1.goes.says) has)
     commit_step old (events.Rebuild user target from) answers moments new x b has sees = absurd (not_rebuilt user target.0 x.0.result answers j c x.0.lines_are has)
+    commit_step old (events.Delete user path version cloud) answers moments new x b has sees =
+        absurd (not_one x.0.1 answers j c x.0.4 (not_deleted cloud.0 x.0.0 x.0.1 j c x.0.3) has)

@@ -184,6 +184,8 @@ module _ (s : Setting) where
         | inl same ↦ private_one (record { peers = old.peers; event = None }) m tt (subst (Contains (record { peers = old.peers; event = None } ∷ [])) same (contains_here (record { peers = old.peers; event = None }) []))
         | inr later ↦ private_target old.peers target.0 (old.peers target.0) x.0.turns (new.peers target.0) x.0.executes m later
       ]
+  private_step old (events.Delete user path version cloud) answers moments new x m has =
+      private_one _ m (private_exec cloud.0 old.peers new.peers _ x.0.0 x.0.2) (subst (λ (l : List Moment). Contains l m) x.0.5 has)
 
   private_turns : (history : List Answered) (old new : Vault) → Turns s old history new → (m : Moment) → Contains (moments_of history) m → IsPrivate s m
   private_turns [] old new t m has = absurd (contains_nothing m has)

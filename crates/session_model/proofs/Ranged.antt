@@ -86,6 +86,7 @@ upload_ranged shape jobs (events.Arm cloud calls keep) fits typed v has = absurd
 upload_ranged shape jobs (events.Restart cloud) fits typed v has = absurd (contains_nothing v has)
 upload_ranged shape jobs (events.Replace cloud) fits typed v has = absurd (contains_nothing v has)
 upload_ranged shape jobs (events.Rebuild user target from) fits typed v has = absurd (contains_nothing v has)
+upload_ranged shape jobs (events.Delete user path version cloud) fits typed v has = absurd (contains_nothing v has)
 
 pub are_ranged : (shape : Shape) (jobs : ℕ) (script : List Event) → AreLines shape jobs script → (v : FileVersion) → Contains (uploads script) v → IsRanged v
 are_ranged shape jobs [] lines v has = absurd (contains_nothing v has)

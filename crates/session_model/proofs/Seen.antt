@@ -65,6 +65,7 @@ module _ (s : Setting) where
   first_step old (events.Replace cloud) answers moments new x = first_quiet old.peers new.peers moments x.3
   first_step old (events.Rebuild user target from) answers moments new x =
       inr (record { peers = old.peers; event = None }, target_moments old.peers target.0 x.0.turns (new.peers target.0), x.0.moments_are, refl)
+  first_step old (events.Delete user path version cloud) answers moments new x = inr (_, [], x.0.5, refl)
 
 -- ---- strings
 

@@ -24,6 +24,7 @@ use Rattle.rebuild.proofs.Telling.{lanes_none}
 use Rattle.upload_job.specs.declared.news.LaneNews.TheVariants as lane_news
 use Rattle.upload_job.specs.Lanes.{with_state}
 use Rattle.lane_steps.specs.Runs.{moved, lane_at}
+use Rattle.kept_files.specs.Kept.{key_of}
 use Rattle.local_link.specs.Calls.{Armed}
 use Rattle.session.specs.Spelling.{Fits, AreClouds}
 use Rattle.session.specs.declared.event.Event.{Event}
@@ -286,6 +287,19 @@ module _ (s : Setting) (old : Vault) where
       may c (inl same) = subst (λ (n : ℕ). MayRead (old.peers n) (new n)) (sym same) (subst (MayRead (old.peers cloud)) (sym (put_here old.peers cloud (fault_of (old.peers cloud)))) (may_fault (old.peers cloud)))
       may c (inr ne) = subst (MayRead (old.peers c)) (sym (put_other old.peers cloud (fault_of (old.peers cloud)) c ne)) (may_stay (old.peers c))
 
+  -- the deletion fails
+  part_of_delete : (user : UserId) (path : List ℕ) (version : Version) (cloud : CloudNo) → IsUnmoved s old (events.Delete user path version cloud)
+  part_of_delete user path version cloud = (
+    lines.Fault cloud ∷ [],
+    executed old.peers cloud.0 request replies.Fault ∷ [],
+    record { peers = put old.peers cloud.0 (fault_of (old.peers cloud.0)); jobs = old.jobs },
+    ((replies.Fault, lines.Fault cloud, fails s cloud.0 old.peers request, refl, refl, refl), refl),
+    refl,
+  )
+    where
+      request : Request
+      request = requests.Delete user (key_of s.shape path version).0 version
+
   pub unmoved : (jobs : ℕ) (event : Event) → Fits s.shape jobs event → IsUnmoved s old event
   unmoved jobs (events.Upload user path version bytes) fits = part_of_upload user path version bytes
   unmoved jobs (events.Step job lane) fits = part_of_step job lane
@@ -298,3 +312,4 @@ module _ (s : Setting) (old : Vault) where
   unmoved jobs (events.List user cloud) fits = part_of_list user cloud
   unmoved jobs (events.Replace cloud) fits = part_of_replace cloud
   unmoved jobs (events.Rebuild user target from) fits = part_of_rebuild_begun user target from fits.1.0 fits.1.1
+  unmoved jobs (events.Delete user path version cloud) fits = part_of_delete user path version cloud

@@ -27,7 +27,7 @@ use Rattle.transcript.specs.declared.line.Line.TheVariants as lines
 use Rattle.session_model.specs.Vault.{Setting, Vault, opening}
 use Rattle.session_model.specs.Steps.{Moment, VStep}
 use Rattle.session_model.specs.Run.{Answered, Turns, script_of, moments_of, answers_of, IsListIn}
-use Rattle.session_model.specs.Kept.{Ends, Kept, Clash}
+use Rattle.session_model.specs.Kept.{Ends, Kept, Clash, NamesClash}
 
 -- a line that was begun and not answered: what has passed of it
 pub record Begun : Type 0 where
@@ -82,9 +82,9 @@ due run = (if run.opened then lines.Opened run.setting.shape ∷ [] else []) ++ 
 
 -- ---- acknowledged versions
 
--- two different strings that the session dispersed to one cloud share a SHA-256
+-- two different strings that the session dispersed to one cloud share a SHA-256, or two different name packages do
 abbrev pub Clashes : Session → Type 0
-Clashes run = Clash run.setting.shape (script_in run) (moments_in run) run.last
+Clashes run = Clash run.setting.shape (script_in run) (moments_in run) run.last ⊎ NamesClash run.setting.shape (script_in run)
 
 -- the file's bytes, or a fault of one of the clouds, whose count rose at this line
 abbrev pub GivesVersion : List ℕ → FileVersion → Answered → List Line → Type 0
@@ -169,6 +169,8 @@ IsOwnReply (replies.Stored new) = Unit {0}
 IsOwnReply replies.Committed = Unit {0}
 IsOwnReply replies.Exists = Unit {0}
 IsOwnReply (replies.Lacking place) = Unit {0}
+IsOwnReply replies.Deleted = Unit {0}
+IsOwnReply replies.Missing = Unit {0}
 IsOwnReply reply = ⊥
 
 -- the reply by the asking user's view, with no string of anyone at hand

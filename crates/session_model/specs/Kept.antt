@@ -1,7 +1,8 @@
--- Which versions of files were acknowledged, and when two strings clash.
+-- Which versions of files were acknowledged, and when two strings or two names clash.
 use Rattle.std.specs.Prelude.{◌≡◌, ◌≢◌, ℕ, ◌+◌, ◌<◌, ◌⊎◌, IsTrue, List, [], ◌∷◌, reverse, slice_get, Some}
 use Rattle.std.specs.List.{Contains, flat_map}
 use Rattle.cd_base.specs.declared.shape.Shape.{Shape}
+use Rattle.caont_rs.specs.Package.{package_of, tag}
 use Rattle.user_dedup.specs.Cloud.{fingerprint, strings_in}
 use Rattle.user_dedup.specs.Exec.{Peer}
 use Rattle.upload_job.specs.Upload.{FileVersion, shares_for}
@@ -28,6 +29,7 @@ upload_of (events.Restart cloud) = []
 upload_of (events.List user cloud) = []
 upload_of (events.Replace cloud) = []
 upload_of (events.Rebuild user target from) = []
+upload_of (events.Delete user path version cloud) = []
 
 -- the versions of the jobs, in order
 abbrev pub uploads : List Event → List FileVersion
@@ -42,9 +44,12 @@ abbrev pub Commits : List Event → ℕ → FileVersion → List Line → Type 0
 Commits script cloud v answers =
     (job : ℕ) × IsJobOf script job v × Contains answers (lines.Step job (cloud_no cloud) news.Committed)
 
--- The line ends what the cloud keeps: the cloud is replaced, whatever is answered.
+-- The line ends what the cloud keeps of the version: the cloud is replaced, or the version is deleted there, whatever is
+-- answered.
 abbrev pub Ends : ℕ → FileVersion → Event → Type 0
 Ends cloud v (events.Replace replaced) = replaced.0 ≡ cloud
+Ends cloud v (events.Delete user path version from) =
+    (from.0 ≡ cloud) × (user ≡ v.user) × (path ≡ v.path) × (version ≡ v.number)
 Ends cloud v event = ⊥
 
 -- The answer says that the cloud was rebuilt for the version's user, and that the version wasn't skipped, from clouds that each
@@ -87,3 +92,23 @@ pub record Clash (shape : Shape) (script : List Event) (moments : List Moment) (
   pub second : IsDispersed shape script moments last cloud other
   pub different : one ≢ other
   pub same : fingerprint one ≡ fingerprint other
+
+-- the path that a line names, if it names one
+abbrev pub paths_of : Event → List (List ℕ)
+paths_of (events.Upload user path version bytes) = path ∷ []
+paths_of (events.Get user path version clouds) = path ∷ []
+paths_of (events.Delete user path version cloud) = path ∷ []
+paths_of event = []
+
+-- a line of the script names the path
+abbrev pub NamesPath : List Event → List ℕ → Type 0
+NamesPath script path = Contains (flat_map paths_of script) path
+
+-- two different name packages of the script's paths share a SHA-256
+pub record NamesClash (shape : Shape) (script : List Event) : Type 0 where
+  pub one : List ℕ
+  pub other : List ℕ
+  pub first : NamesPath script one
+  pub second : NamesPath script other
+  pub different : package_of shape one ≢ package_of shape other
+  pub same : tag shape one ≡ tag shape other

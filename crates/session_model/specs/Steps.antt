@@ -317,6 +317,25 @@ pub record ReplaceStep (s : Setting) (cloud : ℕ) (line : Line) (old new : Peer
   pub armings : new.armings ≡ old.armings
   pub says : IsReplaceLine (s.told cloud) cloud old.faults new.faults line
 
+-- ---- a deletion
+
+-- what is said of a deletion, by the cloud's reply
+abbrev pub IsDeleteLine : ℕ → Reply → Line → Type 0
+IsDeleteLine cloud replies.Deleted line = line ≡ lines.Deleted (cloud_no cloud)
+IsDeleteLine cloud replies.Missing line = line ≡ lines.Missing (cloud_no cloud)
+IsDeleteLine cloud (replies.Full room used need limit) line = line ≡ lines.Full (cloud_no cloud) room used need limit
+IsDeleteLine cloud replies.Fault line = line ≡ lines.Fault (cloud_no cloud)
+IsDeleteLine cloud (replies.Damaged at byte) line = line ≡ lines.Damaged (cloud_no cloud) at byte
+IsDeleteLine cloud (replies.Rotten named found) line = line ≡ lines.Rotten (cloud_no cloud) named found
+IsDeleteLine cloud reply line = ⊥
+
+-- The cloud executes the deletion.
+abbrev pub DeleteStep : Setting → UserId → List ℕ → Version → ℕ → (ℕ → Peer) → List Line → List Moment → (ℕ → Peer) → Type 0
+DeleteStep s user path version cloud old answers moments new =
+    let request = requests.Delete user (key_of s.shape path version).0 version in
+    (reply : Reply) × (line : Line) × Executes s cloud old request reply new
+    × IsDeleteLine cloud reply line × (answers ≡ line ∷ []) × (moments ≡ executed old cloud request reply ∷ [])
+
 -- ---- a rebuild
 
 abbrev pub skip_word : SkipWhy → SkipWord
@@ -433,3 +452,5 @@ VStep s old (events.Replace cloud) answers moments new =
     × (answers ≡ line ∷ []) × (moments ≡ quiet old.peers) × (new.jobs ≡ old.jobs)
 VStep s old (events.Rebuild user target from) answers moments new =
     RebuildStep s user target.0 from old.peers answers moments new.peers × (new.jobs ≡ old.jobs)
+VStep s old (events.Delete user path version cloud) answers moments new =
+    DeleteStep s user path version cloud.0 old.peers answers moments new.peers × (new.jobs ≡ old.jobs)

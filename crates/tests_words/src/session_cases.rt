@@ -131,7 +131,21 @@ fn wrong_choices(rt: HostRuntime) {
     assert!(rt; are_wrong(rt.alloc(), 0, &rows));
 }
 
-// An event's fields as numbers: a text's length, and the last of some clouds.
+#[test]
+fn wrong_deletions(rt: HostRuntime) {
+    let rows: [Row; 7] = [
+        (b"deletes 7 61 1 0", 0, Some(b'd')),
+        (b"delete 4294967296 61 1 0", 7, Some(b'4')),
+        (b"delete 7 6100 1 0", 9, Some(b'6')),
+        (b"delete 7 61 -1 0", 12, Some(b'-')),
+        (b"delete 7 61 1", 13, None),
+        (b"delete 7 61 1 4", 14, Some(b'4')),
+        (b"delete 7 61 1 0 0", 15, Some(b' ')),
+    ];
+    assert!(rt; are_wrong(rt.alloc(), 0, &rows));
+}
+
+// An event's fields as numbers: a text's length, the last of some clouds, and a deletion's cloud and 1,000.
 fn numbers(event: &Event) -> [u64; 4] {
     match event {
         Event::Upload {
@@ -167,6 +181,17 @@ fn numbers(event: &Event) -> [u64; 4] {
         Event::Rebuild { user, target, from } => {
             [9, user.0 as u64, target.0 as u64, last(from) as u64]
         }
+        Event::Delete {
+            user,
+            path,
+            version,
+            cloud,
+        } => [
+            user.0 as u64,
+            path.len() as u64,
+            version.0,
+            cloud.0 as u64 + 1_000,
+        ],
     }
 }
 
@@ -192,7 +217,7 @@ fn is_event(alloc: Global, line: &[u8], wanted: [u64; 4]) -> bool {
 
 #[test]
 fn events(rt: HostRuntime) {
-    let rows: [Read; 14] = [
+    let rows: [Read; 15] = [
         (
             b"upload 7 6162 18446744073709551615 410a",
             [7, 2, u64::MAX, 2],
@@ -210,6 +235,7 @@ fn events(rt: HostRuntime) {
         (b"restart 0", [7, 0, 0, 0]),
         (b"replace 2", [8, 2, 0, 0]),
         (b"rebuild 7 2 0,1,3", [9, 7, 2, 3]),
+        (b"delete 7 6162 3 2", [7, 2, 3, 1_002]),
     ];
     for (line, wanted) in &rows {
         assert!(rt; is_event(rt.alloc(), line, *wanted));
