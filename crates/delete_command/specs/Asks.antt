@@ -4,7 +4,7 @@ use Rattle.cd_base.specs.declared.ids.CloudNo.{CloudNo}
 use Rattle.cd_edges.specs.Ports.{Telling, OthersStay}
 use Rattle.ports_link.specs.Exchange.{Replied, Broke}
 use Rattle.transcript.specs.declared.line.Line.{Line}
-use Rattle.delete_command.specs.Lines.{HasLine}
+use Rattle.deletions.specs.Replies.{HasLine}
 
 -- The frame of the request was sent on a port, and this is the content of the first frame that was to come there, just
 -- which came, or an empty one where none was to come.

@@ -9,9 +9,10 @@ ghost use Rattle.ports_link.specs.Hellos.{ports_of};
 ghost use Rattle.delete_command.specs.Asks.{Hears};
 ghost use Rattle.delete_command.specs.Steps.{IfLost, OneWent, Went, both as both_of};
 
-use crate::lines::{is_gone, line_of};
+use crate::lines::is_gone;
 use cd_base::{Bytes, CloudNo, NoMemory};
 use cd_edges::{Failed, Ports};
+use deletions::line_of;
 use frames::ReplyBuf;
 use ports_link::exchange;
 use std::alloc::Global;

@@ -1,20 +1,15 @@
 //! A deletion at the clouds at some addresses.
 
-ghost use Rattle.std.specs.Prelude.{◌≡◌, ◌≤◌, [], length, IfOk, IsTrue};
+ghost use Rattle.std.specs.Prelude.{◌≡◌, ◌≤◌, [], length, IsTrue};
 ghost use Rattle.cd_base.specs.Limits.{IsPath};
-ghost use Rattle.caont_rs.specs.Package.{tag};
-ghost use Rattle.frames.specs.Frames.{IsContent};
-ghost use Rattle.messages.specs.declared.request.Request.TheVariants as requests;
-ghost use Rattle.messages.specs.Requests.{request_bytes};
 ghost use Rattle.ports_link.specs.Dialled.{OnlyDialled};
 ghost use Rattle.delete_command.specs.Steps.{Carries, of_asked};
 
 use crate::asking::{Halt, ask_each};
-use caont_rs::tag_of;
-use cd_base::{Bytes, NoMemory, Shape, UserId, Version};
+use cd_base::{Bytes, NoMemory, UserId, Version};
 use cd_edges::Ports;
+use deletions::delete_request;
 use frames::ReplyBuf;
-use messages::Request;
 use ports_link::{Asked, MeetErr, Refused, meet_all};
 use std::alloc::Global;
 
@@ -31,25 +26,6 @@ pub enum DeleteErr {
     Lost,
     /// Memory ran out.
     NoMemory,
-}
-
-// The content of the Delete of a version.
-fn delete_request(
-    alloc: Global,
-    shape: Shape,
-    user: UserId,
-    path: &[u8],
-    version: Version,
-) -> Result<Bytes, NoMemory>
-    requires path { IsPath path.now }
-    ensures asks { IfOk result (λ content. content
-        ≡ request_bytes (requests.Delete user (record { 0 = tag shape path.now }) version)) }
-    ensures framed { IfOk result IsContent }
-{
-    let tag = tag_of(alloc, shape, path)?;
-    let mut content = Bytes::new(alloc);
-    Request::Delete { user, tag, version }.write(&mut content)?;
-    Ok(content)
 }
 
 // What came of the clouds that were met.

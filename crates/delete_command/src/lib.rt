@@ -8,4 +8,3 @@ mod lines;
 mod writing;
 
 pub use deleting::delete;
-pub use lines::line_of;

@@ -466,6 +466,7 @@ few_after shape count (kinds.Arm cloud calls keep) fits few = few
 few_after shape count (kinds.Restart cloud) fits few = few
 few_after shape count (kinds.Replace cloud) fits few = few
 few_after shape count (kinds.Rebuild user target from) fits few = few
+few_after shape count (kinds.Delete user path version cloud) fits few = few
 
 pub can_at : (shape other : Shape) (count more : ℕ) (o : Option Event) (event : Event) → shape ≡ other → count ≡ more → o ≡ Some event
     → IfSome o (CanBe shape count) → CanBe other more event

@@ -1,4 +1,5 @@
 pub mod Bringing
+pub mod Deleting
 pub mod Dropped
 pub mod Getting
 pub mod Going

@@ -1,7 +1,7 @@
 -- The jobs to which replies came.
 use Rattle.std.proofs.Common.{◌≡◌, ℕ, zero, suc, ◌-◌, ◌<◌, Bool, true, false, List, [], ◌∷◌, length, refl, sym, ap, ◌∙◌, subst, inl, inr, arith}
 use Rattle.std.specs.Prelude.{◌↔◌, IsTrue, All, Result, slice_index_or, slice_set}
-use Rattle.std.proofs.lemmas.List.{length-set, get_or-set_same, get_or-set_other, get_or_default}
+use Rattle.std.proofs.lemmas.List.{length-set, get_or-set_same, get_or-set_other}
 use Rattle.std.proofs.lemmas.List.Sums.{AllPass-from_list_all, list_all-from_AllPass}
 use Rattle.std.proofs.lemmas.Bool.{cases_eq}
 use Rattle.std.proofs.lemmas.List.FromFn.{length-map-range_with_len}
@@ -71,9 +71,3 @@ all_done_is views b both =
     by_both b (all_done views)
     (λ is. list_all-from_AllPass (λ (lane : LaneView). is_done lane.state) views (λ k d lt. ap is_done (both.0 is k d lt)))
     (λ all. both.1 (λ k d lt. done_is (slice_index_or views k d).state (AllPass-from_list_all (λ (lane : LaneView). is_done lane.state) views all k d lt)))
-
-pub stored_at : (jobs inside : List (List LaneView)) (job : ℕ) (lanes : List LaneView) (b : Bool) → inside ≡ jobs → lanes ≡ slice_index_or inside (job - 1) lanes → IsJob (length jobs) job
-    → IsTrue b ↔ All (λ (lane : LaneView). lane.state ≡ Done) lanes → b ≡ all_done (job_lanes jobs job)
-stored_at jobs inside job lanes b view is number both =
-    let lt = subst (λ (l : List (List LaneView)). job - 1 < length l) (sym view) (place_in jobs job number) in
-    all_done_is lanes b both ∙ ap all_done (is ∙ get_or_default inside (job - 1) lanes [] lt ∙ ap (λ (l : List (List LaneView)). slice_index_or l (job - 1) []) view)

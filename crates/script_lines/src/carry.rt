@@ -8,6 +8,7 @@ ghost use Rattle.script_lines.specs.Does.{CarriesOut, IsCutOff};
 ghost use Rattle.script_lines.specs.Jobs.{AreReached};
 ghost use Rattle.script_lines.specs.Replacing.{IsShelfFault};
 
+use crate::delete::delete_line;
 use crate::finish::finish_line;
 use crate::get::get_line;
 use crate::lanes::{drop_line, lose_line, step_line};
@@ -175,5 +176,20 @@ pub fn carry_out<V: Shelf>(
         Event::Rebuild { user, target, from } => {
             for_memory(rebuild_line(alloc, link, jobs, *user, *target, from, text))
         }
+        Event::Delete {
+            user,
+            path,
+            version,
+            cloud,
+        } => for_memory(delete_line(
+            alloc,
+            link,
+            *user,
+            path.as_slice(),
+            *version,
+            *cloud,
+            &mut buffers.reply,
+            text,
+        )),
     }
 }

@@ -3,10 +3,10 @@
 #![tactic(auto)]
 
 mod carry;
+mod delete;
 mod error;
 mod finish;
 mod get;
-mod jobs;
 mod lanes;
 mod listing;
 mod news;
@@ -16,7 +16,7 @@ mod upload;
 
 pub use carry::{Buffers, carry_out};
 pub use error::CarryErr;
-pub use jobs::Jobs;
+pub use session_jobs::Jobs;
 pub use session_model::{
     LocalLink, Servers, law_of_acknowledged, law_of_moments, law_of_own_replies, law_of_parts,
 };

@@ -8,7 +8,7 @@ mod batches;
 #[cfg(test)]
 mod cases;
 #[cfg(test)]
-mod deletions;
+mod deleting;
 #[cfg(test)]
 mod lane_steps_lanes;
 mod prepared;

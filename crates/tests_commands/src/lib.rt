@@ -6,7 +6,7 @@ mod command;
 #[cfg(test)]
 mod connections;
 #[cfg(test)]
-mod deletions;
+mod deleting;
 #[cfg(test)]
 mod failures;
 #[cfg(test)]

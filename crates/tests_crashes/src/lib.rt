@@ -4,6 +4,8 @@
 #[cfg(test)]
 mod crashes;
 #[cfg(test)]
+mod deleting;
+#[cfg(test)]
 mod place;
 #[cfg(test)]
 mod stops;

@@ -27,7 +27,7 @@ returns-clause-carries g c =
       faults_after = faults c.ask_each-came.new.ports;
     } in
     let request : c.as_slice.result.now ≡ delete_bytes call greeted.shape =
-    c.as_slice.ensures ∙ c.in-Ok-delete_request.ensures.asks in
+    c.as_slice.ensures ∙ c.in-Ok-delete_request.ensures.asks.spelled in
     let went : Went (delete_bytes call greeted.shape) behind greeted.lines.items came c.args.text.now text call.after =
     subst (λ (r : List ℕ). Went r behind greeted.lines.items came c.args.text.now text call.after) request
     (subst (λ (ls : List (CloudNo × ℕ)). Went c.as_slice.result.now behind ls came c.args.text.now text call.after)

@@ -2,7 +2,7 @@ use Rattle.std.proofs.Common.{List, ℕ, OnOk, sym, subst}
 use Rattle.session.specs.declared.event.Event.{Event}
 use Rattle.session.specs.declared.event.Event.TheVariants as events
 use Rattle.script_lines.specs.Does.{CarriesOut}
-use Rattle.script_lines.proofs.Lines.{for_ok}
+use Rattle.script_lines.proofs.Lines.{for_ok, on_ok}
 use Rattle.script_lines.proofs.carry.carry_out.Goals as goal
 
 pub returns-in-Upload-clause-does : goal.returns-in-Upload-clause-does
@@ -61,3 +61,10 @@ pub returns-in-Rebuild-clause-does : goal.returns-in-Rebuild-clause-does
 returns-in-Rebuild-clause-does g c =
     for_ok c.rebuild_line.result c.for_memory-in-Rebuild.result _ c.for_memory-in-Rebuild.ensures.same
     (subst (λ (e : Event). OnOk c.rebuild_line.result (CarriesOut g.V.Shelf.cloud_at e c.args.link.now c.args.jobs.now c.rebuild_line.new.link c.args.jobs.now c.args.text.now c.rebuild_line.new.text)) (sym c.in-Rebuild.is) c.rebuild_line.ensures.does)
+
+pub returns-in-Delete-clause-does : goal.returns-in-Delete-clause-does
+returns-in-Delete-clause-does g c =
+    let Is : Event → Type 0 = λ e. OnOk c.delete_line.result (CarriesOut g.V.Shelf.cloud_at e c.args.link.now c.args.jobs.now c.delete_line.new.link c.args.jobs.now c.args.text.now c.delete_line.new.text) in
+    for_ok c.delete_line.result c.for_memory-in-Delete.result _ c.for_memory-in-Delete.ensures.same
+    (subst Is (sym c.in-Delete.is) (subst (λ (path : List ℕ). Is (events.Delete c.in-Delete.user path c.in-Delete.version c.in-Delete.cloud)) c.as_slice-in-Delete.ensures
+    (on_ok c.delete_line.result _ _ (λ each. each c.args.jobs.now) c.delete_line.ensures.does)))

@@ -1,6 +1,7 @@
 use Rattle.script_lines.proofs.Lines.{on_ok, on_err}
 use Rattle.script_lines.proofs.Bringing.{part_done, finish_goes, finish_cut}
 use Rattle.std.specs.List.{range_with_len}
+use Rattle.script_lines.proofs.Reaching.{all_done_is}
 use Rattle.script_lines.proofs.finish.finish_line.Goals as goal
 
 pub returns-in-Err-clause-cut : goal.returns-in-Err-clause-cut
@@ -10,7 +11,7 @@ returns-in-Err-clause-cut g c s v is =
 
 pub returns-clause-does : goal.returns-clause-does
 returns-clause-does g c = on_ok c.put_line.result _ _ (λ said s v is.
-    finish_goes g.V.Shelf.cloud_at s c.args.job c.args.link.now c.finish_lanes.new.link c.finish_lanes.new.jobs v c.args.text.now c.finish_lanes.new.text c.put_line.new.text c.is_stored-stored.result (c.in-Ok.ensures.does s v is) c.is_stored-stored.ensures said) c.put_line.ensures.ok
+    finish_goes g.V.Shelf.cloud_at s c.args.job c.args.link.now c.finish_lanes.new.link c.finish_lanes.new.jobs v c.args.text.now c.finish_lanes.new.text c.put_line.new.text c.is_stored-stored.result (c.in-Ok.ensures.does s v is) (all_done_is _ _ c.is_stored-stored.ensures) said) c.put_line.ensures.ok
 
 pub returns-clause-cut : goal.returns-clause-cut
 returns-clause-cut g c = on_err c.put_line.result _ (λ s v is.

@@ -6,7 +6,7 @@ use Rattle.lane_steps.specs.Steps.{Finishes}
 use Rattle.session.specs.Texts.{text_of}
 use Rattle.script_lines.specs.Jobs.{job_lanes}
 use Rattle.script_lines.specs.Finishing.{lane_lines}
-use Rattle.script_lines.proofs.Reaching.{lane_below}
+use Rattle.script_lines.proofs.Reaching.{all_done_is, lane_below}
 use Rattle.script_lines.proofs.Lines.{both_ok, on_err}
 use Rattle.script_lines.proofs.Bringing.{lane_finished, lane_cut, one_leaves}
 use Rattle.script_lines.proofs.finish.finish_one.Goals as goal
@@ -27,7 +27,7 @@ returns-clause-does g c =
     let f = subst (λ (l : List LaneNews). Finishes (telling clouds) (λ link cloud t. ⊥) lane old (job_lanes jobs job) l c.finish-came.result new x.0 now) c.clear.ensures.items x.3 in
     both_ok c.put_lane.result _ _ _ (λ brought said s v is.
     lane_finished clouds (λ link cloud t. ⊥) s job lane old new jobs c.finish-came.new.self v c.finish-came.result x.0 now c.is_stored-before.result c.is_stored.result c.becomes-stored.result c.args.text.now c.put_lane.new.text is
-    (subst (λ (sh : Shape). lane < sh.n) is.link_at.shape c.requires.below) c.requires.job x.1 f (c.finish-came.ensures.lossless (ap is_delivered is.link_at.fate)).0 brought c.is_stored-before.ensures c.is_stored.ensures c.becomes-stored.ensures
+    (subst (λ (sh : Shape). lane < sh.n) is.link_at.shape c.requires.below) c.requires.job x.1 f (c.finish-came.ensures.lossless (ap is_delivered is.link_at.fate)).0 brought (all_done_is _ _ c.is_stored-before.ensures) (all_done_is _ _ c.is_stored.ensures) c.becomes-stored.ensures
     (said ∙ ap (λ (l : List LaneNews). c.args.text.now ++ text_of (lane_lines job lane c.finish-came.result l c.becomes-stored.result)) c.as_slice.ensures.value)) c.put_lane.ensures.brought c.put_lane.ensures.text
 
 pub returns-clause-cut : goal.returns-clause-cut

@@ -3,7 +3,7 @@ use Rattle.cd_base.specs.declared.shape.Shape.{Shape}
 use Rattle.session_model.specs.LocalLink.Tells.{is_delivered}
 use Rattle.session.specs.declared.event.Event.TheVariants as events
 use Rattle.script_lines.specs.Stepping.{step_lines}
-use Rattle.script_lines.proofs.Reaching.{lane_below}
+use Rattle.script_lines.proofs.Reaching.{all_done_is, lane_below}
 use Rattle.script_lines.proofs.Lines.{both_ok, on_err, step_came, step_goes, step_cut}
 use Rattle.script_lines.proofs.lanes.step_line.Goals as goal
 
@@ -22,7 +22,7 @@ returns-clause-does g c =
       step_lines job lane c.step-came.result c.becomes-stored.result,
       step_goes clouds (λ link cloud t. ⊥) s job lane old new c.step-came.new.self v c.step-came.result c.becomes-stored.result told
           (step_came clouds (λ link cloud t. ⊥) s job lane old new c.args.jobs.now c.step-came.new.self v c.step-came.result x.0 c.is_stored-before.result c.is_stored.result c.becomes-stored.result is
-          (subst (λ (sh : Shape). lane < sh.n) is.link_at.shape c.requires.below) c.requires.job x.1 x.3 (c.step-came.ensures.lossless (ap is_delivered is.link_at.fate)).0 c.is_stored-before.ensures c.is_stored.ensures c.becomes-stored.ensures),
+          (subst (λ (sh : Shape). lane < sh.n) is.link_at.shape c.requires.below) c.requires.job x.1 x.3 (c.step-came.ensures.lossless (ap is_delivered is.link_at.fate)).0 (all_done_is _ _ c.is_stored-before.ensures) (all_done_is _ _ c.is_stored.ensures) c.becomes-stored.ensures),
       said,
     )) c.put_step.ensures.told c.put_step.ensures.text
 
@@ -39,4 +39,4 @@ returns-clause-cut g c =
     step_cut clouds (λ link cloud t. ⊥) s job lane old new c.step-came.new.self c.args.jobs.now v c.step-came.result c.becomes-stored.result is
     (c.law_of_parts.ensures.unmoved s v (length c.args.jobs.now) (events.Step job c.args.lane) (c.requires.job, lt))
     (step_came clouds (λ link cloud t. ⊥) s job lane old new c.args.jobs.now c.step-came.new.self v c.step-came.result x.0 c.is_stored-before.result c.is_stored.result c.becomes-stored.result is
-    lt c.requires.job x.1 x.3 (c.step-came.ensures.lossless (ap is_delivered is.link_at.fate)).0 c.is_stored-before.ensures c.is_stored.ensures c.becomes-stored.ensures))
+    lt c.requires.job x.1 x.3 (c.step-came.ensures.lossless (ap is_delivered is.link_at.fate)).0 (all_done_is _ _ c.is_stored-before.ensures) (all_done_is _ _ c.is_stored.ensures) c.becomes-stored.ensures))

@@ -24,14 +24,14 @@ impl Model for Jobs {
 }
 
 impl Jobs {
-    ghost use Rattle.std.specs.Prelude.{◌≡◌, ◌<◌, ◌≤◌, List, [], ◌∷◌, ◌++◌, length, OnOk, OnErr, IfOk, IsTrue};
+    ghost use Rattle.std.specs.Prelude.{◌≡◌, ◌<◌, ◌≤◌, List, [], ◌∷◌, ◌++◌, length, OnOk, OnErr, IfOk, IsTrue, ◌↔◌, All};
     ghost use Rattle.user_dedup.specs.Link.{LeavesOthers};
     ghost use Rattle.session.specs.Spelling.{IsJob};
     ghost use Rattle.upload_job.specs.Lanes.{LaneView, request_at, IsAsked};
     ghost use Rattle.lane_steps.specs.Reached.{IsReached};
     ghost use Rattle.lane_steps.specs.Steps.{LaneSteps, Finishes, IsFound};
-    ghost use Rattle.session_model.specs.Steps.{all_done};
-    ghost use Rattle.script_lines.specs.Jobs.{job_lanes, with_job};
+    ghost use Rattle.upload_job.specs.Lane.{Done};
+    ghost use Rattle.session_jobs.specs.Jobs.{job_lanes, with_job};
 
     /// No jobs. It takes no memory.
     pub fn new(alloc: Global) -> Jobs
@@ -43,7 +43,7 @@ impl Jobs {
     }
 
     /// Appends a job. For want of memory nothing changes.
-    pub(crate) fn push(&mut self, job: Job) -> Result<(), NoMemory>
+    pub fn push(&mut self, job: Job) -> Result<(), NoMemory>
         ensures ok { OnOk result (self.new ≡ self.old ++ job ∷ []) }
         ensures err { OnErr result (self.new ≡ self.old) }
     {
@@ -59,21 +59,16 @@ impl Jobs {
     }
 
     /// Whether the version of this job is entered at all clouds.
-    pub(crate) fn is_stored(&self, job: u32) -> bool
+    pub fn is_stored(&self, job: u32) -> bool
         requires { IsJob (length self.now) job }
-        ensures { result ≡ all_done (job_lanes self.now job) }
+        ensures { IsTrue result ↔ All (λ (lane : LaneView). lane.state ≡ Done) (job_lanes self.now job) }
     {
         let place = job as usize - 1;
         self.items[place].stored()
     }
 
     /// The request of a lane of this job, as `Job::next` gives it.
-    pub(crate) fn next(
-        &mut self,
-        job: u32,
-        lane: CloudNo,
-        out: &mut Bytes,
-    ) -> Result<bool, NoMemory>
+    pub fn next(&mut self, job: u32, lane: CloudNo, out: &mut Bytes) -> Result<bool, NoMemory>
         requires job { IsJob (length self.old) job }
         requires below { lane.0 < length (job_lanes self.old job) }
         ensures request { IfOk result (λ more.
@@ -85,7 +80,7 @@ impl Jobs {
     }
 
     /// One step of a lane of this job over the link, as `lane_steps::step_lane` makes it. The other jobs stay.
-    pub(crate) fn step<L: Link>(
+    pub fn step<L: Link>(
         &mut self,
         link: &mut L,
         job: u32,
@@ -110,7 +105,7 @@ impl Jobs {
     }
 
     /// Brings a lane of this job to its end over the link, as `lane_steps::finish_lane` does. The other jobs stay.
-    pub(crate) fn finish<L: Link>(
+    pub fn finish<L: Link>(
         &mut self,
         link: &mut L,
         job: u32,

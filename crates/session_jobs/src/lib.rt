@@ -1,0 +1,6 @@
+//! The jobs of a session, by their numbers.
+#![tactic(auto)]
+
+mod jobs;
+
+pub use jobs::Jobs;
