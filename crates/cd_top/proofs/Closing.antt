@@ -87,6 +87,7 @@ other_status status now old new run other r = record {
   reads_so = λ zero. absurd (other zero);
   private = r.private;
   faults = r.faults;
+  worlds = r.worlds;
 }
 
 pub rose_since : (before middle now : ℕ) → middle ≡ before → Rose middle now → Rose before now

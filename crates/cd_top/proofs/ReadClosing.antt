@@ -134,7 +134,12 @@ read_to status r end middle old new count total total_after sink_before sink_mid
     }) r before after) (λ i cloud. same cloud i) kept (ReadTo end (record {
       text = reads.0;
       belongs = record { says = reads.2; gives = reads.3 };
-      closed = closes sink_before reads.0 before counts reads.1 (λ is. nothing_said end _ r reads.0 is reads.2);
+      closed = closes sink_before reads.0 before counts reads.1 (λ is. nothing_said end (record {
+        total_before = count;
+        total_after = total_after;
+        old = middle;
+        new = new;
+      }) r reads.0 is reads.2);
       kept = disks;
       areas = areas;
     }))

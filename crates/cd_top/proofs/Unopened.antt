@@ -20,6 +20,7 @@ use Rattle.generated_session.specs.SessionModel.Run.{Answered}
 use Rattle.generated_session.specs.SessionModel.Headline.{Session, IsRun, DisksStand}
 use Rattle.generated_session.specs.ReplayCore.Endings.{Call, NoEnding, HasCause}
 use Rattle.generated_session.specs.ReplayCore.Replayed.{Replayed, BeginsEmpty}
+use Rattle.two_worlds.proofs.Two.{two_worlds}
 use Rattle.cd_top.specs.Replay.{IsReplayed}
 
 -- ---- the setting that a script's first line says, and any setting where there is none
@@ -101,6 +102,7 @@ module _ (call : Call) (same : (cloud : ℕ) → call.new cloud ≡ call.old clo
     reads_so = λ zero. absurd (omega (arith, zero));
     private = λ m contains. absurd (omega (arith, contains.1));
     faults = λ a line cloud among. absurd (omega (arith, among.1));
+    worlds = two_worlds call.old run;
   }
 
   cause : Rose call.total_before call.total_after → call.sink_after ≡ call.sink_before → HasCause 5 call run NoEnding

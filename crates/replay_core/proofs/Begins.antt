@@ -31,6 +31,7 @@ use Rattle.script_lines.specs.SessionModel.Vault.{Setting, opening}
 use Rattle.script_lines.specs.SessionModel.Run.{IsListIn}
 use Rattle.script_lines.specs.SessionModel.Headline.{Session, IsRun}
 use Rattle.script_lines.proofs.SessionModel.Faults.{faults_rose}
+use Rattle.two_worlds.proofs.Two.{two_worlds}
 use Rattle.script_lines.specs.At.{header_in}
 use Rattle.script_lines.proofs.Going.{header_is}
 use Rattle.replay_core.specs.declared.end.ReplayEnd.{ReplayEnd}
@@ -68,6 +69,7 @@ replayed_unopened laws status start s new some told prepares = record {
   reads_so = λ e. absurd (some e);
   private = laws.private start.old (unopened_of s start.old) run;
   faults = faults_rose start.old (unopened_of s start.old) run;
+  worlds = two_worlds start.old (unopened_of s start.old);
 }
   where
     run : IsRun start.old (unopened_of s start.old)

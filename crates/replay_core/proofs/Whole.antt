@@ -24,6 +24,7 @@ use Rattle.script_lines.specs.SessionModel.Vault.{Setting, Vault}
 use Rattle.script_lines.specs.SessionModel.Run.{Answered, script_of, answers_of}
 use Rattle.script_lines.specs.SessionModel.Headline.{Session, Begun, IsRun, due, event_of, GivesAcknowledged, GivesFromMore, DisksKeep, AnswersPrivately}
 use Rattle.script_lines.proofs.SessionModel.Faults.{faults_rose}
+use Rattle.two_worlds.proofs.Two.{two_worlds}
 use Rattle.script_lines.specs.At.{Leaves}
 use Rattle.replay_core.specs.declared.end.ReplayEnd.{ReplayEnd}
 use Rattle.replay_core.specs.declared.end.ReplayEnd.TheVariants as ends
@@ -84,6 +85,7 @@ replayed laws status start s new history at begun last h same image told = recor
   reads_so = λ e cloud lt t. h.now cloud lt (h.told cloud ∙ t) (reads (new cloud).now) (image cloud (told cloud ∙ t));
   private = laws.private start.old (session_of s history at begun last) run;
   faults = faults_rose start.old (session_of s history at begun last) run;
+  worlds = two_worlds start.old (session_of s history at begun last);
 }
   where
     run : IsRun start.old (session_of s history at begun last)

@@ -14,6 +14,7 @@ use Rattle.replay_core.specs.declared.end.ReplayEnd.TheVariants as ends
 use Rattle.script_lines.specs.SessionModel.Headline.{Session, IsRun, due, GivesAcknowledged, GivesFromMore, DisksKeep, DisksStand, AnswersPrivately}
 use Rattle.script_lines.specs.SessionModel.Faults.{FaultsRose}
 use Rattle.script_lines.specs.At.{header_in}
+use Rattle.two_worlds.specs.Worlds.{TwoWorlds}
 use Rattle.replay_core.specs.Endings.{Call, EndingLine, NoEnding, DoneEnding, ScriptEnding, ShelfEnding, StoreEnding, DamagedEnding, IsDue, HasCause}
 
 -- No count of a cloud is above the shelf's, its armings are the shelf's, and with status 0 its faults too.
@@ -50,6 +51,8 @@ pub record Replayed (status : ℕ) (old new : ℕ → Cloud) (run : Session) : T
   pub private : AnswersPrivately run
   -- an answer says `fault` only of a cloud whose count rose, so where none rises no answer says it
   pub faults : FaultsRose old run
+  -- over told clouds none of which failed, each user is answered as in a session of that user alone
+  pub worlds : TwoWorlds old run
 
 -- the status of an end
 abbrev pub status_of : ReplayEnd → ℕ

@@ -115,7 +115,9 @@ fn carry_script<S: Source, K: Sink, V: Shelf>(
 ///
 /// Whatever the end, there is a session of just the lines that were carried out. Each get of it gives each version that
 /// its clouds acknowledged; each disk that a crash may leave stands for a list that its cloud had in some state of the
-/// session, and keeps what it acknowledged; and each reply to an upload follows from that user's own commands.
+/// session, and keeps what it acknowledged; and each reply to an upload follows from that user's own commands. Where all clouds
+/// are told, none failed or was armed, no line was cut and no strings clash, each user's lines are answered as in a session of
+/// that user alone.
 pub fn replay<S: Source, K: Sink, V: Shelf>(
     alloc: Global,
     source: &mut S,

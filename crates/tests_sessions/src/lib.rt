@@ -2,6 +2,8 @@
 #![tactic(auto)]
 
 #[cfg(test)]
+mod deleting;
+#[cfg(test)]
 mod ends;
 #[cfg(test)]
 mod generated;
@@ -11,6 +13,8 @@ mod gets;
 mod ground;
 #[cfg(test)]
 mod one_file;
+#[cfg(test)]
+mod one_user;
 #[cfg(test)]
 mod place;
 #[cfg(test)]
