@@ -1,7 +1,8 @@
 #!/usr/bin/env bash
 # Keeps a folder on four clouds by backup_folder.sh, changes it, keeps it again, and gets both states and one file back from three clouds by
 # restore_folder.sh: names with blanks, newlines and a leading dash, a file of no bytes, one above 64 MiB, an empty folder, links, modes and
-# times. Two lists that would lead out of the folder by a link aren't followed.
+# times. Two lists that would lead out of the folder by a link aren't followed. At last prune_folder.sh deletes the first state, and the second
+# comes back as it was.
 . "$(dirname "$0")/clouds.sh"
 tools="$(dirname "$0")"
 export CDSTORE="$program"
@@ -31,8 +32,9 @@ run() { # runs a tool, and shows its lines where it fails: run WORDS..
 
 # COUNT: in the first run an archive of small files, one of two parts, one of links and folders, and the list; in the second the first of
 # these and the list; then two lists and an archive. From three of the clouds each state as five, the one file as two, and of the two lists
-# one with its archive.
-for cloud in 0 1 2 3; do start "$cloud" "$((5 + 2 + 3 + (cloud == 0 ? 0 : 5 + 5 + 2 + 1 + 2)))"; done
+# one with its archive. To prune the first state its list is read, and an archive and that list are deleted; then the first is asked for in
+# vain, and the second comes back.
+for cloud in 0 1 2 3; do start "$cloud" "$((5 + 2 + 3 + 3 + (cloud == 0 ? 0 : 5 + 5 + 2 + 1 + 2 + 1 + 5)))"; done
 run "$tools/backup_folder.sh" "$work/in" "$work/list" 7 1 "${address[@]}"
 state "$work/in" > "$work/first"
 printf 'more' >> "$work/in/ blanks at both ends "
@@ -63,6 +65,14 @@ lie() { # stores such a list, and sees it refused: lie VERSION SAYS MEMBERS..
 run "$program" backup 7 "${archive%% *}" 3 "${address[@]}" < "$work/lie"
 lie 3 'lies below a link: out/file' 'l out' 'f out/file'
 lie 4 "members aren't the list's" 'f out'
+
+run "$tools/prune_folder.sh" --keep 1 "$work/list" 7 "${address[@]}"
+[ "$(grep -c ': deleted' "$work/lines")" = 2 ] || fail "the first state wasn't an archive and a list: $(cat "$work/lines")"
+! "$tools/restore_folder.sh" "$work/out4" 7 1 "${address[@]:1}" > "$work/lines" || fail "the first state is still there"
+grep -q 'refused missing' "$work/lines" || fail "the first state is refused by other words: $(cat "$work/lines")"
+run "$tools/restore_folder.sh" "$work/out5" 7 2 "${address[@]:1}"
+state "$work/out5" | diff "$work/second" -
 all_end
 chmod -R u+w "$work/in" "$work"/out?
-echo "Both states of a folder came back from clouds 1, 2 and 3, and one file alone. The second run stored one archive of three."
+echo "Both states of a folder came back from clouds 1, 2 and 3, and one file alone. The second run stored one archive of three." \
+    "The first state was deleted, and the second came back as before."
