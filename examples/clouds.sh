@@ -32,6 +32,16 @@ fail() {
     exit 1
 }
 
+# Runs the program, and sees its status and all that it writes, by a pattern: says STATUS PATTERN WORDS..
+says() {
+    local status=0 wanted="$1" pattern="$2"
+    shift 2
+    "$program" "$@" > "$work/lines" || status=$?
+    [ "$status" = "$wanted" ] || fail "cdstore $*: status $status, $(tail -n 1 "$work/lines")"
+    # shellcheck disable=SC2053
+    [[ "$(cat "$work/lines")" == $pattern ]] || fail "cdstore $* said $(cat "$work/lines")"
+}
+
 # Starts a cloud's server for so many connections: start CLOUD COUNT. It then listens at ${address[CLOUD]}, a port of the loopback that it
 # could bind: whether a port is free only the bind itself can tell, so another one is tried where it fails.
 start() {

@@ -21,16 +21,6 @@ packed() {
     tar --create --sort=name --mtime=@0 --owner=0 --group=0 --numeric-owner --directory="$work/folder" .
 }
 
-# Runs the program, and sees its status and that its lines have this pattern: says STATUS PATTERN WORDS..
-says() {
-    local status=0 wanted="$1" pattern="$2"
-    shift 2
-    "$program" "$@" > "$work/lines" || status=$?
-    [ "$status" = "$wanted" ] || fail "cdstore $*: status $status, $(tail -n 1 "$work/lines")"
-    # shellcheck disable=SC2053
-    [[ "$(cat "$work/lines")" == $pattern ]] || fail "cdstore $* said $(cat "$work/lines")"
-}
-
 # Sees a day come back without one of the clouds: comes_back DAY CLOUD.
 comes_back() {
     local three=("${address[@]}")

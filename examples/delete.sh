@@ -7,16 +7,6 @@ for cloud in 0 1 2 3; do
     start "$cloud" 100
 done
 
-# Runs the program, and sees its status and all that it writes, by a pattern: says STATUS PATTERN WORDS..
-says() {
-    local status=0 wanted="$1" pattern="$2"
-    shift 2
-    "$program" "$@" > "$work/lines" || status=$?
-    [ "$status" = "$wanted" ] || fail "cdstore $*: status $status, $(tail -n 1 "$work/lines")"
-    # shellcheck disable=SC2053
-    [[ "$(cat "$work/lines")" == $pattern ]] || fail "cdstore $* said $(cat "$work/lines")"
-}
-
 echo 'Call Anna, and bring milk.' > "$work/first"
 echo 'Call Bob.' > "$work/second"
 says 0 '*end 1 stored' backup 7 notes 1 "${address[@]}" < "$work/first"
