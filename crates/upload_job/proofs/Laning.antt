@@ -12,7 +12,7 @@ use Rattle.upload_job.specs.declared.news.LaneNews.{LaneNews}
 use Rattle.upload_job.specs.declared.news.LaneErr.{LaneErr}
 use Rattle.upload_job.specs.Upload.{in_batches}
 use Rattle.upload_job.specs.Lane.{LaneState, Done, onward, lane_request}
-use Rattle.upload_job.specs.Lanes.{LaneView, request_at, IsAsked, Answers, AnswersAt}
+use Rattle.upload_job.specs.Lanes.{LaneView, request_at, IsAsked, IsDoneAt, Answers, AnswersAt}
 use Rattle.upload_job.specs.Index.{AreIn, AreLanes, shares_in, lane_in, lanes_in, state_in, moved_to, next_in}
 
 pub length-lanes_in : (key : FileKey) (lanes : List Lane) → length (lanes_in key lanes) ≡ length lanes
@@ -84,6 +84,19 @@ done_state all (stages.Bringing from) = (λ e. absurd (not_done (in_batches (dro
 done_state all (stages.Sending from flags) = (λ e. cc, λ e. cc)
 done_state all stages.Done = (λ e. refl, λ e. refl)
 done_state all stages.Refused = (λ e. cc, λ e. cc)
+
+done_here : (key : FileKey) (lanes : List Lane) (i : ℕ) (l : Lane) → i < length lanes → ((get_or lanes i l).stage ≡ stages.Done) ↔ IsDoneAt (lanes_in key lanes) i
+done_here key [] i l lt = absurd (omega arith)
+done_here key (o ∷ lanes) zero l lt =
+    let at = done_state (shares_in o.shares o.wanted.items) o.stage in
+    (at.1, at.0)
+done_here key (o ∷ lanes) (suc i) l lt = done_here key lanes i l (omega arith)
+
+-- one lane of the job
+pub done_seen : (key : FileKey) (lanes : List Lane) (views : List LaneView) (i : ℕ) (l : Lane) → lanes_in key lanes ≡ views → i < length lanes → l ≡ get_or lanes i l → (l.stage ≡ stages.Done) ↔ IsDoneAt views i
+done_seen key lanes views i l seen lt at =
+    subst (λ (xs : List LaneView). (l.stage ≡ stages.Done) ↔ IsDoneAt xs i) seen
+    (subst (λ (m : Lane). (m.stage ≡ stages.Done) ↔ IsDoneAt (lanes_in key lanes) i) (sym at) (done_here key lanes i l lt))
 
 all_head : {A : Type 0} (P : A → Type 0) (x : A) (xs : List A) → All P (x ∷ xs) → P x × All P xs
 all_head P x xs h = (h 0 x (omega arith), λ k d lt. h (suc k) d (omega arith))

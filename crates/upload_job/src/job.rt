@@ -1,7 +1,7 @@
 //! A job: a version of a file on its way to all clouds, or to one alone.
 
 use crate::beginning::{lane_alone, lanes_of};
-use crate::lane::{FileKey, Lane, are_done, end_lanes, move_lane};
+use crate::lane::{FileKey, Lane, are_done, end_lanes, is_done, move_lane};
 use crate::requests::put_request;
 use crate::turn::{Turn, turn_of};
 use crate::{LaneErr, LaneNews};
@@ -41,7 +41,7 @@ impl Job {
     ghost use Rattle.cd_base.specs.Limits.{IsPath};
     ghost use Rattle.recipe.specs.Spelling.{file_limit};
     ghost use Rattle.upload_job.specs.Lane.{Done};
-    ghost use Rattle.upload_job.specs.Lanes.{lanes_begun, lanes_resumed, lane_begun, request_at, IsAsked, AnswersAt};
+    ghost use Rattle.upload_job.specs.Lanes.{lanes_begun, lanes_resumed, lane_begun, request_at, IsAsked, IsDoneAt, AnswersAt};
 
     /// A new job of a version of a file of at most 67,108,864 bytes, each lane at its beginning. The file is cut and dispersed
     /// once, here.
@@ -168,6 +168,14 @@ impl Job {
         let Turn { result, next } = turn_of(self.alloc, &self.lanes[place], reply);
         move_lane(&mut self.lanes[place], next);
         result
+    }
+
+    /// Whether the version is entered at this cloud.
+    pub fn is_entered(&self, lane: CloudNo) -> bool
+        requires { lane.0 < length self.now }
+        ensures { IsTrue result ↔ IsDoneAt self.now lane.0 }
+    {
+        is_done(&self.lanes[lane.0 as usize])
     }
 
     /// Whether the version is entered at all clouds.

@@ -1,5 +1,5 @@
 -- What a spool knows, and what its calls leave of a told cloud.
-use Rattle.std.specs.Prelude.{◌≡◌, ◌≢◌, ◌⊎◌, ◌==◌, ℕ, ◌≤◌, zero, suc, if◌then◌else◌, false, IsTrue, List, [], ◌∷◌, ◌++◌, length, map, take, Option, Some, None, Result, Ok, Err, OnOk, IfOk}
+use Rattle.std.specs.Prelude.{◌≡◌, ◌≢◌, ◌⊎◌, ◌==◌, ℕ, ◌≤◌, if◌then◌else◌, false, IsTrue, List, [], ◌∷◌, ◌++◌, length, map, take, Option, Some, None, Result, Ok, Err, OnOk, IfOk}
 use Rattle.std.specs.List.{range_with_len}
 use Rattle.sha2.specs.Sha256.{sha256 as sha256_of}
 use Rattle.cd_base.specs.declared.ids.CloudNo.{CloudNo}
@@ -20,7 +20,6 @@ use Rattle.half_journal.specs.declared.errors.OpenErr.{OpenErr}
 use Rattle.half_journal.specs.declared.errors.OpenErr.TheVariants as opens
 use Rattle.half_journal.specs.States.{IsEnded, IsReading}
 use Rattle.half_journal.specs.States as half
-use Rattle.upload_job.specs.Lane.{Done}
 use Rattle.upload_job.specs.Lanes.{LaneView}
 use Rattle.upload_job.specs.Upload.{FileVersion, work_of}
 use Rattle.upload_spool.specs.declared.error.SpoolErr.{SpoolErr}
@@ -77,12 +76,6 @@ pub record IsSpool (state : State) (v : FileVersion) (lanes : List CloudNo) (clo
 -- each lane's work is that of this version
 abbrev pub IsJobOf : Shape → FileVersion → List LaneView → Type 0
 IsJobOf shape v lanes = map (λ (lane : LaneView). lane.work) lanes ≡ map (work_of shape v) (range_with_len 0 shape.n)
-
--- the lane of that number has entered its version
-abbrev pub IsDoneAt : List LaneView → ℕ → Type 0
-IsDoneAt [] i = ⊥
-IsDoneAt (lane ∷ lanes) zero = lane.state ≡ Done
-IsDoneAt (lane ∷ lanes) (suc i) = IsDoneAt lanes i
 
 -- ---- beginning
 
