@@ -4,6 +4,7 @@ pub mod Finishing
 pub mod Lanes
 pub mod Measure
 pub mod Reaching
+pub mod Resuming
 pub mod Runs
 pub mod Sent
 pub mod Suits

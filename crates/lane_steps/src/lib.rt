@@ -10,5 +10,5 @@ mod step;
 
 pub use error::StepErr;
 pub use finish::{finish_any, finish_lane};
-pub use reading::{law_of_any_requests, law_of_ends, law_of_lane_requests};
+pub use reading::{law_of_any_requests, law_of_ends, law_of_lane_requests, law_of_resumed_lanes};
 pub use step::step_lane;

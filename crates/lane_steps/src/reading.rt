@@ -1,13 +1,16 @@
 //! What a job asks, a cloud reads.
 
-ghost use Rattle.std.specs.Prelude.{◌≡◌, ◌<◌, ◌≤◌, ℕ, List, length, Some, Ok, false};
+ghost use Rattle.std.specs.Prelude.{◌≡◌, ◌<◌, ◌≤◌, ◌^◌, ℕ, List, length, Some, Ok, false};
+ghost use Rattle.cd_base.specs.Limits.{IsPath};
 ghost use Rattle.cd_base.specs.declared.shape.Shape.{Shape};
 ghost use Rattle.frames.specs.Frames.{frame_limit};
 ghost use Rattle.messages.specs.declared.request.Request.{Request};
 ghost use Rattle.messages.specs.declared.reply.Reply.{Reply};
 ghost use Rattle.messages.specs.Requests.{request_bytes, FitsRequest};
 ghost use Rattle.user_dedup.specs.Requests.{HasRecipe, asked_at};
-ghost use Rattle.upload_job.specs.Lanes.{LaneView, request_at};
+ghost use Rattle.recipe.specs.Spelling.{file_limit};
+ghost use Rattle.upload_job.specs.Lanes.{LaneView, lanes_resumed, request_at};
+ghost use Rattle.upload_job.specs.Upload.{FileVersion};
 ghost use Rattle.lane_steps.specs.Reached.{IsReached, IsOnItsWay};
 ghost use Rattle.lane_steps.specs.Runs.{Progress, request_of, progress_after, stops_at, left_of};
 
@@ -46,4 +49,11 @@ pub fn law_of_any_requests()
 pub fn law_of_ends()
     ensures { (p : Progress) (request : Request) (reply : Reply) → request_of p.lane ≡ Some request
         → stops_at p.lacked reply ≡ false → left_of (progress_after p reply) < left_of p }
+{}
+
+/// The lanes of a job that goes on with a version of a file, whichever of them have entered it, are ones to which a job
+/// comes: a lane that has entered its version is one whose cloud knew each of its batches.
+pub fn law_of_resumed_lanes()
+    ensures { (shape : Shape) (v : FileVersion) (committed : List ℕ) → IsPath v.path → length v.file ≤ file_limit
+        → v.user.0 < 2 ^ 32 → v.number.0 < 2 ^ 64 → IsReached shape (lanes_resumed shape v committed) }
 {}
