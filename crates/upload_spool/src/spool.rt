@@ -43,7 +43,8 @@ pub struct Spool {
 }
 
 impl Spool {
-    ghost use Rattle.upload_spool.specs.States.{state_of, IsOf, IsJobOf, IsDoneAt, KeepsOrNotes, HasNoted, IsNoteAnswer, IsOkOrFault, OthersStay, OnFault};
+    ghost use Rattle.upload_job.specs.Lanes.{IsDoneAt};
+    ghost use Rattle.upload_spool.specs.States.{state_of, IsOf, IsJobOf, KeepsOrNotes, HasNoted, IsNoteAnswer, IsOkOrFault, OthersStay, OnFault};
     ghost use Rattle.cd_edges.specs.declared.area.Area.{Area};
 
     /// The lanes that were noted, in the order in which they were.
@@ -51,6 +52,20 @@ impl Spool {
         ensures { result.now ≡ (state_of self.now).noted }
     {
         self.noted.as_slice()
+    }
+
+    /// Whose file it is.
+    pub fn user(&self) -> UserId
+        ensures { result ≡ (state_of self.now).user }
+    {
+        self.user
+    }
+
+    /// The number of the file's version.
+    pub fn version(&self) -> Version
+        ensures { result ≡ (state_of self.now).version }
+    {
+        self.version
     }
 
     /// Whether lanes may be noted: until a `note` answers Fault.
