@@ -1,5 +1,6 @@
 pub mod Leaving
 pub mod Walking
+pub mod Working
 pub mod Reaching
 pub mod Joining
 pub mod Ordering

@@ -1,6 +1,6 @@
 //! The lanes of a job, over ports.
 
-ghost use Rattle.std.specs.Prelude.{◌≡◌, ◌<◌, ◌≤◌, ◌∷◌, [], ℕ, All, IsTrue, OnOk, MatchOption};
+ghost use Rattle.std.specs.Prelude.{◌≡◌, ◌<◌, ◌≤◌, ◌∷◌, [], ℕ, All, map, IsTrue, OnOk, MatchOption};
 ghost use Rattle.std.specs.List.{Contains};
 ghost use Rattle.cd_edges.specs.Causes.{Rose};
 ghost use Rattle.cd_edges.specs.Ports.{Telling};
@@ -18,8 +18,8 @@ use lane_steps::finish_lane;
 use ports_link::PortsLink;
 use upload_job::{Job, LaneNews};
 
-// The first cloud with its port, and the others.
-fn next_line(lines: &[(CloudNo, u32)]) -> Option<((CloudNo, u32), &[(CloudNo, u32)])>
+/// The first cloud with its port, and the others, or None where there is none.
+pub fn next_line(lines: &[(CloudNo, u32)]) -> Option<((CloudNo, u32), &[(CloudNo, u32)])>
     ensures { MatchOption result (lines.now ≡ []) (λ x. lines.now ≡ x.0 ∷ x.1.now) }
 {
     match lines {
@@ -28,8 +28,9 @@ fn next_line(lines: &[(CloudNo, u32)]) -> Option<((CloudNo, u32), &[(CloudNo, u3
     }
 }
 
-// Brings the lane of one cloud to its end, with its lines.
-fn bring_one<P: Ports>(
+/// Brings the lane of one cloud to its end, with its lines behind the text. It stops where the ports fail, and where memory
+/// runs out. `told` has the news of its replies then, and of no other lane.
+pub fn bring_one<P: Ports>(
     link: &mut PortsLink<'_, P>,
     job: &mut Job,
     lane: CloudNo,
@@ -48,6 +49,7 @@ fn bring_one<P: Ports>(
     ensures talks { OnOk result (SaysNothingElse (Talked P.tells) lane.0 link.old link.new) }
     ensures reaches { (telling P.tells P.faults).reaches link.new ≡ (telling P.tells P.faults).reaches link.old }
     ensures reached { IsReached link.old.shape job.new }
+    ensures works { map (λ lane. lane.work) job.new ≡ map (λ lane. lane.work) job.old }
     ensures shape { link.new.shape ≡ link.old.shape }
     ensures later { P.faults link.old.ports.now ≤ P.faults link.new.ports.now }
     ensures lost { IfLost result (Rose (P.faults link.old.ports.now) (P.faults link.new.ports.now)) }

@@ -5,6 +5,7 @@ use Rattle.ports_link.specs.Tells.{telling}
 use Rattle.backup_command.specs.Steps.{Talked, Puts}
 use Rattle.backup_command.proofs.Reaching.{reached_len}
 use Rattle.backup_command.proofs.Walking.{goes, leaves_all, talks_all, lost_all}
+use Rattle.backup_command.proofs.Working.{works_all}
 use Rattle.backup_command.proofs.lanes.bring_one.Goals as goal
 
 pub finish_lane-came-requires-clause-below : goal.finish_lane-came-requires-clause-below
@@ -48,3 +49,9 @@ returns-clause-lost g c =
     c.put_lane.result c.args.text.now c.put_lane.new.text c.finish_lane-came.ensures.finishes
     (subst (λ (l : List LaneNews). Puts c.args.lane.0 c.finish_lane-came.result l c.put_lane.result c.args.text.now
     c.put_lane.new.text) c.as_slice.ensures.value c.put_lane.ensures)
+
+pub returns-clause-works : goal.returns-clause-works
+returns-clause-works g c =
+    works_all g.P.Ports.tells g.P.Ports.faults c.args.lane.0 c.args.job.now c.finish_lane-came.new.job c.args.link.now
+    c.finish_lane-came.new.link c.finish_lane-came.result c.clear.new.self.items c.finish_lane-came.new.told.items
+    c.finish_lane-came.ensures.finishes
