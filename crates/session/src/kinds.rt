@@ -32,7 +32,7 @@ pub fn literal_word<'a>(line: &'a [u8], name: &[u8]) -> Result<&'a [u8], Stop>
     }
 }
 
-/// What follows one word behind a blank.
+/// What follows one word behind a blank. It takes no memory, and want of it is no answer.
 #[tactic(auto, unfolding(grammar::specs::Words::field_at))]
 pub fn literal_field<'a>(bytes: &'a [u8], name: &[u8]) -> Result<&'a [u8], Stop>
     ensures value { Gives (λ x. (tt, x.now)) result (field_at (literal name.now) bytes.now) }
@@ -119,9 +119,10 @@ pub fn contents_field(alloc: Global, bytes: &[u8]) -> Result<(Bytes, &[u8]), Sto
     }
 }
 
-/// A cloud behind a blank, and what follows it.
+/// A cloud below N behind a blank, and what follows it. It takes no memory, and want of it is no answer.
 pub fn cloud_field(bytes: &[u8], shape: Shape) -> Result<(CloudNo, &[u8]), Stop>
-    ensures { Gives (λ x. (x.0.0, x.1.now)) result (field_at (cloud shape) bytes.now) }
+    ensures value { Gives (λ x. (x.0.0, x.1.now)) result (field_at (cloud shape) bytes.now) }
+    ensures memory { IfErr result (λ e. e ≢ Stop.Memory) }
 {
     let (number, rest) = u64_field(bytes, 0, shape.n as u64 - 1)?;
     Ok((CloudNo(number as u8), rest))

@@ -12,6 +12,8 @@ mod long;
 mod reading;
 
 pub use event::Event;
+pub use header::shape_field;
+pub use kinds::{cloud_field, literal_field};
 pub use laws::law_of_scripts;
 pub use lines::{LineErr, LineReader};
 pub use reading::{ScriptErr, read_header, read_line};

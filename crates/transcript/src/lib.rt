@@ -18,4 +18,5 @@ pub use laws::law_of_lines;
 pub use line::{Line, SkipWord};
 pub use news::News;
 pub use refusal::{Refusal, TargetWhy};
+pub use words::{Word, put_first};
 pub use writing::write_line;
