@@ -107,10 +107,10 @@ pub trait Table<K: Key, W> {
 
 mod accounts;
 mod chains;
+mod guide;
 mod hashed;
 mod number;
 mod sorted;
-mod tree;
 
 pub use accounts::{Accounts, IndexErr};
 pub use hashed::HashTable;

@@ -1,9 +1,9 @@
 // A table whose slots are linked in the order of their keys.
 use super::chains::Chains;
 use super::hashed::empty;
-use super::tree::Tree;
-use super::{Entry, Key, Table, TableFull};
+use super::{Entry, Key, Table, TableFull, guide};
 use slot_pool::{Content, Pool, Slot};
+use slot_tree::SlotTree;
 use std::alloc::{AllocError, Global};
 use std::cmp::Ordering;
 use std::marker::Model;
@@ -19,7 +19,7 @@ pub struct SortedTable<K: Key, W> {
     // first. After the last slot comes the number of slots
     next: Vec<u32>,
     // where in the ring a key would go
-    tree: Tree,
+    tree: SlotTree,
     // how many slots hold a pair
     len: u32,
 }
@@ -126,7 +126,7 @@ impl<K: Key, W: Drop> SortedTable<K, W> {
         let pool = Pool::with_capacity(alloc, slots, limits)?;
         let chains = Chains::make(alloc, slots)?;
         let next = ring(alloc, slots)?;
-        let tree = Tree::make(alloc, slots)?;
+        let tree = SlotTree::make(alloc, slots)?;
         Ok(SortedTable {
             pool,
             chains,
@@ -165,7 +165,7 @@ impl<K: Key, W> SortedTable<K, W> {
         ensures { MatchOption result (HasNoneAbove (contents K.cmp self.now) key.now)
             (λ answer. IsLeastAbove (contents K.cmp self.now) key.now answer.now) }
     {
-        let start = self.tree.closest(&self.pool, key);
+        let start = guide::closest(&self.tree, &self.pool, key);
         let at = match place(&self.pool, &self.next, start, key) {
             Ok(before) => self.next[self.next[before as usize] as usize],
             Err(before) => self.next[before as usize],
@@ -194,7 +194,7 @@ impl<K: Key, W: Drop> Table<K, W> for SortedTable<K, W> {
 
     fn insert(&mut self, account: u32, key: K, value: W) -> Result<(), TableFull> {
         let start = self.chains.bucket(&key);
-        let closest = self.tree.closest(&self.pool, &key);
+        let closest = guide::closest(&self.tree, &self.pool, &key);
         match place(&self.pool, &self.next, closest, &key) {
             Ok(_) => unreachable!(),
             Err(before) => match self.pool.take(account, Entry { key, value }) {
@@ -245,7 +245,7 @@ impl<K: Key, W: Drop> Table<K, W> for SortedTable<K, W> {
 
     fn remove(&mut self, key: &K) -> Option<W> {
         let slot = self.chains.find(&self.pool, key)?;
-        let start = self.tree.before(&self.pool, key, slot);
+        let start = guide::before(&self.tree, &self.pool, key, slot);
         match place(&self.pool, &self.next, start, key) {
             Ok(before) => {
                 let gone = unlink(&mut self.next, before);

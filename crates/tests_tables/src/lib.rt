@@ -9,3 +9,5 @@ mod pool_map_cases;
 mod share_index_cases;
 #[cfg(test)]
 mod slot_pool_cases;
+#[cfg(test)]
+mod slot_tree_cases;

@@ -1,14 +1,13 @@
-// A guide to the slots of a sorted table: a balanced binary tree of them, in the order of their keys.
-//
-// The heights of a slot's two subtrees differ by one at most (Adelson-Velsky and Landis, 1962). The table tests what the tree
-// says, so that the speed of its answers rests on the tree's shape, and the answers don't.
-use super::{Entry, Key};
-use slot_pool::{Content, Pool};
-use std::alloc::{AllocError, Global};
-use std::cmp::Ordering;
+//! A balanced binary tree of numbered slots: a guide to a table whose slots are linked in the order of their keys.
+//!
+//! The heights of a slot's two subtrees differ by one at most (Adelson-Velsky and Landis, 1962). No clause says so: who asks the
+//! tree tests what it answers, so that the speed of a search rests on the tree's shape, and what is found doesn't.
+#![tactic(auto)]
 
-// The number of no slot.
-const NONE: u32 = u32::MAX;
+use std::alloc::{AllocError, Global};
+
+/// The number of no slot.
+pub const NONE: u32 = u32::MAX;
 
 // More levels than a balanced tree of all numbers of 32 bits has: that has 46.
 const LEVELS: u32 = 64;
@@ -42,9 +41,9 @@ enum Side {
     Right,
 }
 
-/// A balanced tree of slots.
+/// A balanced tree of slots, in the order in which they were put between each other.
 #[derive(Drop)]
-pub(super) struct Tree {
+pub struct SlotTree {
     // the place of each slot, of which those that the root reaches are in the tree
     nodes: Vec<Node>,
     // the slot before each in the order, or the number of slots
@@ -52,71 +51,52 @@ pub(super) struct Tree {
     root: u32,
 }
 
-impl Tree {
-    ghost use Rattle.pool_map.specs.Index.{IsStart};
-
-    /// A tree of no slot, which so many may come into.
-    pub(super) fn make(alloc: Global, slots: u32) -> Result<Tree, AllocError> {
+impl SlotTree {
+    /// A tree of no slot, which so many may come into: those with numbers below `slots`. `AllocError` is want of memory.
+    pub fn make(alloc: Global, slots: u32) -> Result<SlotTree, AllocError> {
         let mut nodes = Vec::with_capacity(alloc, slots as usize)?;
         let mut previous = Vec::with_capacity(alloc, slots as usize)?;
         for _slot in 0..slots {
             nodes.push_reserved(Node::leaf(NONE));
             previous.push_reserved(NONE);
         }
-        Ok(Tree {
+        Ok(SlotTree {
             nodes,
             previous,
             root: NONE,
         })
     }
 
-    /// Where a search for the key in this slot may begin: at the slot before it, or at the number of slots.
-    pub(super) fn before<K: Key, W>(&self, pool: &Pool<Entry<K, W>>, key: &K, slot: u32) -> u32
-        ensures { IsStart K.cmp pool.now.slots key.now result }
-    {
-        let before = match self.previous.get(slot as usize) {
-            Some(before) => *before,
-            None => NONE,
-        };
-        if before >= pool.slots() {
-            return pool.slots();
-        }
-        match pool.look(before) {
-            Content::Held(_, entry) => match entry.key.cmp(key) {
-                Ordering::Less => before,
-                _ => self.closest(pool, key),
-            },
-            Content::Empty => self.closest(pool, key),
-        }
+    /// The slot at the top, or `NONE`.
+    pub fn root(&self) -> u32 {
+        self.root
     }
 
-    /// The slot with the greatest key that is smaller than this, or the number of slots.
-    pub(super) fn closest<K: Key, W>(&self, pool: &Pool<Entry<K, W>>, key: &K) -> u32
-        ensures { IsStart K.cmp pool.now.slots key.now result }
-    {
-        let mut closest = pool.slots();
-        let mut at = self.root;
-        for _level in 0..LEVELS {
-            if at >= pool.slots() {
-                return closest;
-            }
-            let node = self.node(at);
-            match pool.look(at) {
-                Content::Held(_, entry) => match entry.key.cmp(key) {
-                    Ordering::Less => {
-                        closest = at;
-                        at = node.right;
-                    }
-                    _ => at = node.left,
-                },
-                Content::Empty => return closest,
-            }
+    /// The slot below a slot on the left, or `NONE`.
+    pub fn left(&self, slot: u32) -> u32 {
+        self.node(slot).left
+    }
+
+    /// The slot below a slot on the right, or `NONE`.
+    pub fn right(&self, slot: u32) -> u32 {
+        self.node(slot).right
+    }
+
+    /// How many levels the tree has from a slot on: 0 where the slot isn't in the tree.
+    pub fn levels(&self, slot: u32) -> u32 {
+        self.node(slot).height
+    }
+
+    /// The slot before a slot in the order, or the number of slots. `NONE` where nothing is known of the slot.
+    pub fn previous(&self, slot: u32) -> u32 {
+        match self.previous.get(slot as usize) {
+            Some(before) => *before,
+            None => NONE,
         }
-        closest
     }
 
     /// Puts a slot between the two that follow each other in the order. One that isn't there is the number of slots.
-    pub(super) fn insert(&mut self, before: u32, after: u32, slot: u32) {
+    pub fn insert(&mut self, before: u32, after: u32, slot: u32) {
         self.set_previous(slot, before);
         self.set_previous(after, slot);
         let ends = self.holds(before) && self.node(before).right == NONE;
@@ -136,7 +116,7 @@ impl Tree {
     }
 
     /// Takes a slot out from between two in the order. One that isn't there is the number of slots.
-    pub(super) fn remove(&mut self, before: u32, slot: u32, after: u32) {
+    pub fn remove(&mut self, before: u32, slot: u32, after: u32) {
         self.set_previous(after, before);
         let node = self.node(slot);
         if node.left == NONE || node.right == NONE {
@@ -166,7 +146,7 @@ impl Tree {
     }
 
     /// Takes each slot out.
-    pub(super) fn clear(&mut self) {
+    pub fn clear(&mut self) {
         self.root = NONE;
     }
 
@@ -305,81 +285,5 @@ impl Tree {
             }
             at = node.parent;
         }
-    }
-}
-
-#[cfg(test)]
-mod tests {
-    use super::*;
-    use std::process::Abort;
-    use std::test::Fail;
-
-    // Whether a slot's levels are counted right, and those of its subtrees differ by one at most.
-    fn is_balanced(tree: &Tree, slot: u32) -> bool {
-        let node = tree.node(slot);
-        let left = tree.node(node.left).height;
-        let right = tree.node(node.right).height;
-        node.height == left.max(right).saturating_add(1)
-            && left <= right.saturating_add(1)
-            && right <= left.saturating_add(1)
-    }
-
-    // The last slot before another among those that are present, or 1,000.
-    fn last_before(present: &[bool], slot: u32) -> u32 {
-        let mut last = 1000;
-        for at in 0..slot {
-            if present.get(at as usize) == Some(&true) {
-                last = at;
-            }
-        }
-        last
-    }
-
-    // The first slot after another among those that are present, or 1,000.
-    fn first_after(present: &[bool], slot: u32) -> u32 {
-        let mut first = 1000;
-        for at in slot.saturating_add(1)..1000 {
-            if first == 1000 && present.get(at as usize) == Some(&true) {
-                first = at;
-            }
-        }
-        first
-    }
-
-    // Whether each slot that is present is balanced, and knows the one before it.
-    fn all_balanced(tree: &Tree, present: &[bool]) -> bool {
-        let mut balanced = true;
-        let mut last = 1000;
-        for slot in 0u32..1000 {
-            if present.get(slot as usize) == Some(&true) {
-                let knows = tree.previous.get(slot as usize) == Some(&last);
-                balanced = balanced && knows && is_balanced(tree, slot);
-                last = slot;
-            }
-        }
-        balanced
-    }
-
-    #[test]
-    fn stays_balanced(rt: HostRuntime) -> Result<(), Fail> {
-        let mut tree = Tree::make(rt.alloc(), 1000)?;
-        let mut present = vec![in rt.alloc(); true; 1000]?;
-        for slot in 0u32..1000 {
-            tree.insert(slot.checked_sub(1).unwrap_or(1000), 1000, slot);
-        }
-        assert_eq!(rt; tree.node(tree.root).height, 10);
-        for step in 0u32..900 {
-            let slot = step.wrapping_mul(377) % 1000;
-            let before = last_before(&present, slot);
-            tree.remove(before, slot, first_after(&present, slot));
-            if let Some(here) = present.get_mut(slot as usize) {
-                *here = false;
-            }
-            assert!(rt; all_balanced(&tree, &present));
-        }
-        assert!(rt; tree.node(tree.root).height <= 8);
-        tree.clear();
-        assert_eq!(rt; tree.node(tree.root).height, 0);
-        Ok(())
     }
 }

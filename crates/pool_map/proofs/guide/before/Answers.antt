@@ -1,5 +1,5 @@
 use Rattle.std.proofs.Common.{◌∙◌, sym, inr}
-use Rattle.pool_map.proofs.tree.Tree.before.Goals as goal
+use Rattle.pool_map.proofs.guide.before.Goals as goal
 
 pub returns-in-Less : goal.returns-in-Less
 returns-in-Less g c = inr (record {

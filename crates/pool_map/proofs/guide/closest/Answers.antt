@@ -1,7 +1,7 @@
 use Rattle.std.proofs.Common.{◌∙◌, sym, subst, inr}
 use Rattle.pool_map.specs.Index.{IsStart}
-use Rattle.pool_map.proofs.tree.Tree.closest.Goals as goal
-use Rattle.pool_map.proofs.tree.Tree.closest.Goals.{in-Less, in_default}
+use Rattle.pool_map.proofs.guide.closest.Goals as goal
+use Rattle.pool_map.proofs.guide.closest.Goals.{in-Less, in_default}
 
 pub loop-level-preserved : goal.loop-level-preserved
 loop-level-preserved g c =
