@@ -1,4 +1,5 @@
 pub mod Order
+pub mod Emptied
 pub mod Counts
 pub mod SumBelow
 pub mod Counting

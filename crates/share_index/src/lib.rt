@@ -9,6 +9,7 @@ ghost use Rattle.pool_map.specs.declared.accounts.Accounts.TheVariants.{Shared, 
 ghost use Rattle.pool_map.specs.declared.accounts.IndexErr.TheVariants.{Full};
 ghost use Rattle.pool_map.specs.Accounts.{limit_for, slots_of, keys_of};
 ghost use Rattle.pool_map.specs.Slots.{slot_of, IsListed, IsRewritten};
+ghost use Rattle.share_index.specs.Emptied.{IsEmptied};
 ghost use Rattle.share_index.specs.Order.{owner_of};
 ghost use Rattle.share_index.specs.Shares.{used_by, uses_at, owners_of, ownerless_in, batches_of, place_with, owner_with};
 
@@ -280,10 +281,11 @@ impl ShareIndex {
         }
     }
 
-    /// Takes the place of a fingerprint that has one. Its owners stay.
+    /// Takes the place of a fingerprint that has one. Its slot is emptied, each other slot and its owners stay.
     pub fn drop_place(&mut self, fp: &Fp)
         requires { IsSome (map.get self.old.places fp.now.0) }
         ensures places { self.new.places ≡ map.remove self.old.places fp.now.0 }
+        ensures emptied { IsEmptied self.old.place_slots self.new.place_slots fp.now.0 }
         ensures owners { self.new.owners ≡ self.old.owners }
         ensures owner_slots { self.new.owner_slots ≡ self.old.owner_slots }
         ensures place_slots { length self.new.place_slots ≡ length self.old.place_slots }

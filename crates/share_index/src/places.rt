@@ -3,6 +3,7 @@
 ghost use Rattle.std.specs.Prelude.{◌≡◌, ◌<◌, ◌==◌, ◌↔◌, false, if◌then◌else◌, is_some, IfOk, IfSome, IsSome, IsTrue, None, length, option_map};
 ghost use Rattle.std.specs.FinMap as map;
 ghost use Rattle.pool_map.specs.Slots.{slot_of, IsListed, IsRewritten};
+ghost use Rattle.share_index.specs.Emptied.{IsEmptied};
 ghost use Rattle.share_index.specs.Placing.{zeros};
 
 use crate::key::Kept;
@@ -108,6 +109,7 @@ impl PlaceTable {
     pub(crate) fn remove(&mut self, fp: &[u8; 32])
         requires { IsSome (map.get self.old.kept fp.now) }
         ensures kept { self.new.kept ≡ map.remove self.old.kept fp.now }
+        ensures emptied { IsEmptied self.old.slots self.new.slots fp.now }
         ensures room { self.new.room ≡ self.old.room }
         ensures slots { length self.new.slots ≡ length self.old.slots }
     {

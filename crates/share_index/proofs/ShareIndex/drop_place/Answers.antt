@@ -2,6 +2,7 @@ use Rattle.std.proofs.Common.{◌∙◌, ap, sym, arith, true≢false}
 use Rattle.std.specs.Prelude.{is_some, option_map}
 use Rattle.std.specs.FinMap.{get, remove}
 use Rattle.pool_map.specs.Shown.{shown, get-shown, shown-remove}
+use Rattle.share_index.specs.Emptied.{emptied-through}
 use Rattle.cd_base.specs.Order.{fp_exact}
 use Rattle.share_index.specs.Shares.{Shares}
 use Rattle.share_index.specs.Indexed.{place_in}
@@ -24,3 +25,6 @@ returns-clause-places c =
     ap (shown place_in) c.remove.ensures.kept
     ∙ shown-remove place_in fp_total fp_exact c.self.inside.places.kept c.args.fp.now.0
     ∙ ap (λ (s : Shares). remove s.places c.args.fp.now.0) c.self.view_is
+
+pub returns-clause-emptied : goal.returns-clause-emptied
+returns-clause-emptied c = rw (← c.self.view_is) (emptied-through place_in c.self.inside.places.slots c.remove.new.self.slots c.args.fp.now.0 c.remove.ensures.emptied)

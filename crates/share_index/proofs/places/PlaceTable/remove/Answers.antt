@@ -1,8 +1,11 @@
 use Rattle.std.proofs.Common.{◌≡◌, ◌∙◌, ap, sym, Some, None}
 use Rattle.std.specs.Prelude.{is_some, option_map}
 use Rattle.std.specs.FinMap.{get, remove}
+use Rattle.share_index.specs.Emptied.{emptied-shown}
+use Rattle.cd_base.specs.Order.{fp_exact}
+use Rattle.share_index.specs.declared.key.Kept.{Kept}
 use Rattle.share_index.specs.Placing.{Places}
-use Rattle.share_index.proofs.Placing.{kept_of, present, value-is, remove-is, set-sub-fits, placing-remove}
+use Rattle.share_index.proofs.Placing.{fp_total, kept_of, present, value-is, remove-is, set-sub-fits, placing-remove}
 use Rattle.share_index.proofs.places.PlaceTable.remove.Goals as goal
 
 pub overflow_sub-self : goal.overflow_sub-self
@@ -26,3 +29,6 @@ pub returns-clause-kept : goal.returns-clause-kept
 returns-clause-kept c =
     remove-is c.self.inside.table c.self.inside.ownerless c.self.invariant c.remove.new.self c.args.fp.now c.remove.ensures.removed
     ∙ ap (λ (p : Places). remove p.kept c.args.fp.now) c.self.view_is
+
+pub returns-clause-emptied : goal.returns-clause-emptied
+returns-clause-emptied c = rw (← c.self.view_is) (emptied-shown (λ (k : Kept). k) fp_total fp_exact c.self.inside.table c.remove.new.self c.args.fp.now c.remove.ensures.slots)
