@@ -1,6 +1,7 @@
 pub mod Along
 pub mod Apartness
 pub mod Batching
+pub mod Chaining
 pub mod Counted
 pub mod EntryLaw
 pub mod Full
@@ -9,7 +10,6 @@ pub mod Holders
 pub mod InPlace
 pub mod KeptLaw
 pub mod Marking
-pub mod NoneOwned
 pub mod OwnLaw
 pub mod Owns
 pub mod Picks

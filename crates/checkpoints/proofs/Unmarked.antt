@@ -6,6 +6,8 @@ use Rattle.pool_map.specs.Slots.{IsListed}
 use Rattle.share_index.specs.Shares.{Shares}
 use Rattle.spent_table.specs.declared.Spent.{Spent as Row}
 use Rattle.checkpoints.specs.Marked.{slots_limit, AreUnmarked}
+use Rattle.checkpoints.specs.Chained.{HasChains}
+use Rattle.checkpoints.specs.declared.chains.OwnerChains.{OwnerChains}
 use Rattle.checkpoints.specs.Records.{first_of}
 use Rattle.cloud_memory.specs.Fitting.{AreShares, AreRecipes}
 use Rattle.checkpoints.specs.Ready.{IsReady}
@@ -27,10 +29,11 @@ unmarked marks n is limit = record {
 }
 
 -- Before the first record nothing is listed.
-pub ready_first : (shares : Shares) (files : Files) (rows : List Row) (marks : List Bool) (p : Position) → AreShares shares.places → AreRecipes files.files → length rows ≤ 256
-    → length shares.place_slots ≤ 524288 → AreUnmarked marks → IsListed shares.places shares.place_slots → IsListed files.files files.slots → p ≡ first_of (length rows) → IsReady shares files rows marks p
-ready_first shares files rows marks p fit recipes few slots unmarked stand entries is =
-    subst (IsReady shares files rows marks) (sym is) (record {
+pub ready_first : (shares : Shares) (files : Files) (rows : List Row) (chains : OwnerChains) (marks : List Bool) (p : Position) → HasChains shares.owner_slots chains → AreShares shares.places → AreRecipes files.files → length rows ≤ 256
+    → length shares.place_slots ≤ 524288 → AreUnmarked marks → IsListed shares.places shares.place_slots → IsListed files.files files.slots → p ≡ first_of (length rows) → IsReady shares files rows chains marks p
+ready_first shares files rows chains marks p chained fit recipes few slots unmarked stand entries is =
+    subst (IsReady shares files rows chains marks) (sym is) (record {
+      chained = chained;
       puts = record {
         fit = fit;
         stand = stand;

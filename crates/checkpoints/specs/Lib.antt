@@ -1,3 +1,4 @@
+pub mod Chained
 pub mod Known
 pub mod Laying
 pub mod Marked

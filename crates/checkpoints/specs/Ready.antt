@@ -8,7 +8,9 @@ use Rattle.share_index.specs.Shares.{Shares}
 use Rattle.spent_table.specs.declared.Spent.{Spent as Row}
 use Rattle.user_dedup.specs.Owning.{is_among}
 use Rattle.cloud_memory.specs.Fitting.{AreShares, AreRecipes}
+use Rattle.checkpoints.specs.Chained.{HasChains}
 use Rattle.checkpoints.specs.Records.{listed}
+use Rattle.checkpoints.specs.declared.chains.OwnerChains.{OwnerChains}
 use Rattle.checkpoints.specs.declared.position.Position.{Position}
 
 -- The slots of just these fingerprints are marked.
@@ -24,7 +26,8 @@ pub record IsAtPuts (shares : Shares) (marks : List Bool) (left user at : ℕ) :
   pub few : user + left ≤ 256
 
 -- The next record may be written.
-pub record IsReady (shares : Shares) (files : Files) (rows : List Row) (marks : List Bool) (p : Position) : Type 0 where
+pub record IsReady (shares : Shares) (files : Files) (rows : List Row) (chains : OwnerChains) (marks : List Bool) (p : Position) : Type 0 where
+  pub chained : HasChains shares.owner_slots chains
   pub puts : IsAtPuts shares marks p.left p.user p.owner
   pub recipes : AreRecipes files.files
   pub entries : IsListed files.files files.slots

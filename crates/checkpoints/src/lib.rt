@@ -2,6 +2,7 @@
 //! another, and a checkpoint of them in the place of the journal's chain.
 #![tactic(auto)]
 
+mod chains;
 mod entire;
 mod entries;
 mod kept;
@@ -14,6 +15,7 @@ mod record_list;
 mod records;
 mod whole;
 
+pub use chains::OwnerChains;
 pub use entire::checkpoint;
 pub use laying::lay_checkpoint;
 pub use marks::Marks;

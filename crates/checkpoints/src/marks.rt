@@ -8,7 +8,7 @@ use std::alloc::Global;
 use std::marker::Model;
 
 /// As many slots as a memory may have for places.
-pub const SLOTS: usize = 524_288;
+pub(crate) const SLOTS: usize = 524_288;
 
 /// A mark for each slot that a memory may have for places. Contracts see a list of `bool`s.
 #[derive(Drop)]

@@ -7,13 +7,14 @@ ghost use Rattle.message_fields.specs.Fingerprints.{IsBatch};
 ghost use Rattle.record_body.specs.Spelling.{FitsItem, item_bytes};
 ghost use Rattle.record_bodies.specs.Spelling.{Put, body_bytes};
 ghost use Rattle.cloud_areas.specs.Checkpoints.{put_body};
+ghost use Rattle.checkpoints.specs.Chained.{AreOthers, HasChains};
 ghost use Rattle.checkpoints.specs.Picking.{IsNextPicked};
 ghost use Rattle.checkpoints.specs.Records.{owned_at, listed, item_of, puts_from};
 ghost use Rattle.cloud_memory.specs.Fitting.{AreShares};
 ghost use Rattle.checkpoints.specs.Ready.{AreMarked, IsAtPuts};
 ghost use Rattle.checkpoints.specs.Steps.{AreListed, KeepsOthers, Steps};
 
-use crate::{Marks, Position};
+use crate::{Marks, OwnerChains, Position};
 use cd_base::{Fp, UserId};
 use record_bodies::BodyBuf;
 use record_body::PutItem;
@@ -29,16 +30,31 @@ fn owned_at(shares: &ShareIndex, user: u32, slot: u32) -> Option<Fp>
     }
 }
 
-// The user's next fingerprint from a slot on, and the slot behind it. It is one step for a user that owns nothing.
-fn next_owned(shares: &ShareIndex, user: u32, from: u32) -> Option<(Fp, u32)>
+// Where to look for the user's next slot from a slot on: along the user's chain, where it has one. None between is the user's.
+fn start_of(shares: &ShareIndex, chains: &OwnerChains, user: u32, from: u32) -> u32
+    requires chained { HasChains shares.now.owner_slots chains.now }
+    ensures others { AreOthers shares.now.owner_slots user from result }
+    ensures ahead { from ≤ result }
+{
+    if !chains.has(user) {
+        return from;
+    }
+    if from == 0 {
+        return chains.first(user);
+    }
+    match owned_at(shares, user, from - 1) {
+        Some(_) => from.max(chains.next(from - 1)),
+        None => from,
+    }
+}
+
+// The user's next fingerprint from a slot on, and the slot behind it. It is one step along the user's chain.
+fn next_owned(shares: &ShareIndex, chains: &OwnerChains, user: u32, from: u32) -> Option<(Fp, u32)>
+    requires chained { HasChains shares.now.owner_slots chains.now }
     ensures { IsNextPicked (owned_at user) shares.now.owner_slots from result }
 {
-    if shares.owned_by(UserId(user)) == 0 {
-        // each owner stands in a slot
-        let _ = shares.owner_at(0);
-        return None;
-    }
-    for slot in from..shares.owner_slots() {
+    let start = start_of(shares, chains, user, from);
+    for slot in start..shares.owner_slots() {
         match owned_at(shares, user, slot) {
             Some(fp) => return Some((fp, slot + 1)),
             None => {}
@@ -72,6 +88,7 @@ fn list_share(shares: &ShareIndex, marks: &mut Marks, fp: Fp) -> PutItem
 // Lists up to 256 shares of the user's from a slot on: how many they are, and the slot behind them.
 fn list_batch(
     shares: &ShareIndex,
+    chains: &OwnerChains,
     marks: &mut Marks,
     user: u32,
     from: u32,
@@ -79,6 +96,7 @@ fn list_batch(
 ) -> (usize, u32)
     requires stand { IsListed shares.now.places shares.now.place_slots }
     requires fit { AreShares shares.now.places }
+    requires chained { HasChains shares.now.owner_slots chains.now }
     requires marks { AreMarked shares.now marks.old (listed shares.now.owner_slots user from) }
     requires room { length items.old ≡ 256 }
     ensures batch { AreListed shares.now user from (take result.0 items.new) result.1 }
@@ -87,7 +105,7 @@ fn list_batch(
 {
     let mut at = from;
     for count in 0..256usize {
-        match next_owned(shares, user, at) {
+        match next_owned(shares, chains, user, at) {
             Some((fp, behind)) => {
                 items[count] = list_share(shares, marks, fp);
                 at = behind;
@@ -121,11 +139,13 @@ fn write_items(buffer: &mut BodyBuf, user: u32, items: &[PutItem])
 // Writes the next Put, if there is one.
 pub(crate) fn write_put(
     shares: &ShareIndex,
+    chains: &OwnerChains,
     marks: &mut Marks,
     at: &mut Position,
     buffer: &mut BodyBuf,
 ) -> bool
-    requires { IsAtPuts shares.now marks.old at.old.left at.old.user at.old.owner }
+    requires chained { HasChains shares.now.owner_slots chains.now }
+    requires ready { IsAtPuts shares.now marks.old at.old.left at.old.user at.old.owner }
     ensures ready { IsAtPuts shares.now marks.new at.new.left at.new.user at.new.owner }
     ensures step { Steps (map put_body (puts_from shares.now at.old.left at.old.user at.old.owner))
         (map put_body (puts_from shares.now at.new.left at.new.user at.new.owner)) buffer.new result }
@@ -136,7 +156,7 @@ pub(crate) fn write_put(
         place: None,
     }; 256];
     while at.left > 0 {
-        let (count, behind) = list_batch(shares, marks, at.user, at.owner, &mut items);
+        let (count, behind) = list_batch(shares, chains, marks, at.user, at.owner, &mut items);
         at.owner = behind;
         if count > 0 {
             let (batch, _) = items.split_at(count);

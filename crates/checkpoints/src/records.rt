@@ -2,6 +2,7 @@
 
 ghost use Rattle.std.specs.Prelude.{◌≡◌, ◌<◌, ◌≤◌, length, false, replicate};
 ghost use Rattle.cloud_memory.specs.declared.cloud.CloudMemory.{CloudMemory};
+ghost use Rattle.checkpoints.specs.Chained.{HasChains};
 ghost use Rattle.checkpoints.specs.Laying.{IsNext};
 ghost use Rattle.checkpoints.specs.Records.{coming, records_of};
 ghost use Rattle.cloud_memory.specs.Rooms.{memory_of};
@@ -12,7 +13,7 @@ ghost use Rattle.checkpoints.specs.Steps.{Steps};
 use crate::entries::{write_commit, write_spent};
 use crate::kept::write_kept;
 use crate::puts::write_put;
-use crate::{CheckpointRecords, Marks, Position};
+use crate::{CheckpointRecords, Marks, OwnerChains, Position};
 use cloud_memory::CloudMemory;
 use file_index::FileIndex;
 use record_bodies::BodyBuf;
@@ -24,16 +25,17 @@ fn write_record(
     shares: &ShareIndex,
     files: &FileIndex,
     spent: &SpentTable,
+    chains: &OwnerChains,
     marks: &mut Marks,
     at: &mut Position,
     buffer: &mut BodyBuf,
 ) -> bool
-    requires { IsReady shares.now files.now spent.now marks.old at.old }
-    ensures ready { IsReady shares.now files.now spent.now marks.new at.new }
+    requires { IsReady shares.now files.now spent.now chains.now marks.old at.old }
+    ensures ready { IsReady shares.now files.now spent.now chains.now marks.new at.new }
     ensures step { Steps (coming shares.now files.now spent.now at.old)
         (coming shares.now files.now spent.now at.new) buffer.new result }
 {
-    if write_put(shares, marks, at, buffer) {
+    if write_put(shares, chains, marks, at, buffer) {
         return true;
     }
     match write_kept(shares, at.place, buffer) {
@@ -65,6 +67,7 @@ pub struct MemoryRecords<'a> {
     pub(crate) shares: &'a ShareIndex,
     pub(crate) files: &'a FileIndex,
     pub(crate) spent: &'a SpentTable,
+    pub(crate) chains: &'a OwnerChains,
     pub(crate) marks: &'a mut Marks,
     pub(crate) at: Position,
 }
@@ -72,13 +75,20 @@ pub struct MemoryRecords<'a> {
 impl<'a> MemoryRecords<'a> {
     ghost use Rattle.std.specs.Prelude.{◌≡◌, ◌<◌, ◌≤◌, length, false, replicate};
 
-    /// All records of a memory, which has at most 256 users and 524,288 slots for places. The marks are taken away.
-    pub fn of(memory: &'a CloudMemory, marks: &'a mut Marks) -> MemoryRecords<'a>
+    /// All records of a memory, which has at most 256 users and 524,288 slots for places, and whose owners' slots are chained.
+    /// The marks are taken away.
+    pub fn of(
+        memory: &'a CloudMemory,
+        chains: &'a OwnerChains,
+        marks: &'a mut Marks,
+    ) -> MemoryRecords<'a>
+        requires chained { HasChains memory.now.shares.owner_slots chains.now }
         requires fit { FitsRecords (memory_of memory.now) }
         requires users { length memory.now.spent ≤ 256 }
         requires slots { length memory.now.shares.place_slots ≤ 524288 }
         ensures records { coming result.shares.now result.files.now result.spent.now result.at ≡ records_of memory.now }
-        ensures ready { IsReady result.shares.now result.files.now result.spent.now result.marks.now result.at }
+        ensures ready { IsReady result.shares.now result.files.now result.spent.now result.chains.now
+            result.marks.now result.at }
     {
         marks.clear();
         let shares = memory.shares();
@@ -90,6 +100,7 @@ impl<'a> MemoryRecords<'a> {
             shares,
             files,
             spent,
+            chains,
             marks,
             at: Position::first(spent.users() as u32),
         }
@@ -97,9 +108,10 @@ impl<'a> MemoryRecords<'a> {
 
     /// Writes the next record's body in place of what the buffer has, if there is one, and says whether there was.
     pub fn write_one(&mut self, buffer: &mut BodyBuf) -> bool
-        requires { IsReady self.old.shares.now self.old.files.now self.old.spent.now self.old.marks.now self.old.at }
+        requires { IsReady self.old.shares.now self.old.files.now self.old.spent.now
+            self.old.chains.now self.old.marks.now self.old.at }
         ensures ready { IsReady self.new.shares.now self.new.files.now self.new.spent.now
-            self.new.marks.now self.new.at }
+            self.new.chains.now self.new.marks.now self.new.at }
         ensures step { Steps (coming self.old.shares.now self.old.files.now self.old.spent.now self.old.at)
             (coming self.new.shares.now self.new.files.now self.new.spent.now self.new.at) buffer.new result }
     {
@@ -107,6 +119,7 @@ impl<'a> MemoryRecords<'a> {
             self.shares,
             self.files,
             self.spent,
+            self.chains,
             self.marks,
             &mut self.at,
             buffer,
@@ -117,7 +130,7 @@ impl<'a> MemoryRecords<'a> {
 impl<'a> CheckpointRecords for MemoryRecords<'a> {
     ghost to_come = { λ s. coming s.shares.now s.files.now s.spent.now s.at };
 
-    ghost is_ready = { λ s. IsReady s.shares.now s.files.now s.spent.now s.marks.now s.at };
+    ghost is_ready = { λ s. IsReady s.shares.now s.files.now s.spent.now s.chains.now s.marks.now s.at };
 
     fn write_next(&mut self, buffer: &mut BodyBuf) {
         self.write_one(buffer);

@@ -19,7 +19,7 @@ ghost use Rattle.checkpoints.specs.Known.{IsKnown, HasCheckpoint, CountsWithin, 
 ghost use Rattle.checkpoints.specs.Known.{IfFailed, UnlessFailed, IfLong, UnlessLong};
 ghost use Rattle.record_bodies.specs.Spelling.{Body, FitsBody, body_bytes};
 
-use crate::{Marks, MemoryRecords, checkpoint};
+use crate::{Marks, MemoryRecords, OwnerChains, checkpoint};
 use cd_base::CloudNo;
 use cd_edges::Shelf;
 use cloud_areas::laws::{law_of_checkpoints, law_of_places};
@@ -40,7 +40,7 @@ pub enum Unsettled {
 // How many records are still to come, where they fit so many bytes behind a start's 63. It writes each into the buffer.
 fn count_within(records: &mut MemoryRecords<'_>, limit: u64, buffer: &mut BodyBuf) -> Option<u32>
     requires ready { IsReady records.old.shares.now records.old.files.now records.old.spent.now
-        records.old.marks.now records.old.at }
+        records.old.chains.now records.old.marks.now records.old.at }
     requires few { limit < 4294967296 }
     ensures count { CountsWithin (coming records.old.shares.now records.old.files.now records.old.spent.now
         records.old.at) limit result }
@@ -74,6 +74,7 @@ pub fn checkpoint_of_memory<V: Shelf>(
     header: &Header,
     commands: u64,
     region: u8,
+    chains: &mut OwnerChains,
     marks: &mut Marks,
     buffer: &mut BodyBuf,
 ) -> Result<(), Unsettled>
@@ -130,12 +131,13 @@ pub fn checkpoint_of_memory<V: Shelf>(
     let _ = memory.shares().place_at(0);
     let _ = memory.shares().owner_at(0);
     let _ = memory.files().entry_at(0);
-    let mut records = MemoryRecords::of(memory, marks);
+    chains.chain(memory);
+    let mut records = MemoryRecords::of(memory, chains, marks);
     let count = match count_within(&mut records, limit, buffer) {
         Some(count) => count,
         None => return Err(Unsettled::Long),
     };
-    let mut records = MemoryRecords::of(memory, marks);
+    let mut records = MemoryRecords::of(memory, chains, marks);
     let laid = checkpoint(
         disk,
         shelf,

@@ -69,8 +69,8 @@ abbrev pub chain_with_room : OpenStore → List Command → Chain → ℕ → Ch
 chain_with_room s list c len =
     if nat_lt s.disk.journal.limit (s.disk.journal.current.gate + 1 + (len + 5)) then checkpoint_in s.header list c s.commands s.region s.memory else c
 
--- All but the journal, the marks and the record is as it was.
+-- All but the journal, the chains and marks of a checkpoint and the record is as it was.
 pub record KeepsServing (old new : OpenStore) : Type 0 where
-  pub same : new ≡ record old { disk = new.disk; marks = new.marks; body = new.body }
+  pub same : new ≡ record old { disk = new.disk; chains = new.chains; marks = new.marks; body = new.body }
   pub shares : new.disk.shares ≡ old.disk.shares
   pub recipes : new.disk.recipes ≡ old.disk.recipes

@@ -83,6 +83,7 @@ impl OpenStore {
             &self.header,
             self.commands,
             self.region,
+            &mut self.chains,
             &mut self.marks,
             &mut self.body,
         )?;

@@ -14,7 +14,7 @@ ghost use Rattle.open_store.specs.Store.{IsOpen, IsSettled, EndsMeet, Serves, cl
 ghost use Rattle.open_store.specs.Adding.{NoneStaged, unstaged};
 
 use cd_base::NoMemory;
-use checkpoints::Marks;
+use checkpoints::{Marks, OwnerChains};
 use cloud_disk::CloudDisk;
 use cloud_memory::{CloudMemory, Full};
 use container_log::LogFull;
@@ -47,6 +47,8 @@ pub struct OpenStore {
     pub commands: u64,
     /// The region that the blobs lie in.
     pub region: u8,
+    /// By which a checkpoint goes through what each user owns.
+    pub chains: OwnerChains,
     /// Which shares a checkpoint has listed.
     pub marks: Marks,
     /// The body of the record that is being made.
@@ -65,6 +67,7 @@ impl OpenStore {
     {
         let memory = CloudMemory::make(alloc, &header.rooms)?;
         let disk = CloudDisk::make(alloc, &header.rooms)?;
+        let chains = OwnerChains::make(alloc)?;
         let marks = Marks::make(alloc)?;
         let body = BodyBuf::make(alloc)?;
         Ok(OpenStore {
@@ -73,6 +76,7 @@ impl OpenStore {
             disk,
             commands: 0,
             region: 0,
+            chains,
             marks,
             body,
         })

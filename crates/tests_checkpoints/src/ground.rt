@@ -8,7 +8,7 @@ ghost use Rattle.cloud_memory.specs.Fitting.{FitsRecords};
 use cd_base::{CloudNo, NoMemory, Shape};
 use cd_edges::{Area, Shelf};
 use cd_fakes::MemShelf;
-use checkpoints::{Marks, checkpoint_of_memory};
+use checkpoints::{Marks, OwnerChains, checkpoint_of_memory};
 use cloud_disk::CloudDisk;
 use cloud_memory::CloudMemory;
 use journal_halves::half_limit;
@@ -43,6 +43,7 @@ pub(crate) fn header() -> Header
 pub(crate) struct Ground {
     pub shelf: MemShelf,
     pub disk: CloudDisk,
+    pub chains: OwnerChains,
     pub marks: Marks,
     pub body: BodyBuf,
     pub recipe: Vec<u8>,
@@ -56,6 +57,7 @@ impl Ground {
         Ok(Ground {
             shelf: MemShelf::of(alloc, 1, 3_000_000, 20_000, &[])?,
             disk: CloudDisk::make(alloc, &header.rooms)?,
+            chains: OwnerChains::make(alloc)?,
             marks: Marks::make(alloc)?,
             body: BodyBuf::make(alloc)?,
             recipe: vec![in alloc; 0u8; 1_180_190]?,
@@ -123,6 +125,7 @@ impl Ground {
             header,
             commands,
             0,
+            &mut self.chains,
             &mut self.marks,
             &mut self.body,
         );

@@ -1,11 +1,11 @@
-use Rattle.std.proofs.Common.{None, sym, ◌∙◌, arith}
+use Rattle.std.proofs.Common.{None, sym, arith}
 use Rattle.checkpoints.specs.Records.{owned_at}
+use Rattle.checkpoints.proofs.Chaining.{passed_to}
 use Rattle.checkpoints.proofs.Picks.{passes, finds}
-use Rattle.checkpoints.proofs.NoneOwned.{none_owned}
 use Rattle.checkpoints.proofs.puts.next_owned.Goals as goal
 
-pub returns-then-owned_by-eq0 : goal.returns-then-owned_by-eq0
-returns-then-owned_by-eq0 c = none_owned c.args.shares.now c.args.user c.args.from c.owner_at.ensures.each (sym c.owned_by.ensures ∙ c.if-owned_by-eq0.true)
+pub loop-slot-init : goal.loop-slot-init
+loop-slot-init c = passed_to c.args.shares.now.owner_slots c.args.user c.args.from c.start_of-start.result c.start_of-start.ensures.ahead c.start_of-start.ensures.others
 
 pub returns-in-Some : goal.returns-in-Some
 returns-in-Some c =

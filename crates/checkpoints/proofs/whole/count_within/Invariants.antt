@@ -6,7 +6,7 @@ use Rattle.checkpoints.proofs.whole.count_within.Given as goal
 
 abbrev pub invariant-each : goal.invariant-each
 invariant-each l = record {
-  ready : IsReady l.records.shares.now l.records.files.now l.records.spent.now l.records.marks.now l.records.at;
+  ready : IsReady l.records.shares.now l.records.files.now l.records.spent.now l.records.chains.now l.records.marks.now l.records.at;
   counted : Counted (coming l.fn.records.shares.now l.fn.records.files.now l.fn.records.spent.now l.fn.records.at) (coming l.records.shares.now l.records.files.now l.records.spent.now l.records.at) l.count l.len;
 }
 
