@@ -67,6 +67,13 @@ pub(crate) fn write_commit(files: &FileIndex, from: u32, buffer: &mut BodyBuf) -
     }
 }
 
+// The slot behind all entries.
+pub(crate) fn end_of_commits(files: &FileIndex) -> u32
+    ensures { commits_from files.now result ≡ [] }
+{
+    files.slots()
+}
+
 // What a user has spent, where it has spent anything.
 fn spent_at(table: &SpentTable, user: u32) -> Option<SpentBody>
     ensures spent { result ≡ spent_at user (spent_by table.now (record { 0 = user })) }

@@ -106,3 +106,10 @@ pub(crate) fn write_kept(shares: &ShareIndex, from: u32, buffer: &mut BodyBuf) -
         None
     }
 }
+
+// The slot behind all shares.
+pub(crate) fn end_of_kept(shares: &ShareIndex) -> u32
+    ensures { kept_from shares.now result ≡ [] }
+{
+    shares.place_slots()
+}

@@ -10,8 +10,8 @@ ghost use Rattle.cloud_memory.specs.Fitting.{FitsRecords};
 ghost use Rattle.checkpoints.specs.Ready.{IsReady};
 ghost use Rattle.checkpoints.specs.Steps.{Steps};
 
-use crate::entries::{write_commit, write_spent};
-use crate::kept::write_kept;
+use crate::entries::{end_of_commits, write_commit, write_spent};
+use crate::kept::{end_of_kept, write_kept};
 use crate::puts::write_put;
 use crate::{CheckpointRecords, Marks, OwnerChains, Position};
 use cloud_memory::CloudMemory;
@@ -20,7 +20,7 @@ use record_bodies::BodyBuf;
 use share_index::ShareIndex;
 use spent_table::SpentTable;
 
-// Writes the next record from a position on, if there is one.
+// Writes the next record from a position on, if there is one. What was gone through to its end isn't gone through again.
 fn write_record(
     shares: &ShareIndex,
     files: &FileIndex,
@@ -43,14 +43,14 @@ fn write_record(
             at.place = behind;
             return true;
         }
-        None => {}
+        None => at.place = end_of_kept(shares),
     }
     match write_commit(files, at.file, buffer) {
         Some(behind) => {
             at.file = behind;
             return true;
         }
-        None => {}
+        None => at.file = end_of_commits(files),
     }
     match write_spent(spent, at.row, buffer) {
         Some(behind) => {
