@@ -35,6 +35,7 @@ use Rattle.cd_base.specs.declared.shape.Shape.{Shape}
 use Rattle.upload_job.specs.Upload.{FileVersion}
 use Rattle.upload_spool.specs.Spools.{HasOpenJob, IsBegunOr, spool_header, job_bytes}
 use Rattle.upload_spool.proofs.Chains.{used}
+use Rattle.upload_spool.proofs.Lanes.{no_lanes}
 use Rattle.upload_spool.specs.States.{chosen, first_filled, Along, IsKept, HasFile, NoOpenJob, HasNone, IsNew, IsNewRead, IsNewJobOr, HasJob, IsOkOrFault, spool_error, State, IsOf, IsSpool}
 use Rattle.upload_spool.proofs.Notes.{both, shares≢journal, still_alone}
 
@@ -268,6 +269,7 @@ begun_or shape v header body image head job short (inr new) = inr (record {
   alone = new.alone;
   has = subst (λ (l : List ℕ). HasChain (image Journal) (with_body (new_of (spool_header shape)) l)) job (subst (λ (h : Header). HasChain (image Journal) (with_body (new_of h) body)) head new.has);
   within = omega (arith, used shape v [], short);
+  apart = no_lanes shape;
   file = new.file_is;
 })
 
@@ -287,6 +289,7 @@ spool_begun state shape v header body cloud has same head job of none short =
     record {
       of = of;
       noted = none;
+      apart = no_lanes state.shape;
       ended = subst (λ (l : List ℕ). IsEnded state.journal (cloud.now Journal) (with_body (new_of (spool_header state.shape)) l)) job
           (subst (λ (h : Header). IsEnded state.journal (cloud.now Journal) (with_body (new_of h) body)) whole has.ended);
       within = omega (arith, used state.shape v [], short);

@@ -1,5 +1,6 @@
 -- The chain of a spool, how long it is, and what an image with it stands for.
-use Rattle.std.proofs.Common.{◌≡◌, ℕ, ◌+◌, ◌*◌, ◌≤◌, false, List, [], ◌∷◌, ◌++◌, length, map, take, refl, sym, ap, ◌∙◌, subst, arith, inl, inr}
+use Rattle.std.proofs.Common.{◌≡◌, ◌≢◌, ℕ, ◌+◌, ◌*◌, ◌<◌, ◌≤◌, false, List, [], ◌∷◌, ◌++◌, length, map, take, refl, sym, ap, ◌∙◌, subst, arith, inl, inr}
+use Rattle.std.specs.Prelude.{All}
 use Rattle.std.specs.Int.{w32, to_be_bytes}
 use Rattle.std.proofs.lemmas.List.{length-append, map-append}
 use Rattle.cd_base.specs.declared.ids.CloudNo.{CloudNo}
@@ -11,15 +12,16 @@ use Rattle.journal_start.specs.Spelling.{start_bytes}
 use Rattle.journal_halves.specs.Halves.{is_half_begun}
 use Rattle.journal_halves.specs.Journals.{Where, HasChain, IsEither, used_by, with_body}
 use Rattle.upload_job.specs.Upload.{FileVersion}
-use Rattle.upload_spool.specs.Spools.{FitsKept, SpoolFor, HasOpenJob, IsNotedOr, spool_chain, spool_start, lane_bytes, job_bytes}
+use Rattle.upload_spool.specs.Spools.{FitsKept, AreLanes, SpoolFor, HasOpenJob, IsNotedOr, spool_chain, spool_start, lane_bytes, job_bytes}
 use Rattle.upload_spool.proofs.Bodies.{SameFields, same_job, job_len, same_lane}
+use Rattle.upload_spool.proofs.Lanes.{lanes_more}
 
 -- ---- lengths
 
 sized_len : (body : List ℕ) → length (sized body) ≡ 4 + length body
 sized_len body = omega (arith, length-append (to_be_bytes w32 (length body)) body)
 
-one_more : (body : List ℕ) (bodies : List (List ℕ)) → length (chain (body ∷ bodies)) ≡ 5 + length body + length (chain bodies)
+pub one_more : (body : List ℕ) (bodies : List (List ℕ)) → length (chain (body ∷ bodies)) ≡ 5 + length body + length (chain bodies)
 one_more body bodies = omega (arith, length-append (sized body) (chain bodies), sized_len body)
 
 start_len : (shape : Shape) → length (start_bytes (spool_start shape)) ≡ 36
@@ -49,18 +51,19 @@ pub noted_chain : (shape : Shape) (v : FileVersion) (lanes : List CloudNo) (lane
 noted_chain shape v lanes lane =
     ap (λ (bodies : List (List ℕ)). record { half = 0; start = spool_start shape; bodies = job_bytes v ∷ bodies }) (sym (map-append lane_bytes lanes (lane ∷ [])))
 
-pub noted : (shape : Shape) (v : FileVersion) (lanes : List CloudNo) (lane : CloudNo) (image : Image) → used_by (spool_chain shape v (lanes ++ lane ∷ [])) ≤ 65536
+pub noted : (shape : Shape) (v : FileVersion) (lanes : List CloudNo) (lane : CloudNo) (image : Image) → AreLanes shape lanes → lane.0 < shape.n → All (λ noted. noted.0 ≢ lane.0) lanes
+    → used_by (spool_chain shape v (lanes ++ lane ∷ [])) ≤ 65536
     → IsEither (spool_chain shape v lanes) (with_body (spool_chain shape v lanes) (lane_bytes lane)) (image Journal)
     → is_half_begun 1 (image Journal) ≡ false → take (length v.file) (image Shares) ≡ v.file
     → IsNotedOr shape v lanes lane image
-noted shape v lanes lane image room either alone file =
+noted shape v lanes lane image are below new room either alone file =
     elim either [
       | inl old ↦
           let more = used shape v (lanes ++ lane ∷ []) in
           let fewer = used shape v lanes in
           let long = length-append lanes (lane ∷ []) in
-          inl (record { alone = alone; has = old; within = omega (arith, room, more, fewer, long); file = file })
-      | inr new ↦ inr (record { alone = alone; has = subst (HasChain (image Journal)) (noted_chain shape v lanes lane) new; within = room; file = file })
+          inl (record { alone = alone; has = old; within = omega (arith, room, more, fewer, long); apart = are; file = file })
+      | inr longer ↦ inr (record { alone = alone; has = subst (HasChain (image Journal)) (noted_chain shape v lanes lane) longer; within = room; apart = lanes_more shape lanes lane are below new; file = file })
     ]
 
 -- ---- one job

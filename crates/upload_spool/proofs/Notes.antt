@@ -1,6 +1,6 @@
 -- What a note leaves.
-use Rattle.std.proofs.Common.{◌≡◌, ◌≢◌, inl, ℕ, ◌+◌, ◌*◌, ◌≤◌, false, if◌then◌else◌, Result, Ok, Err, OnOk, List, [], ◌∷◌, ◌++◌, length, drop, refl, sym, ap, ◌∙◌, subst, arith, length-append}
-use Rattle.std.specs.Prelude.{is_ok, is_err}
+use Rattle.std.proofs.Common.{◌≡◌, ◌≢◌, inl, ℕ, ◌+◌, ◌*◌, ◌<◌, ◌≤◌, false, if◌then◌else◌, Result, Ok, Err, OnOk, List, [], ◌∷◌, ◌++◌, length, drop, refl, sym, ap, ◌∙◌, subst, arith, length-append}
+use Rattle.std.specs.Prelude.{All, is_ok, is_err}
 use Rattle.std.proofs.lemmas.Bool.{false≢true}
 use Rattle.std.proofs.lemmas.List.{drop_at, length-map}
 use Rattle.cd_base.specs.Numbers.{numbers_of}
@@ -22,10 +22,10 @@ use Rattle.half_journal.specs.Outcomes.{stage_after}
 use Rattle.half_journal.specs.States.{IsEnded}
 use Rattle.half_journal.specs.States as half
 use Rattle.upload_job.specs.Upload.{FileVersion}
-use Rattle.upload_spool.specs.Spools.{SpoolFor, IsNotedOr, spool_chain, lane_bytes}
+use Rattle.upload_spool.specs.Spools.{AreLanes, SpoolFor, IsNotedOr, spool_chain, lane_bytes}
 use Rattle.upload_spool.specs.States.{State, IsOf, IsSpool, HasFile}
 use Rattle.upload_spool.specs.declared.spool.Spool.{Spool}
-use Rattle.upload_spool.proofs.Lanes.{few_lanes}
+use Rattle.upload_spool.proofs.Lanes.{few_lanes, lanes_more}
 use Rattle.upload_spool.proofs.Chains.{used, noted, noted_chain}
 
 -- ---- runs of calls
@@ -61,6 +61,7 @@ spool_image state v lanes cloud is image left =
         chain_is = subst (λ (h : ℕ). IsJournal (all_bodies w) (half_of h store.read)) is.ended.half is.ended.read.chain_is;
       });
       within = is.within;
+      apart = is.apart;
       file = is.file (image Shares) (left Shares);
     }
 
@@ -86,24 +87,27 @@ room_for state v lanes lane cloud is near =
 pub still_alone : (bytes old : List ℕ) → part_of 1 bytes ≡ part_of 1 old → is_half_begun 1 old ≡ false → is_half_begun 1 bytes ≡ false
 still_alone bytes old same none = sym (begun_part 1 bytes) ∙ ap is_begun same ∙ begun_part 1 old ∙ none
 
-pub noted_images : (state : State) (v : FileVersion) (lanes : List CloudNo) (lane : CloudNo) (c0 c1 : Cloud) → IsSpool state v lanes c0 → state.journal.current.gate ≤ 1258
+pub noted_images : (state : State) (v : FileVersion) (lanes : List CloudNo) (lane : CloudNo) (c0 c1 : Cloud) → IsSpool state v lanes c0 → lane.0 < state.shape.n → All (λ noted. noted.0 ≢ lane.0) state.noted
+    → state.journal.current.gate ≤ 1258
     → LeavesOnly c0 c1 (IsAtArea c0.now Journal (IsEither (spool_chain state.shape v lanes) (with_body (spool_chain state.shape v lanes) (lane_bytes lane))))
     → LeavesOnly c0 c1 (λ image. part_of 1 (image Journal) ≡ part_of 1 (c0.now Journal).read) → LeavesOnly c0 c1 (IsNotedOr state.shape v lanes lane)
-noted_images state v lanes lane c0 c1 is near either other =
+noted_images state v lanes lane c0 c1 is below new near either other =
     weaker c0 c1 _ _ (both c0 c1 _ _ either other) (λ image at.
-    noted state.shape v lanes lane image (room_for state v lanes lane c0 is near) at.0.area (still_alone (image Journal) (c0.now Journal).read at.1 is.alone)
+    noted state.shape v lanes lane image is.apart below (subst (All (λ noted. noted.0 ≢ lane.0)) is.noted new) (room_for state v lanes lane c0 is near) at.0.area (still_alone (image Journal) (c0.now Journal).read at.1 is.alone)
     (is.file (image Shares) (at.0.others Shares shares≢journal)))
 
-pub noted_spool : (before after : State) (v : FileVersion) (lanes : List CloudNo) (lane : CloudNo) (c0 c1 : Cloud) → IsSpool before v lanes c0 → before.journal.current.gate ≤ 1258
+pub noted_spool : (before after : State) (v : FileVersion) (lanes : List CloudNo) (lane : CloudNo) (c0 c1 : Cloud) → IsSpool before v lanes c0 → lane.0 < before.shape.n → All (λ noted. noted.0 ≢ lane.0) before.noted
+    → before.journal.current.gate ≤ 1258
     → IsEnded after.journal (c1.now Journal) (with_body (spool_chain before.shape v lanes) (lane_bytes lane)) → after.shape ≡ before.shape → (IsOf before v → IsOf after v) → after.noted ≡ before.noted ++ lane ∷ []
     → LeavesOnly c0 c1 (λ image. part_of 1 (image Journal) ≡ part_of 1 (c0.now Journal).read) → IsImage c1.now (reads c1.now)
     → ((area : Area) → area ≢ Journal → c1.now area ≡ c0.now area) → IsSpool after v (lanes ++ lane ∷ []) c1
-noted_spool before after v lanes lane c0 c1 is near ended shape of more other now others =
+noted_spool before after v lanes lane c0 c1 is below new near ended shape of more other now others =
     let chain : with_body (spool_chain before.shape v lanes) (lane_bytes lane) ≡ spool_chain after.shape v (lanes ++ lane ∷ [])
     = noted_chain before.shape v lanes lane ∙ ap (λ s. spool_chain s v (lanes ++ lane ∷ [])) (sym shape) in
     record {
       of = of is.of;
       noted = more ∙ ap (λ (l : List CloudNo). l ++ lane ∷ []) is.noted;
+      apart = subst (λ s. AreLanes s (lanes ++ lane ∷ [])) (sym shape) (lanes_more before.shape lanes lane is.apart below (subst (All (λ noted. noted.0 ≢ lane.0)) is.noted new));
       ended = subst (IsEnded after.journal (c1.now Journal)) chain ended;
       within = subst (λ s. used_by (spool_chain s v (lanes ++ lane ∷ [])) ≤ 65536) (sym shape) (room_for before v lanes lane c0 is near);
       alone = still_alone (c1.now Journal).read (c0.now Journal).read (at_end c0 c1 _ other (reads c1.now) now) is.alone;

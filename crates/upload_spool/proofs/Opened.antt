@@ -20,7 +20,7 @@ use Rattle.upload_job.specs.Lanes.{LaneView, lanes_resumed}
 use Rattle.upload_job.specs.Upload.{FileVersion}
 use Rattle.upload_spool.specs.Opens.{Notes, Say, HasAll, OpensIs, IsOpenedSpool, answer_of, kept_file, rising, first_notes, more_notes}
 use Rattle.upload_spool.specs.Reading.{JobFields, fields_for, is_lane, lane_at, lane_in, wrong_at}
-use Rattle.upload_spool.specs.Spools.{FitsKept, SpoolFor, spool_chain, spool_limit, lane_bytes, job_bytes}
+use Rattle.upload_spool.specs.Spools.{AreLanes, FitsKept, SpoolFor, spool_chain, spool_limit, lane_bytes, job_bytes}
 use Rattle.upload_spool.specs.States.{IsOf, IsSpool, state_of}
 use Rattle.upload_spool.specs.Steps.{AreKept, FoundIs, HasEnded, IsBrought, BringsIs, notes_in, fields_kept}
 use Rattle.upload_spool.specs.declared.error.SpoolErr.{SpoolErr}
@@ -181,6 +181,7 @@ spool_opened shape c0 c1 c2 c3 records state x s ended stays b v lanes fits spoo
         digest = is.of.digest ∙ is.digest ∙ ap (λ (f : JobFields). f.digest) job;
       };
       noted = is.noted ∙ noted;
+      apart = subst (λ (h : Shape). AreLanes h lanes) shape_is spool.apart;
       ended = subst (λ (t : half.State). IsEnded t (c3.now Journal) (spool_chain x.0.shape v lanes)) (sym is.journal) (subst (λ (h : Shape). IsEnded state (c3.now Journal) (spool_chain h v lanes)) shape_is ended3);
       within = subst (λ (h : Shape). used_by (spool_chain h v lanes) ≤ spool_limit) shape_is spool.within;
       alone = subst (λ (l : List ℕ). is_half_begun 1 l ≡ false) (sym (ap (λ (a : Areas). (a Journal).read) stays.now ∙ same)) spool.alone;

@@ -122,6 +122,17 @@ OpensIs shape image (Err Fault) = Unit {0}
 OpensIs shape image (Err NoMemory) = Unit {0}
 OpensIs shape image (Err (NotEmpty area len)) = ⊥
 
+-- what is answered of the spool of this version and these lanes: it, and the job that goes on; or a device call or memory failed
+abbrev pub FindsAgain : Shape → FileVersion → List CloudNo → Result (Option (State × List LaneView)) SpoolErr → Type 0
+FindsAgain shape v lanes (Ok (Some x)) = (x.0.shape ≡ shape) × (x.0.noted ≡ lanes) × IsOf x.0 v × (x.1 ≡ lanes_resumed shape v (rising shape lanes))
+FindsAgain shape v lanes (Ok None) = ⊥
+FindsAgain shape v lanes (Err Fault) = Unit {0}
+FindsAgain shape v lanes (Err NoMemory) = Unit {0}
+FindsAgain shape v lanes (Err (NotEmpty area len)) = ⊥
+FindsAgain shape v lanes (Err (Damaged at byte)) = ⊥
+FindsAgain shape v lanes (Err (OtherStore found asked)) = ⊥
+FindsAgain shape v lanes (Err (Rotten named found)) = ⊥
+
 -- what was opened, as its state and its lanes
 abbrev pub answer_of : Result (Option (Spool × List LaneView)) SpoolErr → Result (Option (State × List LaneView)) SpoolErr
 answer_of (Ok None) = Ok None

@@ -1,9 +1,10 @@
 -- What a spool stands for: a job that is kept at its client, and which of its lanes were noted as committed.
-use Rattle.std.specs.Prelude.{◌≡◌, ◌⊎◌, ℕ, ◌<◌, ◌≤◌, ◌^◌, false, List, [], ◌∷◌, ◌++◌, length, map, take, slice_get, Some, None}
-use Rattle.std.specs.List.{Contains}
+use Rattle.std.specs.Prelude.{◌≡◌, ◌⊎◌, ℕ, ◌<◌, ◌≤◌, ◌^◌, false, nat_eq, List, [], ◌∷◌, ◌++◌, length, map, take, All, slice_get, Some, None}
+use Rattle.std.specs.List.{Contains, IsDistinct}
 use Rattle.std.specs.Int.{w16, w32, w64, to_be_bytes}
 use Rattle.sha2.specs.Sha256.{sha256 as sha256_of}
 use Rattle.cd_base.specs.Limits.{IsPath, file_limit}
+use Rattle.cd_base.specs.Numbers.{numbers_of}
 use Rattle.cd_base.specs.declared.ids.CloudNo.{CloudNo}
 use Rattle.cd_base.specs.declared.ids.UserId.{UserId}
 use Rattle.cd_base.specs.declared.ids.Version.{Version}
@@ -55,12 +56,18 @@ spool_chain shape v lanes = record { half = 0; start = spool_start shape; bodies
 abbrev pub spool_limit : ℕ
 spool_limit = 65536
 
--- Half 0 alone is begun, its records are the job and then the lanes in the order in which they were noted, and the file's
--- bytes lie in Shares from place 0 on.
+-- They are different lanes of such a job: clouds below n.
+pub record AreLanes (shape : Shape) (lanes : List CloudNo) : Type 0 where
+  pub distinct : IsDistinct nat_eq (numbers_of lanes)
+  pub below : All (λ cloud. cloud < shape.n) (numbers_of lanes)
+
+-- Half 0 alone is begun, its records are the job and then different lanes in the order in which they were noted, and the
+-- file's bytes lie in Shares from place 0 on.
 pub record SpoolFor (image : Image) (shape : Shape) (v : FileVersion) (lanes : List CloudNo) : Type 0 where
   pub alone : is_half_begun 1 (image Journal) ≡ false
   pub has : HasChain (image Journal) (spool_chain shape v lanes)
   pub within : used_by (spool_chain shape v lanes) ≤ spool_limit
+  pub apart : AreLanes shape lanes
   pub file : take (length v.file) (image Shares) ≡ v.file
 
 -- ---- an open job

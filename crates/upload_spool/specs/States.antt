@@ -25,7 +25,7 @@ use Rattle.upload_job.specs.Upload.{FileVersion, work_of}
 use Rattle.upload_spool.specs.declared.error.SpoolErr.{SpoolErr}
 use Rattle.upload_spool.specs.declared.error.SpoolErr.TheVariants.{NotEmpty, Fault, Damaged, OtherStore, Rotten, NoMemory}
 use Rattle.upload_spool.specs.declared.spool.Spool.{Spool}
-use Rattle.upload_spool.specs.Spools.{HasOpenJob, IsBegunOr, IsNotedOr, spool_chain, spool_limit, job_bytes}
+use Rattle.upload_spool.specs.Spools.{AreLanes, HasOpenJob, IsBegunOr, IsNotedOr, spool_chain, spool_limit, job_bytes}
 
 -- what a spool shows
 pub record State : Type 0 where
@@ -62,10 +62,11 @@ pub record IsOf (state : State) (v : FileVersion) : Type 0 where
 abbrev pub HasFile : List ℕ → Store → Type 0
 HasFile file store = (image : List ℕ) → MayLeave store image → take (length file) image ≡ file
 
--- The cloud keeps this version and these lanes, all of it on the disk, and the spool stands at the end of its records.
+-- The cloud keeps this version and these different lanes, all of it on the disk, and the spool stands at the end of its records.
 pub record IsSpool (state : State) (v : FileVersion) (lanes : List CloudNo) (cloud : Cloud) : Type 0 where
   pub of : IsOf state v
   pub noted : state.noted ≡ lanes
+  pub apart : AreLanes state.shape lanes
   pub ended : IsEnded state.journal (cloud.now Journal) (spool_chain state.shape v lanes)
   pub within : used_by (spool_chain state.shape v lanes) ≤ spool_limit
   pub alone : is_half_begun 1 (cloud.now Journal).read ≡ false

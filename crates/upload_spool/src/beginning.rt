@@ -277,7 +277,7 @@ impl Spool {
     /// then the job's record in Journal. It has the conditions of `Job::new`.
     ///
     /// `SpoolErr::NotEmpty` comes exactly where an area isn't empty, with the first one in the order journal, shares, recipes;
-    /// nothing is written then. `SpoolErr::Fault` comes only where the cloud's count of faults rose, and
+    /// all is as before then. `SpoolErr::Fault` comes only where the cloud's count of faults rose, and
     /// `SpoolErr::NoMemory` before the first write. Whenever a crash comes, no job is open, or this one with no lane noted; after
     /// Ok it is this one.
     pub fn begin<V: Shelf>(
@@ -297,6 +297,9 @@ impl Spool {
             (V.cloud_at shelf.old 0) (V.cloud_at shelf.new 0) }
         ensures begun { HasBegun (record { user = user; path = path.now; number = version; file = bytes.now })
             (V.cloud_at shelf.old 0) (V.cloud_at shelf.new 0) result }
+        ensures spared { IsTrue (V.cloud_at shelf.old 0).told
+            → first_filled (reads (V.cloud_at shelf.old 0).now) ≢ None
+            → Stays (V.cloud_at shelf.old 0) (V.cloud_at shelf.new 0) }
         ensures spool { IfOk result (IsBegunSpool shape
             (record { user = user; path = path.now; number = version; file = bytes.now })) }
         ensures call { IsCall (V.cloud_at shelf.old) (V.cloud_at shelf.new) 0

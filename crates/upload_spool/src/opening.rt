@@ -371,6 +371,9 @@ impl Spool {
     /// or the current one begins with the spool's header and has no record. Shares and Journal are synced first, so that a
     /// crash leaves what is read; nothing is written, and each image since is one that a crash might have left before.
     ///
+    /// What was kept is found: where the areas are the spool of a version with some lanes, these are answered, or
+    /// `SpoolErr::Fault` or `SpoolErr::NoMemory`.
+    ///
     /// In this order: `SpoolErr::Damaged` at a start that is damaged, and `SpoolErr::OtherStore` where the current one has
     /// another header; `Damaged` at the first record that is damaged, or that isn't a job's as the first one, or a new
     /// lane's as a later one, at its first wrong place; and `SpoolErr::Rotten` exactly where the file's bytes, or as many
@@ -386,6 +389,9 @@ impl Spool {
         ensures kept { IsTrue (V.cloud_at shelf.old 0).told → (v : FileVersion) (lanes : List CloudNo) → FitsKept v
             → SpoolFor (reads (V.cloud_at shelf.old 0).now) shape v lanes
             → IfOk result (λ opened. IfSome opened (λ x. IsSpool (state_of x.0) v lanes (V.cloud_at shelf.new 0))) }
+        ensures found_again { IsTrue (V.cloud_at shelf.old 0).told → (v : FileVersion) (lanes : List CloudNo)
+            → FitsKept v → SpoolFor (reads (V.cloud_at shelf.old 0).now) shape v lanes
+            → opens.FindsAgain shape v lanes (opens.answer_of result) }
         ensures spool { IfOk result (λ opened. IfSome opened (opens.IsOpenedSpool shape)) }
         ensures spared { IsTrue (V.cloud_at shelf.old 0).told
             → LeavesOnly (V.cloud_at shelf.old 0) (V.cloud_at shelf.new 0) (IsImage (V.cloud_at shelf.old 0).now) }

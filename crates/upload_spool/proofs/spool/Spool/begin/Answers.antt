@@ -1,4 +1,4 @@
-use Rattle.std.proofs.Common.{◌∙◌}
+use Rattle.std.proofs.Common.{sym, ◌∙◌}
 use Rattle.cd_edges.proofs.Moments.{told_on}
 use Rattle.upload_job.specs.Upload.{FileVersion}
 use Rattle.half_journal.specs.States as half
@@ -39,3 +39,9 @@ returns-in-Ok-keep-clause-begun g c told none =
     let after : State = record s { journal = half.state_of c.keep.new.journal } in
     spool_begun after c.args.shape v c.header_of-header.result c.as_slice.result.now c2 (c.in-Ok-keep.ensures.kept told1 (none_on c0 c1 c.find_filled.ensures.stays none)) draft.shape_is c.header_of-header.ensures.value
     (c.as_slice.ensures ∙ draft.body_is) (record { user = draft.of.user; number = draft.of.number; path = draft.of.path; len = draft.of.len; digest = draft.of.digest }) draft.none c.requires.path.few
+
+pub returns-in-Ok-keep-clause-spared : goal.returns-in-Ok-keep-clause-spared
+returns-in-Ok-keep-clause-spared g c told some = absurd (some (sym (c.in-Ok-None.ensures.filled told) ∙ c.in-Ok-None.field-0-is))
+
+pub returns-in-Err-keep-clause-spared : goal.returns-in-Err-keep-clause-spared
+returns-in-Err-keep-clause-spared g c told some = absurd (some (sym (c.in-Ok-None.ensures.filled told) ∙ c.in-Ok-None.field-0-is))

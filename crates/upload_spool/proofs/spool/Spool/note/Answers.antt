@@ -32,13 +32,13 @@ returns-then-is_err-clause-any_moment g c told v lanes is = not_noted (state_of 
 pub returns-in-Ok-clause-any_moment : goal.returns-in-Ok-clause-any_moment
 returns-in-Ok-clause-any_moment g c told v lanes is =
     let before = state_of c.args.self.now in let w = spool_chain before.shape v lanes in
-    noted_images before v lanes c.args.lane (g.V.Shelf.cloud_at c.args.shelf.now 0) (g.V.Shelf.cloud_at c.append.new.shelf 0) is (near c.args.self.now c.requires.open)
+    noted_images before v lanes c.args.lane (g.V.Shelf.cloud_at c.args.shelf.now 0) (g.V.Shelf.cloud_at c.append.new.shelf 0) is c.requires.below c.requires.new (near c.args.self.now c.requires.open)
     (c.append.ensures.any_moment told w is.ended) (c.append.ensures.other told w is.ended)
 
 pub returns-in-Err-clause-any_moment : goal.returns-in-Err-clause-any_moment
 returns-in-Err-clause-any_moment g c told v lanes is =
     let before = state_of c.args.self.now in let w = spool_chain before.shape v lanes in
-    noted_images before v lanes c.args.lane (g.V.Shelf.cloud_at c.args.shelf.now 0) (g.V.Shelf.cloud_at c.append.new.shelf 0) is (near c.args.self.now c.requires.open)
+    noted_images before v lanes c.args.lane (g.V.Shelf.cloud_at c.args.shelf.now 0) (g.V.Shelf.cloud_at c.append.new.shelf 0) is c.requires.below c.requires.new (near c.args.self.now c.requires.open)
     (c.append.ensures.any_moment told w is.ended) (c.append.ensures.other told w is.ended)
 
 pub returns-in-Ok-clause-noted : goal.returns-in-Ok-clause-noted
@@ -48,6 +48,6 @@ returns-in-Ok-clause-noted g c told v lanes is =
     let items : c.push.new.self.items ≡ more = pushed c.push.result c.push.new.self.items more s.noted.items (sym c.is_err.ensures.value ∙ c.if-is_err.false) c.push.ensures.items in
     let w = spool_chain before.shape v lanes in
     let after : State = record before { noted = c.push.new.self.items; journal = half.state_of c.append.new.self } in
-    noted_spool before after v lanes lane c0 c1 is (near s c.requires.open) (c.in-Ok.ensures.added told w is.ended) refl
+    noted_spool before after v lanes lane c0 c1 is c.requires.below c.requires.new (near s c.requires.open) (c.in-Ok.ensures.added told w is.ended) refl
     (λ of. record { user = of.user; number = of.number; path = of.path; len = of.len; digest = of.digest }) items
     (c.append.ensures.other told w is.ended) (g.met.V.Shelf.reads_image c.append.new.shelf 0 (told_on c0 c1 c.append.ensures.call.told told)) (c.in-Ok.ensures.others told)

@@ -1,13 +1,15 @@
-use Rattle.std.proofs.Common.{Option, Ok, subst}
+use Rattle.std.proofs.Common.{Option, Ok, Err, Some, None, subst}
 use Rattle.std.specs.Prelude.{IfSome}
-use Rattle.cd_edges.specs.Disk.{IsImage}
+use Rattle.cd_edges.specs.Disk.{IsImage, reads}
 use Rattle.cd_edges.proofs.Moments.{told_on}
 use Rattle.cd_edges.specs.declared.area.Area.TheVariants.{Journal}
 use Rattle.half_journal.specs.States as half
+use Rattle.upload_spool.specs.Opens.{answer_of}
 use Rattle.upload_spool.specs.Steps.{FoundIs, HasEnded}
 use Rattle.upload_spool.specs.declared.opening.Records.{Records}
+use Rattle.upload_spool.proofs.Again.{found_again}
 use Rattle.upload_spool.proofs.Begins.{still_none}
-use Rattle.upload_spool.proofs.Opened.{synced_shares, none_opens, err_opens, ok_opens, spool_opened, sync_spares, then_spares}
+use Rattle.upload_spool.proofs.Opened.{synced_shares, none_opens, err_opens, ok_opens, unbrought_opens, spool_opened, sync_spares, then_spares}
 use Rattle.upload_spool.proofs.spool.Spool.open.Goals as goal
 
 pub returns-in-Err-clause-spared : goal.returns-in-Err-clause-spared
@@ -63,3 +65,28 @@ returns-in-Ok-bring-clause-kept g c told v lanes fits spool =
     let records = c.in-Ok-Some.records in let state = half.state_of c.kept_in.new.journal in
     let ended = subst (λ (o : Option Records). IfSome o (HasEnded c.args.shape state c1 c2)) c.in-Ok-Some.field-0-is (c.in-Ok-Some.ensures.ended told1) in
     spool_opened c.args.shape c0 c1 c2 (g.V.Shelf.cloud_at c.bring.new.shelf 0) records state c.in-Ok-bring.opened (synced_shares c0 c1 (c.in-Ok.ensures.sync told).ok) ended c.bring.ensures.stays c.in-Ok-bring.ensures.brings v lanes fits spool
+
+pub returns-in-Ok-None-clause-found_again : goal.returns-in-Ok-None-clause-found_again
+returns-in-Ok-None-clause-found_again g c told v lanes fits spool =
+    found_again (reads (g.V.Shelf.cloud_at c.args.shelf.now 0).now) c.args.shape v lanes fits spool (Ok None) (returns-in-Ok-None-clause-found g c told)
+
+pub returns-in-Err-kept_in-clause-found_again : goal.returns-in-Err-kept_in-clause-found_again
+returns-in-Err-kept_in-clause-found_again g c told v lanes fits spool =
+    found_again (reads (g.V.Shelf.cloud_at c.args.shelf.now 0).now) c.args.shape v lanes fits spool (answer_of (Err c.in-Err-kept_in.error)) (returns-in-Err-kept_in-clause-found g c told)
+
+pub returns-in-Ok-bring-clause-found_again : goal.returns-in-Ok-bring-clause-found_again
+returns-in-Ok-bring-clause-found_again g c told v lanes fits spool =
+    found_again (reads (g.V.Shelf.cloud_at c.args.shelf.now 0).now) c.args.shape v lanes fits spool (answer_of (Ok (Some c.in-Ok-bring.opened))) (returns-in-Ok-bring-clause-found g c told)
+
+pub returns-in-Err-bring-clause-found : goal.returns-in-Err-bring-clause-found
+returns-in-Err-bring-clause-found g c told =
+    let c0 = g.V.Shelf.cloud_at c.args.shelf.now 0 in let c1 = g.V.Shelf.cloud_at c.sync.new.self 0 in let c2 = g.V.Shelf.cloud_at c.kept_in.new.shelf 0 in
+    let told1 = told_on c0 c1 c.sync.ensures.call.told told in let told2 = told_on c1 c2 c.kept_in.ensures.call.told told1 in
+    let records = c.in-Ok-Some.records in let state = half.state_of c.kept_in.new.journal in
+    let found = subst (λ (o : Option Records). FoundIs c.args.shape (c1.now Journal).read (Ok o)) c.in-Ok-Some.field-0-is (c.in-Ok-Some.ensures.found told1) in
+    let ended = subst (λ (o : Option Records). IfSome o (HasEnded c.args.shape state c1 c2)) c.in-Ok-Some.field-0-is (c.in-Ok-Some.ensures.ended told1) in
+    unbrought_opens c.args.shape c0 c1 c2 records state c.in-Err-bring.error (synced_shares c0 c1 (c.in-Ok.ensures.sync told).ok) found ended told2 c.in-Err-bring.ensures.brings
+
+pub returns-in-Err-bring-clause-found_again : goal.returns-in-Err-bring-clause-found_again
+returns-in-Err-bring-clause-found_again g c told v lanes fits spool =
+    found_again (reads (g.V.Shelf.cloud_at c.args.shelf.now 0).now) c.args.shape v lanes fits spool (answer_of (Err c.in-Err-bring.error)) (returns-in-Err-bring-clause-found g c told)
