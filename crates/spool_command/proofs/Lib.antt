@@ -1,0 +1,6 @@
+pub mod Notes
+pub mod Joining
+pub mod Ends
+pub mod Carried
+pub mod Silent
+pub mod Kept

@@ -1,0 +1,5 @@
+pub mod Noted
+pub mod Going
+pub mod Writing
+pub mod Spooled
+pub mod Resumed

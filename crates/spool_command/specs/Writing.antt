@@ -1,0 +1,55 @@
+-- What is written of a job that is kept, with the status.
+use Rattle.std.specs.Prelude.{◌≡◌, ℕ, Bool, List, [], ◌++◌, Option, Some, None, Result, Ok, Err, if◌then◌else◌}
+use Rattle.cd_base.specs.declared.ids.CloudNo.{CloudNo}
+use Rattle.transcript.specs.declared.ending.Ending.TheVariants as endings
+use Rattle.transcript.specs.declared.line.Line.TheVariants as lines
+use Rattle.transcript.specs.declared.refusal.Refusal.TheVariants as refusals
+use Rattle.transcript.specs.Endings.{ending_text}
+use Rattle.transcript.specs.Transcript.{line_text}
+use Rattle.ports_link.specs.Refusals.{refused_text}
+use Rattle.upload_spool.specs.declared.error.SpoolErr.{SpoolErr}
+use Rattle.upload_spool.specs.declared.error.SpoolErr.TheVariants as spool_errors
+use Rattle.backup_command.specs.Writing.{Output, IsSilent, Writes}
+use Rattle.spool_command.specs.declared.interruption.Interruption.TheVariants.{Ports, Shelf, Memory}
+use Rattle.spool_command.specs.declared.writing.Unspooled.{Unspooled}
+use Rattle.spool_command.specs.declared.writing.Unspooled.TheVariants.{Undialled, Unheard, Refused, Unkept, Interrupted}
+
+-- the client's own folder is cloud 0 of its shelf
+abbrev pub folder : CloudNo
+folder = record { 0 = 0 }
+
+-- the line with which a spool was refused
+abbrev pub refusal_text : SpoolErr → List ℕ
+refusal_text (spool_errors.NotEmpty area len) = ending_text (endings.Store folder area len)
+refusal_text spool_errors.Fault = ending_text (endings.Shelf folder)
+refusal_text (spool_errors.Damaged at byte) = ending_text (endings.Damaged folder at byte)
+refusal_text (spool_errors.OtherStore found asked) =
+    ending_text (endings.Other folder found.format found.shape.n found.shape.k found.cloud)
+refusal_text (spool_errors.Rotten named found) = line_text (lines.Refused (refusals.Rotten folder named found))
+refusal_text spool_errors.NoMemory = []
+
+-- and the status: 7 where the folder has something else, 5 where the shelf failed, 8 where the file is another
+abbrev pub refusal_status : SpoolErr → ℕ
+refusal_status (spool_errors.NotEmpty area len) = 7
+refusal_status spool_errors.Fault = 5
+refusal_status (spool_errors.Damaged at byte) = 7
+refusal_status (spool_errors.OtherStore found asked) = 7
+refusal_status (spool_errors.Rotten named found) = 8
+refusal_status spool_errors.NoMemory = 6
+
+-- nothing is written, with this status
+pub record IsQuiet (due : ℕ) (out : Output) (status : ℕ) : Type 0 where
+  pub status_is : status ≡ due
+  pub silent : IsSilent out
+
+-- What is written of a job that came to this, with the text of its lines; None is no job.
+abbrev pub IsWritten : Result (Option Bool) Unspooled → List ℕ → Output → ℕ → Type 0
+IsWritten (Ok (Some stored)) text out status = Writes text (if stored then 0 else 8) out status
+IsWritten (Ok None) text out status = Writes (ending_text endings.NoSpool) 0 out status
+IsWritten (Err Undialled) text out status = IsQuiet 9 out status
+IsWritten (Err Unheard) text out status = IsQuiet 9 out status
+IsWritten (Err (Refused why)) text out status = Writes (refused_text why) 8 out status
+IsWritten (Err (Unkept error)) text out status = Writes (refusal_text error) (refusal_status error) out status
+IsWritten (Err (Interrupted Ports)) text out status = Writes text 9 out status
+IsWritten (Err (Interrupted Shelf)) text out status = Writes (text ++ ending_text (endings.Shelf folder)) 5 out status
+IsWritten (Err (Interrupted Memory)) text out status = IsQuiet 6 out status

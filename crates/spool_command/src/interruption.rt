@@ -1,0 +1,12 @@
+//! Why a kept job isn't brought on.
+
+/// Why a kept job isn't brought on.
+#[derive(Clone, Copy, Debug, PartialEq, Eq)]
+pub enum Interruption {
+    /// The ports failed in a lane.
+    Ports,
+    /// The shelf failed in a note, or when all was done.
+    Shelf,
+    /// Memory ran out.
+    Memory,
+}
