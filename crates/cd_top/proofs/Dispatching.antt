@@ -1,6 +1,7 @@
 -- From what one command promises to what the words promise.
 use Rattle.std.proofs.Common.{◌≡◌, ℕ, List, sym, subst}
-use Rattle.command_words.specs.Asked.{AskedRead, AskedServe, AskedFile, AskedSession, Asked, ForReplay, ForRead, ForServe, ForBackup, ForRestore, ForDelete, ForGenerate}
+use Rattle.command_words.specs.Asked.{AskedRead, AskedServe, AskedFile, AskedSpool, AskedResume, AskedSession, Asked}
+use Rattle.command_words.specs.Asked.{ForReplay, ForRead, ForServe, ForBackup, ForRestore, ForDelete, ForSpool, ForResume, ForGenerate}
 use Rattle.command_words.specs.Commands.{IsCommand}
 use Rattle.cd_top.specs.Dispatch.{Each, Promises}
 use Rattle.cd_top.specs.Replay.{IsReplay}
@@ -30,6 +31,12 @@ module _ (one : Law) (words : List (List ℕ)) (asked : Asked) (is : IsCommand w
 
   pub is_deleted : (f : AskedFile) → IsCommand words (ForDelete f) → each.deleted f
   is_deleted f other = promised (ForDelete f) other
+
+  pub is_spooled : (s : AskedSpool) → IsCommand words (ForSpool s) → each.spooled s
+  is_spooled s other = promised (ForSpool s) other
+
+  pub is_resumed : (r : AskedResume) → IsCommand words (ForResume r) → each.resumed r
+  is_resumed r other = promised (ForResume r) other
 
   pub is_generated : (g : AskedSession) → IsCommand words (ForGenerate g) → each.generated g
   is_generated g other = promised (ForGenerate g) other

@@ -6,3 +6,4 @@ mod ReadClosing
 mod Dispatching
 mod Placing
 mod Generating
+mod Spooling

@@ -1,7 +1,8 @@
 -- What is promised of the words that are carried out.
-use Rattle.command_words.specs.Asked.{AskedRead, AskedServe, AskedFile, AskedSession, Asked}
-use Rattle.command_words.specs.Asked.{ForReplay, ForRead, ForServe, ForBackup, ForRestore, ForDelete, ForGenerate}
-use Rattle.command_words.specs.Commands.{FitsRead, FitsServe, FitsFile, FitsSession}
+use Rattle.command_words.specs.Asked.{AskedRead, AskedServe, AskedFile, AskedSpool, AskedResume, AskedSession, Asked}
+use Rattle.command_words.specs.Asked.{ForReplay, ForRead, ForServe, ForBackup, ForRestore, ForDelete, ForSpool, ForResume}
+use Rattle.command_words.specs.Asked.{ForGenerate}
+use Rattle.command_words.specs.Commands.{FitsRead, FitsServe, FitsFile, FitsResume, FitsSession}
 
 -- what is asked for is within its ranges
 abbrev pub IsFit : Asked → Type 0
@@ -11,6 +12,8 @@ IsFit (ForServe s) = FitsServe s
 IsFit (ForBackup f) = FitsFile 3 f
 IsFit (ForRestore f) = FitsFile 2 f
 IsFit (ForDelete f) = FitsFile 3 f
+IsFit (ForSpool s) = FitsFile 3 s.file
+IsFit (ForResume r) = FitsResume r
 IsFit (ForGenerate g) = FitsSession g
 
 -- what each command promises
@@ -21,6 +24,8 @@ pub record Each : Type 1 where
   pub backed_up : AskedFile → Type 0
   pub restored : AskedFile → Type 0
   pub deleted : AskedFile → Type 0
+  pub spooled : AskedSpool → Type 0
+  pub resumed : AskedResume → Type 0
   pub generated : AskedSession → Type 0
 
 -- what a call promises of what is asked for
@@ -31,4 +36,6 @@ Promises (ForServe s) each = each.served s
 Promises (ForBackup f) each = each.backed_up f
 Promises (ForRestore f) each = each.restored f
 Promises (ForDelete f) each = each.deleted f
+Promises (ForSpool s) each = each.spooled s
+Promises (ForResume r) each = each.resumed r
 Promises (ForGenerate g) each = each.generated g

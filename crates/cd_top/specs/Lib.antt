@@ -4,5 +4,6 @@ pub mod Complete
 pub mod Read
 pub mod Serve
 pub mod Clients
+pub mod Spool
 pub mod Generate
 pub mod Dispatch

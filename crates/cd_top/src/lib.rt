@@ -6,6 +6,7 @@ mod ending;
 mod generate;
 mod read;
 mod serve;
+mod spool;
 mod top;
 
 pub use serve_command::{OpenErr, Server};

@@ -1,8 +1,9 @@
 //! The top call.
 
 ghost use Rattle.std.specs.Prelude.{◌≡◌, ◌≢◌, ◌≤◌, ◌⊎◌, ℕ, List, map, string_bytes};
-ghost use Rattle.command_words.specs.Asked.{AskedFile, AskedRead, AskedServe, AskedSession};
-ghost use Rattle.command_words.specs.Asked.{ForBackup, ForDelete, ForGenerate, ForRead, ForRestore, ForServe};
+ghost use Rattle.command_words.specs.Asked.{AskedFile, AskedRead, AskedResume, AskedServe, AskedSession, AskedSpool};
+ghost use Rattle.command_words.specs.Asked.{ForBackup, ForDelete, ForGenerate, ForRead, ForRestore, ForResume};
+ghost use Rattle.command_words.specs.Asked.{ForServe, ForSpool};
 ghost use Rattle.command_words.specs.Commands.{IsAnyCommand, IsCommand};
 ghost use Rattle.command_words.specs.Views.{asked_of};
 ghost use Rattle.generated_session.specs.ReplayCore.Endings.{Call};
@@ -15,6 +16,7 @@ ghost use Rattle.cd_top.specs.Clients.{BacksUp, Deletes, Restores, lines_of};
 ghost use Rattle.cd_top.specs.Dispatch.{IsFit, Promises};
 ghost use Rattle.cd_top.specs.Generate.{IsGenerated};
 ghost use Rattle.cd_top.specs.Serve.{Serves, serving};
+ghost use Rattle.cd_top.specs.Spool.{Resumes, Spools, beside};
 ghost use Rattle.cd_top.specs.Read.{Around, IsRead};
 ghost use Rattle.cd_top.specs.Replay.{IsReplay, IsReplayed};
 
@@ -23,6 +25,7 @@ use crate::ending::finish;
 use crate::generate::generate_in;
 use crate::read::read_in;
 use crate::serve::serve_in;
+use crate::spool::{resume_in, spool_in};
 use cd_base::NoMemory;
 use cd_edges::{Failed, Ports, Shelf, Sink, Source};
 use command_words::{Command, law_of_words, read_words};
@@ -103,6 +106,16 @@ fn carry_out<S: Source, K: Sink, V: Shelf, P: Ports>(
       deleted = λ asked. (source.new ≡ source.old) × (shelf.new ≡ shelf.old) × Deletes result asked
           (lines_of (P.tells ports.old) (P.tells ports.new) (P.faults ports.old) (P.faults ports.new))
           (deletion_of (K.written sink.old) (K.written sink.new) (K.faults sink.old) (K.faults sink.new));
+      spooled = λ asked. Spools result asked
+          (beside (V.cloud_at shelf.old) (V.cloud_at shelf.new) (V.faults shelf.old) (V.faults shelf.new)
+          (lines_of (P.tells ports.old) (P.tells ports.new) (P.faults ports.old) (P.faults ports.new)))
+          (source.new ≡ source.old)
+          (input_of (S.left source.old) (S.faults source.old) (S.faults source.new))
+          (output_by (K.written sink.old) (K.written sink.new) (K.faults sink.old) (K.faults sink.new));
+      resumed = λ asked. (source.new ≡ source.old) × Resumes result asked
+          (beside (V.cloud_at shelf.old) (V.cloud_at shelf.new) (V.faults shelf.old) (V.faults shelf.new)
+          (lines_of (P.tells ports.old) (P.tells ports.new) (P.faults ports.old) (P.faults ports.new)))
+          (output_by (K.written sink.old) (K.written sink.new) (K.faults sink.old) (K.faults sink.new));
       generated = λ asked. (source.new ≡ source.old) × (ports.new ≡ ports.old) × IsGenerated result (record {
         sink_before = K.faults sink.old;
         sink_after = K.faults sink.new;
@@ -120,6 +133,8 @@ fn carry_out<S: Source, K: Sink, V: Shelf, P: Ports>(
         Command::Backup(asked) => backup_to(alloc, asked, source, sink, ports),
         Command::Restore(asked) => restore_from(alloc, asked, sink, ports),
         Command::Delete(asked) => delete_at(alloc, asked, sink, ports),
+        Command::Spool(asked) => spool_in(alloc, asked, source, sink, shelf, ports),
+        Command::Resume(asked) => resume_in(alloc, asked, sink, shelf, ports),
         Command::Generate(asked) => generate_in(alloc, asked, sink, shelf),
     }
 }
@@ -135,12 +150,15 @@ fn carry_out<S: Source, K: Sink, V: Shelf, P: Ports>(
 /// | `backup USER PATH VERSION ADDR..` | stores the source's bytes on the n clouds behind the addresses |
 /// | `restore USER PATH VERSION ADDR..` | writes a version of a file, from any k of the clouds behind the addresses |
 /// | `delete USER PATH VERSION ADDR..` | deletes a version of a file at the n clouds behind the addresses |
+/// | `spool DIR USER PATH VERSION ADDR..` | the same as `backup`, with the job kept in DIR until each cloud has the version |
+/// | `resume DIR ADDR..` | goes on with the job that is kept in DIR, at the n clouds behind the addresses |
 /// | `gen SEED FILES PIECES DIR` | makes a session of FILES backups over four empty clouds in DIR, and writes its summary |
 ///
 /// | Status | Comes | Last line |
 /// |---|---|---|
 /// | 0 | the script was read to its end and each line answered | `done E` |
 /// | 0 | the file was written, or is stored on all clouds; COUNT connections were served | none, `end 1 stored`, `connection COUNT WORD` |
+/// | 0 | spool, resume: the version is stored on all clouds; resume: no job is kept. DIR's cloud 0 is empty then | `end 1 stored`; `nospool` |
 /// | 0 | delete: each cloud replied that the version is deleted or missing | `deleted C`, `missing C` |
 /// | 0 | the generated session was made to its end | `equal X`, the last of six lines |
 /// | 1 | exactly where the words are none of the above; nothing is done then | none |
@@ -154,10 +172,13 @@ fn carry_out<S: Source, K: Sink, V: Shelf, P: Ports>(
 /// | 7 | read: a cloud has no store | `notbegun CLOUD LEN` |
 /// | 7 | read: a cloud's journal is damaged | `damaged CLOUD AT BYTE` |
 /// | 7 | read: a cloud is of another store, or another cloud of it | `other CLOUD FORMAT N K OWN`, as found |
+/// | 7 | spool: an area of DIR's cloud 0 isn't empty | `store 0 AREA LEN` |
+/// | 7 | resume: what is kept is damaged, or it was kept for clouds of another shape | `damaged 0 AT BYTE`, `other 0 FORMAT N K OWN` |
 /// | 7 | serve: as for a read, but that a store that isn't there is begun | likewise |
-/// | 8 | read, restore: the clouds gave no file; backup, restore: a cloud isn't as asked | `refused ..` |
+/// | 8 | read, restore: the clouds gave no file; backup, restore, spool, resume: a cloud isn't as asked | `refused ..` |
+/// | 8 | resume: the kept file has changed | `refused rotten 0 NAMED FOUND` |
 /// | 8 | delete: a cloud isn't as asked; or one replied something else | `refused ..`; the last cloud's line |
-/// | 8 | backup: not every cloud has entered the version | `end 1 open` |
+/// | 8 | backup, spool, resume: not every cloud has entered the version | `end 1 open` |
 /// | 9 | only where the ports' count of faults rose | none |
 ///
 /// LINE counts from 1, PLACE from 0; BYTE is the byte there in two hexadecimal digits, or `end`. AREA is `journal`, `shares`
@@ -243,6 +264,22 @@ pub fn run<S: Source, K: Sink, V: Shelf, P: Ports>(
         → (source.new ≡ source.old) × (shelf.new ≡ shelf.old) × Deletes result asked
         (lines_of (P.tells ports.old) (P.tells ports.new) (P.faults ports.old) (P.faults ports.new))
         (deletion_of (K.written sink.old) (K.written sink.new) (K.faults sink.old) (K.faults sink.new)) }
+    // What is read, sent and written is as for a backup, and the job is kept in the folder, cloud 0 of the shelf, from the
+    // Hellos until each cloud has entered the version. No other cloud is touched. Where DIR fails nothing is.
+    ensures spool { (asked : AskedSpool) → IsCommand (map string_bytes words.now) (ForSpool asked)
+        → Spools result asked
+        (beside (V.cloud_at shelf.old) (V.cloud_at shelf.new) (V.faults shelf.old) (V.faults shelf.new)
+        (lines_of (P.tells ports.old) (P.tells ports.new) (P.faults ports.old) (P.faults ports.new)))
+        (source.new ≡ source.old)
+        (input_of (S.left source.old) (S.faults source.old) (S.faults source.new))
+        (output_by (K.written sink.old) (K.written sink.new) (K.faults sink.old) (K.faults sink.new)) }
+    // The job that the folder keeps goes on: nothing is sent on the ports of clouds that were noted, behind their Hellos.
+    // No other cloud is touched. Where DIR fails nothing is. The source isn't touched.
+    ensures resume { (asked : AskedResume) → IsCommand (map string_bytes words.now) (ForResume asked)
+        → (source.new ≡ source.old) × Resumes result asked
+        (beside (V.cloud_at shelf.old) (V.cloud_at shelf.new) (V.faults shelf.old) (V.faults shelf.new)
+        (lines_of (P.tells ports.old) (P.tells ports.new) (P.faults ports.old) (P.faults ports.new)))
+        (output_by (K.written sink.old) (K.written sink.new) (K.faults sink.old) (K.faults sink.new)) }
     // The session that is made is the generated one; the summary has its numbers, or what is written says why there is
     // none, and the status has its cause. Where nothing fails, it is made to its end or memory ran out. Source and ports
     // aren't touched.

@@ -15,6 +15,8 @@ use std::time::Duration;
 const HELP: &str = "\
 usage: cdstore serve DIR CLOUD N K ADDR COUNT           serve a cloud in DIR, begun if new, for COUNT connections
        cdstore backup USER PATH VERSION ADDR..          store standard input on the n clouds at these addresses
+       cdstore spool DIR USER PATH VERSION ADDR..       the same, kept in DIR until each cloud has it; DIR is no cloud's
+       cdstore resume DIR ADDR..                        go on with what spool kept in DIR, at the n clouds
        cdstore restore USER PATH VERSION ADDR..         write the version from any k of the clouds at these addresses
        cdstore delete USER PATH VERSION ADDR..          delete the version at the n clouds at these addresses
        cdstore read DIR N K USER PATH VERSION CLOUDS    write the version from any k of these clouds' folders, such as 0,2,3

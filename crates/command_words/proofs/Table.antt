@@ -20,13 +20,15 @@ use Rattle.session.proofs.Shapes.{shape_with_some}
 use Rattle.session.proofs.Texts.{names_file_true, names_file_from}
 use Rattle.session.proofs.Events.{u32_reads, u64_reads}
 use Rattle.session.proofs.CloudTexts.{sources_reads}
-use Rattle.command_words.specs.Asked.{AskedRead, AskedServe, AskedFile, AskedSession, Asked, ForReplay, ForRead}
-use Rattle.command_words.specs.Asked.{ForServe, ForBackup, ForRestore, ForDelete, ForGenerate}
-use Rattle.command_words.specs.Commands.{read_words, serve_words, file_words, session_words, FitsRead, FitsServe}
-use Rattle.command_words.specs.Commands.{FitsFile, FitsSession, IsCommand}
+use Rattle.command_words.specs.Asked.{AskedRead, AskedServe, AskedFile, AskedSpool, AskedResume, AskedSession, Asked}
+use Rattle.command_words.specs.Asked.{ForReplay, ForRead, ForServe, ForBackup, ForRestore, ForDelete, ForSpool, ForResume}
+use Rattle.command_words.specs.Asked.{ForGenerate}
+use Rattle.command_words.specs.Commands.{read_words, serve_words, file_words, spool_words, resume_words, session_words}
+use Rattle.command_words.specs.Commands.{FitsRead, FitsServe, FitsFile, FitsResume, FitsSession, IsCommand}
 use Rattle.command_words.specs.Reading.{◌>>=◌, ◌▷◌, ◌▷▷◌, Gives, word_at, any, user, version, path, shape_at}
 use Rattle.command_words.specs.Reading.{replay_at, make_read, read_at, make_serve, has_cloud, serve_at, make_file}
-use Rattle.command_words.specs.Reading.{has_addresses, file_at, make_session, is_small, session_at, name, all_rows}
+use Rattle.command_words.specs.Reading.{has_addresses, file_at, make_spool, spool_at, make_resume, has_clouds, resume_at}
+use Rattle.command_words.specs.Reading.{make_session, is_small, session_at, name, all_rows}
 use Rattle.command_words.specs.Reading.{named, read_as, row_at, command_at}
 use Rattle.command_words.specs.declared.rows.Row.{Row}
 use Rattle.command_words.specs.declared.rows.Row.TheVariants as rows
@@ -219,6 +221,47 @@ file_again least f h =
     )) refl)
     (and_from _ _ (le-leb _ _ h.some) (le-leb _ _ h.few))
 
+-- ---- `spool` and `resume`
+
+as_some : {A B : Type 0} (make : A → B) (o : Option A) (y : B) → read_as make o ≡ Some y
+    → (x : A) × (o ≡ Some x) × (make x ≡ y)
+as_some make (Some x) y e = (x, refl, same_Some (make x) y e)
+as_some make None y e = absurd cc
+
+spool_takes : (words : List (List ℕ)) (s : AskedSpool) → spool_at words ≡ Some s
+    → (words ≡ spool_words s) × FitsFile 3 s.file
+unfolding spool_at
+spool_takes words s e =
+    let d = bind_some (word_at any words) (λ d. read_as (make_spool d.0) (file_at 3 d.1)) s e in
+    let f = as_some (make_spool d.0.0) (file_at 3 d.0.1) s d.2 in
+    let t = (lawful_word any_spells).takes words d.0.0 d.0.1 d.1 in
+    let u = file_takes 3 d.0.1 f.0 f.1 in
+    subst (λ (s : AskedSpool). (words ≡ spool_words s) × FitsFile 3 s.file) f.2
+    (t.0 ∙ ap (λ (ws : List (List ℕ)). d.0.0 ∷ ws) u.0, u.1)
+
+spool_again : (s : AskedSpool) → FitsFile 3 s.file → spool_at (spool_words s) ≡ Some s
+unfolding spool_at
+spool_again s h =
+    rw ((lawful_word any_spells).again s.directory (file_words s.file) tt)
+    (ap (read_as (make_spool s.directory)) (file_again 3 s.file h))
+
+resume_takes : (words : List (List ℕ)) (r : AskedResume) → resume_at words ≡ Some r
+    → (words ≡ resume_words r) × FitsResume r
+unfolding resume_at
+resume_takes words r e =
+    let k = keep_some has_clouds _ r e in
+    let d = bind_some (word_at any words) (λ d. Some (make_resume d.0 d.1)) r k.0 in
+    let t = (lawful_word any_spells).takes words d.0.0 d.0.1 d.1 in
+    let p = and_parts (leb 3 (length r.addresses)) _ k.1 in (
+      subst (λ (r : AskedResume). words ≡ resume_words r) (same_Some (make_resume d.0.0 d.0.1) r d.2) t.0,
+      record { some = leb-true _ _ p.0; few = leb-true _ _ p.1 },
+    )
+
+resume_again : (r : AskedResume) → FitsResume r → resume_at (resume_words r) ≡ Some r
+unfolding resume_at word_at
+resume_again r h =
+    keep_again has_clouds (Some r) r refl (and_from _ _ (le-leb _ _ h.some) (le-leb _ _ h.few))
+
 -- ---- `gen`
 
 session_laws : Lawful (word_at (number 0 18446744073709551615) ▷ word_at (number 1 1000) ▷ word_at (number 1 8192) ▷
@@ -268,6 +311,8 @@ named_again rows.Serve = refl
 named_again rows.Backup = refl
 named_again rows.Restore = refl
 named_again rows.Delete = refl
+named_again rows.Spool = refl
+named_again rows.Resume = refl
 named_again rows.Generate = refl
 
 row_spells : Spells named name (λ _. Unit {0})
@@ -281,11 +326,6 @@ row_spells = record {
 }
 
 -- ---- the table
-
-as_some : {A B : Type 0} (make : A → B) (o : Option A) (y : B) → read_as make o ≡ Some y
-    → (x : A) × (o ≡ Some x) × (make x ≡ y)
-as_some make (Some x) y e = (x, refl, same_Some (make x) y e)
-as_some make None y e = absurd cc
 
 row_takes : (row : Row) (words : List (List ℕ)) (asked : Asked) → row_at row words ≡ Some asked
     → IsCommand (name row ∷ words) asked
@@ -313,6 +353,14 @@ row_takes rows.Delete words asked e =
     let a = as_some ForDelete (file_at 3 words) asked e in
     let t = file_takes 3 words a.0 a.1 in
     subst (IsCommand (name rows.Delete ∷ words)) a.2 (ap (λ (ws : List (List ℕ)). codes "delete" ∷ ws) t.0, t.1)
+row_takes rows.Spool words asked e =
+    let a = as_some ForSpool (spool_at words) asked e in
+    let t = spool_takes words a.0 a.1 in
+    subst (IsCommand (name rows.Spool ∷ words)) a.2 (ap (λ (ws : List (List ℕ)). codes "spool" ∷ ws) t.0, t.1)
+row_takes rows.Resume words asked e =
+    let a = as_some ForResume (resume_at words) asked e in
+    let t = resume_takes words a.0 a.1 in
+    subst (IsCommand (name rows.Resume ∷ words)) a.2 (ap (λ (ws : List (List ℕ)). codes "resume" ∷ ws) t.0, t.1)
 row_takes rows.Generate words asked e =
     let a = as_some ForGenerate (session_at words) asked e in
     let t = session_takes words a.0 a.1 in
@@ -345,6 +393,10 @@ command_again words (ForRestore f) h = ap command_at h.0
     ∙ by_row rows.Restore (file_words f) (ForRestore f) (ap (read_as ForRestore) (file_again 2 f h.1))
 command_again words (ForDelete f) h = ap command_at h.0
     ∙ by_row rows.Delete (file_words f) (ForDelete f) (ap (read_as ForDelete) (file_again 3 f h.1))
+command_again words (ForSpool s) h = ap command_at h.0
+    ∙ by_row rows.Spool (spool_words s) (ForSpool s) (ap (read_as ForSpool) (spool_again s h.1))
+command_again words (ForResume r) h = ap command_at h.0
+    ∙ by_row rows.Resume (resume_words r) (ForResume r) (ap (read_as ForResume) (resume_again r h.1))
 command_again words (ForGenerate g) h = ap command_at h.0
     ∙ by_row rows.Generate (session_words g) (ForGenerate g) (ap (read_as ForGenerate) (session_again g h.1))
 

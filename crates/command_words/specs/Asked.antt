@@ -29,6 +29,16 @@ pub record AskedFile : Type 0 where
   pub version : Version
   pub addresses : List (List ℕ)
 
+-- the same, where the file and what is done of it are kept in this directory
+pub record AskedSpool : Type 0 where
+  pub directory : List ℕ
+  pub file : AskedFile
+
+-- what was kept in this directory, over the clouds behind these addresses
+pub record AskedResume : Type 0 where
+  pub directory : List ℕ
+  pub addresses : List (List ℕ)
+
 -- the session of so many files of so many pieces that this number gives
 pub record AskedSession : Type 0 where
   pub seed : ℕ
@@ -44,4 +54,6 @@ pub data Asked : Type 0 where
   ForBackup : (words : AskedFile) → Asked
   ForRestore : (words : AskedFile) → Asked
   ForDelete : (words : AskedFile) → Asked
+  ForSpool : (words : AskedSpool) → Asked
+  ForResume : (words : AskedResume) → Asked
   ForGenerate : (words : AskedSession) → Asked

@@ -4,8 +4,9 @@ use Rattle.cd_base.specs.Limits.{IsPath}
 use Rattle.cd_base.specs.declared.ids.UserId.{UserId}
 use Rattle.cd_base.specs.declared.ids.Version.{Version}
 use Rattle.session.specs.Spelling.{cloud_list, AreSources}
-use Rattle.command_words.specs.Asked.{AskedRead, AskedServe, AskedFile, AskedSession, Asked, ForReplay, ForRead}
-use Rattle.command_words.specs.Asked.{ForServe, ForBackup, ForRestore, ForDelete, ForGenerate}
+use Rattle.command_words.specs.Asked.{AskedRead, AskedServe, AskedFile, AskedSpool, AskedResume, AskedSession, Asked}
+use Rattle.command_words.specs.Asked.{ForReplay, ForRead, ForServe, ForBackup, ForRestore, ForDelete, ForSpool, ForResume}
+use Rattle.command_words.specs.Asked.{ForGenerate}
 
 -- ---- the words behind the command's name
 
@@ -23,6 +24,14 @@ serve_words s =
 -- USER PATH VERSION ADDR..
 abbrev pub file_words : AskedFile → List (List ℕ)
 file_words f = decimal f.user.0 ∷ f.path ∷ decimal f.version.0 ∷ f.addresses
+
+-- DIR USER PATH VERSION ADDR..
+abbrev pub spool_words : AskedSpool → List (List ℕ)
+spool_words s = s.directory ∷ file_words s.file
+
+-- DIR ADDR..
+abbrev pub resume_words : AskedResume → List (List ℕ)
+resume_words r = r.directory ∷ r.addresses
 
 -- SEED FILES PIECES DIR
 abbrev pub session_words : AskedSession → List (List ℕ)
@@ -52,6 +61,11 @@ pub record FitsFile (least : ℕ) (f : AskedFile) : Type 0 where
   pub some : least ≤ length f.addresses
   pub few : length f.addresses ≤ 16
 
+-- one address for each cloud of some shape
+pub record FitsResume (r : AskedResume) : Type 0 where
+  pub some : 3 ≤ length r.addresses
+  pub few : length r.addresses ≤ 16
+
 pub record FitsSession (g : AskedSession) : Type 0 where
   pub seed : g.seed < 2 ^ 64
   pub some_files : 1 ≤ g.files
@@ -70,6 +84,8 @@ IsCommand words (ForServe s) = (words ≡ codes "serve" ∷ serve_words s) × Fi
 IsCommand words (ForBackup f) = (words ≡ codes "backup" ∷ file_words f) × FitsFile 3 f
 IsCommand words (ForRestore f) = (words ≡ codes "restore" ∷ file_words f) × FitsFile 2 f
 IsCommand words (ForDelete f) = (words ≡ codes "delete" ∷ file_words f) × FitsFile 3 f
+IsCommand words (ForSpool s) = (words ≡ codes "spool" ∷ spool_words s) × FitsFile 3 s.file
+IsCommand words (ForResume r) = (words ≡ codes "resume" ∷ resume_words r) × FitsResume r
 IsCommand words (ForGenerate g) = (words ≡ codes "gen" ∷ session_words g) × FitsSession g
 
 -- the words are one of the table

@@ -6,8 +6,9 @@ use Rattle.cd_base.specs.declared.shape.Shape.{Shape}
 use Rattle.grammar.specs.Words.{keep}
 use Rattle.grammar.specs.Numerals.{number}
 use Rattle.session.specs.Reading.{names_file, needed, sources}
-use Rattle.command_words.specs.Asked.{AskedRead, AskedServe, AskedFile, AskedSession, Asked, ForReplay, ForRead}
-use Rattle.command_words.specs.Asked.{ForServe, ForBackup, ForRestore, ForDelete, ForGenerate}
+use Rattle.command_words.specs.Asked.{AskedRead, AskedServe, AskedFile, AskedSpool, AskedResume, AskedSession, Asked}
+use Rattle.command_words.specs.Asked.{ForReplay, ForRead, ForServe, ForBackup, ForRestore, ForDelete, ForSpool, ForResume}
+use Rattle.command_words.specs.Asked.{ForGenerate}
 use Rattle.command_words.specs.declared.rows.Row.{Row}
 use Rattle.command_words.specs.declared.rows.Row.TheVariants as rows
 
@@ -125,6 +126,26 @@ unfoldable pub file_at : ℕ → List (List ℕ) → Option AskedFile
 file_at least words = keep (has_addresses least)
     ((word_at user ▷ word_at path ▷ word_at version) words >>= λ x. Some (make_file x.0 x.1))
 
+abbrev pub read_as : {A B : Type 0} → (A → B) → Option A → Option B
+read_as make (Some x) = Some (make x)
+read_as make None = None
+
+abbrev pub make_spool : List ℕ → AskedFile → AskedSpool
+make_spool directory file = record { directory = directory; file = file }
+
+unfoldable pub spool_at : List (List ℕ) → Option AskedSpool
+spool_at words = word_at any words >>= λ d. read_as (make_spool d.0) (file_at 3 d.1)
+
+abbrev pub make_resume : List ℕ → List (List ℕ) → AskedResume
+make_resume directory addresses = record { directory = directory; addresses = addresses }
+
+abbrev pub has_clouds : AskedResume → Bool
+has_clouds r = nat_le 3 (length r.addresses) && nat_le (length r.addresses) 16
+
+-- the addresses are the words behind the directory
+unfoldable pub resume_at : List (List ℕ) → Option AskedResume
+resume_at words = keep has_clouds (word_at any words >>= λ d. Some (make_resume d.0 d.1))
+
 abbrev pub make_session : ℕ × (ℕ × (ℕ × List ℕ)) → AskedSession
 make_session x = record { seed = x.0; files = x.1.0; pieces = x.1.1.0; directory = x.1.1.1 }
 
@@ -145,17 +166,16 @@ name rows.Serve = codes "serve"
 name rows.Backup = codes "backup"
 name rows.Restore = codes "restore"
 name rows.Delete = codes "delete"
+name rows.Spool = codes "spool"
+name rows.Resume = codes "resume"
 name rows.Generate = codes "gen"
 
 abbrev pub all_rows : List Row
-all_rows = rows.Replay ∷ rows.Read ∷ rows.Serve ∷ rows.Backup ∷ rows.Restore ∷ rows.Delete ∷ rows.Generate ∷ []
+all_rows = rows.Replay ∷ rows.Read ∷ rows.Serve ∷ rows.Backup ∷ rows.Restore ∷ rows.Delete ∷ rows.Spool
+    ∷ rows.Resume ∷ rows.Generate ∷ []
 
 abbrev pub named : List ℕ → Option Row
 named word = find (λ row. bytes_eq word (name row)) all_rows
-
-abbrev pub read_as : {A B : Type 0} → (A → B) → Option A → Option B
-read_as make (Some x) = Some (make x)
-read_as make None = None
 
 abbrev pub row_at : Row → List (List ℕ) → Option Asked
 row_at rows.Replay words = read_as ForReplay (replay_at words)
@@ -164,6 +184,8 @@ row_at rows.Serve words = read_as ForServe (serve_at words)
 row_at rows.Backup words = read_as ForBackup (file_at 3 words)
 row_at rows.Restore words = read_as ForRestore (file_at 2 words)
 row_at rows.Delete words = read_as ForDelete (file_at 3 words)
+row_at rows.Spool words = read_as ForSpool (spool_at words)
+row_at rows.Resume words = read_as ForResume (resume_at words)
 row_at rows.Generate words = read_as ForGenerate (session_at words)
 
 -- what all the words ask for

@@ -7,9 +7,12 @@ use Rattle.command_words.specs.declared.command.ServeWords.{ServeWords}
 use Rattle.command_words.specs.declared.command.BackupWords.{BackupWords}
 use Rattle.command_words.specs.declared.command.RestoreWords.{RestoreWords}
 use Rattle.command_words.specs.declared.command.DeleteWords.{DeleteWords}
+use Rattle.command_words.specs.declared.command.SpoolWords.{SpoolWords}
+use Rattle.command_words.specs.declared.command.ResumeWords.{ResumeWords}
 use Rattle.command_words.specs.declared.command.GenerateWords.{GenerateWords}
-use Rattle.command_words.specs.Asked.{AskedRead, AskedServe, AskedFile, AskedSession, Asked, ForReplay, ForRead}
-use Rattle.command_words.specs.Asked.{ForServe, ForBackup, ForRestore, ForDelete, ForGenerate}
+use Rattle.command_words.specs.Asked.{AskedRead, AskedServe, AskedFile, AskedSpool, AskedResume, AskedSession, Asked}
+use Rattle.command_words.specs.Asked.{ForReplay, ForRead, ForServe, ForBackup, ForRestore, ForDelete, ForSpool, ForResume}
+use Rattle.command_words.specs.Asked.{ForGenerate}
 
 abbrev pub asked_read : ReadWords → AskedRead
 asked_read r = record {
@@ -54,6 +57,12 @@ asked_delete f = record {
   addresses = map string_bytes f.addresses.now;
 }
 
+abbrev pub asked_spool : SpoolWords → AskedSpool
+asked_spool s = record { directory = s.directory.now; file = asked_backup s.file }
+
+abbrev pub asked_resume : ResumeWords → AskedResume
+asked_resume r = record { directory = r.directory.now; addresses = map string_bytes r.addresses.now }
+
 abbrev pub asked_session : GenerateWords → AskedSession
 asked_session g = record { seed = g.seed; files = g.files; pieces = g.pieces; directory = g.directory.now }
 
@@ -64,4 +73,6 @@ asked_of (commands.Serve words) = ForServe (asked_serve words)
 asked_of (commands.Backup words) = ForBackup (asked_backup words)
 asked_of (commands.Restore words) = ForRestore (asked_restore words)
 asked_of (commands.Delete words) = ForDelete (asked_delete words)
+asked_of (commands.Spool words) = ForSpool (asked_spool words)
+asked_of (commands.Resume words) = ForResume (asked_resume words)
 asked_of (commands.Generate words) = ForGenerate (asked_session words)

@@ -17,6 +17,10 @@ pub enum Command<'a> {
     Restore(RestoreWords<'a>),
     /// A version of a file out of n clouds behind addresses.
     Delete(DeleteWords<'a>),
+    /// A file for n clouds behind addresses, which is kept in the directory until each has it.
+    Spool(SpoolWords<'a>),
+    /// What is kept in the directory, for n clouds behind addresses.
+    Resume(ResumeWords<'a>),
     /// A session that a number gives.
     Generate(GenerateWords<'a>),
 }
@@ -88,6 +92,24 @@ pub struct DeleteWords<'a> {
     pub path: &'a [u8],
     /// The version.
     pub version: Version,
+    /// Where the n clouds listen, in their order: 3 to 16 words.
+    pub addresses: &'a [String],
+}
+
+/// `spool DIR USER PATH VERSION ADDR..`.
+#[derive(Clone, Copy, Debug)]
+pub struct SpoolWords<'a> {
+    /// Where the file and what is done of it are kept: any word.
+    pub directory: &'a str,
+    /// The words behind it, which are those of a backup.
+    pub file: BackupWords<'a>,
+}
+
+/// `resume DIR ADDR..`.
+#[derive(Clone, Copy, Debug)]
+pub struct ResumeWords<'a> {
+    /// Where a spool kept its file: any word.
+    pub directory: &'a str,
     /// Where the n clouds listen, in their order: 3 to 16 words.
     pub addresses: &'a [String],
 }

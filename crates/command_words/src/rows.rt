@@ -5,13 +5,14 @@ ghost use Rattle.std.specs.Prelude.{map, string_bytes};
 ghost use Rattle.session.specs.Reading.{sources};
 ghost use Rattle.command_words.specs.Asked.{Asked, AskedRead, ForReplay, ForRead};
 ghost use Rattle.command_words.specs.Commands.{IsCommand};
-ghost use Rattle.command_words.specs.Reading.{Gives, named, replay_at, read_at, serve_at, file_at, session_at};
-ghost use Rattle.command_words.specs.Reading.{row_at, word_at};
+ghost use Rattle.command_words.specs.Reading.{Gives, named, replay_at, read_at, serve_at, file_at, spool_at};
+ghost use Rattle.command_words.specs.Reading.{resume_at, row_at, session_at, word_at};
 ghost use Rattle.command_words.specs.Views.{asked_read, asked_serve, asked_backup, asked_restore, asked_delete};
-ghost use Rattle.command_words.specs.Views.{asked_session, asked_of};
+ghost use Rattle.command_words.specs.Views.{asked_spool, asked_resume, asked_session, asked_of};
 
 use crate::command::{
-    BackupWords, Command, DeleteWords, GenerateWords, ReadWords, RestoreWords, ServeWords,
+    BackupWords, Command, DeleteWords, GenerateWords, ReadWords, RestoreWords, ResumeWords,
+    ServeWords, SpoolWords,
 };
 use crate::fields::{
     any_word, clouds_of, clouds_word, no_word, number_word, path_word, shape_words,
@@ -28,6 +29,8 @@ enum Row {
     Backup,
     Restore,
     Delete,
+    Spool,
+    Resume,
     Generate,
 }
 
@@ -47,6 +50,10 @@ fn named_by(word: &str) -> Option<Row>
         Some(Row::Restore)
     } else if word == "delete" {
         Some(Row::Delete)
+    } else if word == "spool" {
+        Some(Row::Spool)
+    } else if word == "resume" {
+        Some(Row::Resume)
     } else if word == "gen" {
         Some(Row::Generate)
     } else {
@@ -204,6 +211,29 @@ fn delete_of(words: &[String]) -> Option<DeleteWords<'_>>
     })
 }
 
+#[tactic(auto, unfolding(crate::specs::Reading::spool_at))]
+fn spool_of(words: &[String]) -> Option<SpoolWords<'_>>
+    ensures { Gives asked_spool result (spool_at (map string_bytes words.now)) }
+{
+    let (directory, words) = any_word(words)?;
+    let file = file_of(words, 3)?;
+    Some(SpoolWords { directory, file })
+}
+
+#[tactic(auto, unfolding(crate::specs::Reading::resume_at))]
+fn resume_of(words: &[String]) -> Option<ResumeWords<'_>>
+    ensures { Gives asked_resume result (resume_at (map string_bytes words.now)) }
+{
+    let (directory, addresses) = any_word(words)?;
+    if addresses.len() < 3 || addresses.len() > 16 {
+        return None;
+    }
+    Some(ResumeWords {
+        directory,
+        addresses,
+    })
+}
+
 #[tactic(auto, unfolding(crate::specs::Reading::session_at))]
 fn session_of(words: &[String]) -> Option<GenerateWords<'_>>
     ensures { Gives asked_session result (session_at (map string_bytes words.now)) }
@@ -254,6 +284,8 @@ fn row_of(alloc: Global, row: Row, words: &[String]) -> Result<Option<Command<'_
         Row::Backup => Ok(file_of(words, 3).map(Command::Backup)),
         Row::Restore => Ok(restore_of(words).map(Command::Restore)),
         Row::Delete => Ok(delete_of(words).map(Command::Delete)),
+        Row::Spool => Ok(spool_of(words).map(Command::Spool)),
+        Row::Resume => Ok(resume_of(words).map(Command::Resume)),
         Row::Generate => Ok(session_of(words).map(Command::Generate)),
     }
 }
@@ -268,6 +300,8 @@ fn row_of(alloc: Global, row: Row, words: &[String]) -> Result<Option<Command<'_
 /// | `backup USER PATH VERSION ADDR..` | 3 to 16 addresses |
 /// | `restore USER PATH VERSION ADDR..` | 2 to 16 addresses |
 /// | `delete USER PATH VERSION ADDR..` | 3 to 16 addresses |
+/// | `spool DIR USER PATH VERSION ADDR..` | 3 to 16 addresses |
+/// | `resume DIR ADDR..` | 3 to 16 addresses |
 /// | `gen SEED FILES PIECES DIR` | FILES: 1 to 1,000. PIECES: 1 to 8,192. Their product: at most 131,072 |
 ///
 /// A number is decimal, without leading zeros. N and K obey `2 <= K < N <= 16`; USER is below 2^32, VERSION and SEED

@@ -32,6 +32,8 @@ fn one_of_each(rt: HostRuntime) -> Result<(), Fail> {
         "backup 7 a 1 w x y",
         "restore 7 a 1 w x",
         "delete 7 a 1 w x y",
+        "spool d 7 a 1 w x y",
+        "resume d w x y",
         "gen 18446744073709551615 1000 131 d",
     ] {
         assert!(rt; is_command(alloc, line)?);
@@ -66,6 +68,8 @@ fn one_word_wrong(rt: HostRuntime) -> Result<(), Fail> {
         "restore 7 a 1 w",
         "delete 7 a 1 w x",
         "restore -7 a 1 w x",
+        "spool 7 a 1 w x y",
+        "resume d w x",
         "gen 1 0 1 d",
         "gen 1 1001 1 d",
         "gen 1 1 8193 d",

@@ -18,5 +18,11 @@ returns-in-Restore g c = promised_as _ _ (ap asked_of c.in-Restore.is) _ (refl, 
 pub returns-in-Delete : goal.returns-in-Delete
 returns-in-Delete g c = promised_as _ _ (ap asked_of c.in-Delete.is) _ (refl, refl, c.delete_at.ensures)
 
+pub returns-in-Spool : goal.returns-in-Spool
+returns-in-Spool g c = promised_as _ _ (ap asked_of c.in-Spool.is) _ c.spool_in.ensures
+
+pub returns-in-Resume : goal.returns-in-Resume
+returns-in-Resume g c = promised_as _ _ (ap asked_of c.in-Resume.is) _ (refl, c.resume_in.ensures)
+
 pub returns-in-Generate : goal.returns-in-Generate
 returns-in-Generate g c = promised_as _ _ (ap asked_of c.in-Generate.is) _ (refl, refl, c.generate_in.ensures)

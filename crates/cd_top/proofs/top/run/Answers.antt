@@ -1,6 +1,7 @@
-use Rattle.command_words.specs.Asked.{ForReplay, ForRead, ForServe, ForBackup, ForRestore, ForDelete, ForGenerate}
+use Rattle.command_words.specs.Asked.{ForReplay, ForRead, ForServe, ForBackup, ForRestore, ForDelete, ForSpool, ForResume, ForGenerate}
 use Rattle.cd_top.proofs.Completing.{completes}
-use Rattle.cd_top.proofs.Dispatching.{is_replayed, is_read, is_served, is_backed_up, is_restored, is_deleted, is_generated}
+use Rattle.cd_top.proofs.Dispatching.{is_replayed, is_read, is_served, is_backed_up, is_restored, is_deleted, is_spooled}
+use Rattle.cd_top.proofs.Dispatching.{is_resumed, is_generated}
 use Rattle.cd_top.proofs.top.run.Goals as goal
 
 pub returns-in-Ok-None-clause-headline : goal.returns-in-Ok-None-clause-headline
@@ -30,6 +31,14 @@ returns-in-Ok-None-clause-restore g c = λ asked is.
 pub returns-in-Ok-None-clause-delete : goal.returns-in-Ok-None-clause-delete
 returns-in-Ok-None-clause-delete g c = λ asked is.
     absurd ((rw c.in-Ok-None.field-0-is at c.in-Ok-None.ensures.none) (ForDelete asked) is)
+
+pub returns-in-Ok-None-clause-spool : goal.returns-in-Ok-None-clause-spool
+returns-in-Ok-None-clause-spool g c = λ asked is.
+    absurd ((rw c.in-Ok-None.field-0-is at c.in-Ok-None.ensures.none) (ForSpool asked) is)
+
+pub returns-in-Ok-None-clause-resume : goal.returns-in-Ok-None-clause-resume
+returns-in-Ok-None-clause-resume g c = λ asked is.
+    absurd ((rw c.in-Ok-None.field-0-is at c.in-Ok-None.ensures.none) (ForResume asked) is)
 
 pub returns-in-Ok-None-clause-generate : goal.returns-in-Ok-None-clause-generate
 returns-in-Ok-None-clause-generate g c = λ asked is.
@@ -77,6 +86,16 @@ returns-clause-restore g c = λ asked other.
 pub returns-clause-delete : goal.returns-clause-delete
 returns-clause-delete g c = λ asked other.
     is_deleted c.law_of_words.ensures.one _ _
+    (rw c.in-Ok-Some.field-0-is at c.in-Ok-Some.ensures.some) _ c.carry_out.ensures asked other
+
+pub returns-clause-spool : goal.returns-clause-spool
+returns-clause-spool g c = λ asked other.
+    is_spooled c.law_of_words.ensures.one _ _
+    (rw c.in-Ok-Some.field-0-is at c.in-Ok-Some.ensures.some) _ c.carry_out.ensures asked other
+
+pub returns-clause-resume : goal.returns-clause-resume
+returns-clause-resume g c = λ asked other.
+    is_resumed c.law_of_words.ensures.one _ _
     (rw c.in-Ok-Some.field-0-is at c.in-Ok-Some.ensures.some) _ c.carry_out.ensures asked other
 
 pub returns-clause-generate : goal.returns-clause-generate

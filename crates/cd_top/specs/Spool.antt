@@ -1,0 +1,79 @@
+-- What the words `spool DIR USER PATH VERSION ADDR..` and `resume DIR ADDR..` promise.
+use Rattle.std.specs.Prelude.{◌≡◌, ◌≤◌, ℕ, IsTrue, length}
+use Rattle.cd_edges.specs.Causes.{Rose}
+use Rattle.cd_edges.specs.Disk.{Cloud}
+use Rattle.cd_edges.specs.Shelf.{IsCall}
+use Rattle.command_words.specs.Asked.{AskedFile, AskedSpool, AskedResume}
+use Rattle.backup_command.specs.Reading.{Input}
+use Rattle.backup_command.specs.Writing.{Output, IsSilent}
+use Rattle.ports_link.specs.Dialled.{OnlyDialled}
+use Rattle.spool_command.specs.declared.spooling.SpooledFile.{SpooledFile}
+use Rattle.spool_command.specs.Spooled.{IsSpooled, Outside, SparesFilled}
+use Rattle.spool_command.specs.Resumed.{IsResumed}
+use Rattle.cd_top.specs.Clients.{Lines}
+
+-- what is told before and after: the clouds of the shelf, how often it had failed and has failed, and the ports
+pub record Beside : Type 0 where
+  pub old : ℕ → Cloud
+  pub new : ℕ → Cloud
+  pub total_before : ℕ
+  pub total_after : ℕ
+  pub lines : Lines
+
+abbrev pub beside : (ℕ → Cloud) → (ℕ → Cloud) → ℕ → ℕ → Lines → Beside
+beside old new total total_after lines = record {
+  old = old;
+  new = new;
+  total_before = total;
+  total_after = total_after;
+  lines = lines;
+}
+
+-- so many addresses over these ports, with the client's own folder, which is cloud 0 of the shelf
+abbrev pub outside_of : ℕ → Beside → Outside
+outside_of addresses c = record {
+  addresses = addresses;
+  before = c.lines.before;
+  after = c.lines.after;
+  faults_before = c.lines.faults_before;
+  faults_after = c.lines.faults_after;
+  folder = c.old 0;
+  left = c.new 0;
+}
+
+-- DIR failed: nothing was written, no cloud changed, and no port was touched.
+pub record IsUnplaced (status : ℕ) (c : Beside) (out : Output) : Type 0 where
+  pub status_is : status ≡ 5
+  pub cause : Rose c.total_before c.total_after
+  pub silent : IsSilent out
+  pub clouds : (cloud : ℕ) → c.new cloud ≡ c.old cloud
+  pub tells : c.lines.after ≡ c.lines.before
+  pub ports : c.lines.faults_after ≡ c.lines.faults_before
+
+-- No cloud but the folder was touched, and ports that were open before are as they were.
+pub record IsAlone (c : Beside) : Type 0 where
+  pub clouds : IsCall c.old c.new 0 c.total_before c.total_after
+  pub others : IsTrue c.lines.before.told → OnlyDialled c.lines.before c.lines.after
+  pub told : c.lines.after.told ≡ c.lines.before.told
+  pub later : c.lines.faults_before ≤ c.lines.faults_after
+
+-- this is the version of the user's file that is asked for
+pub record IsAsked (f : AskedFile) (file : SpooledFile) : Type 0 where
+  pub user : file.user ≡ f.user
+  pub path : file.path.now ≡ f.path
+  pub version : file.version ≡ f.version
+
+-- The whole promise of `spool`: DIR failed, and nothing was read of the source; or the file in the source was backed up, and
+-- kept in the folder until each cloud has it: what was read, sent, received, kept and written, by the way it ended. A folder that
+-- isn't empty stays as it is.
+pub data Spools (status : ℕ) (s : AskedSpool) (c : Beside) (unread : Type 0) (input : Input) (out : Output) : Type 0 where
+  NoFolder : unread → IsUnplaced status c out → Spools status s c unread input out
+  InFolder : (file : SpooledFile) → IsAsked s.file file
+      → IsSpooled status (outside_of (length s.file.addresses) c) file input out
+      → SparesFilled (c.old 0) (c.new 0) → IsAlone c → Spools status s c unread input out
+
+-- That of `resume`: DIR failed; or the job that the folder keeps went on: what was sent, received, kept and written, by the
+-- way it ended.
+pub data Resumes (status : ℕ) (r : AskedResume) (c : Beside) (out : Output) : Type 0 where
+  NoKept : IsUnplaced status c out → Resumes status r c out
+  Kept : IsResumed status (outside_of (length r.addresses) c) out → IsAlone c → Resumes status r c out
