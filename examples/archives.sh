@@ -14,7 +14,7 @@
 #     version VERSION                an archive that it names may be of an earlier version
 #     day VERSION                    for each earlier version whose list is there, rising
 #     loose PATH VERSION PARTS       what a run that was cut off has stored, or may have: no list names it in a line `archive`
-#     archive PATH VERSION PARTS BYTES SHA256
+#     archive PATH VERSION PARTS BYTES SUM     SUM is BLAKE2b of 256 bits; lists of earlier releases have SHA-256
 #     KIND NAME                      for each member, in the archive's order
 #     end
 #
@@ -22,7 +22,7 @@
 # NAME "." and is the folder itself. In NAME stand %25 for %, %0A for a newline and %01 for the byte 1. Archives of files have members f and
 # h alone, the others, behind them, l and d alone.
 #
-# The list that the client keeps says one thing more of an archive, at the line's end: the SHA-256 of what the folder said of the members
+# The list that the client keeps says one thing more of an archive, at the line's end: the sum of what the folder said of the members
 # (modes, owners, sizes, times, numbers of inodes), or - where the archive is to be packed again next time, since a file was changing or
 # couldn't be read.
 #
@@ -93,6 +93,11 @@ members() {
         --transform=$'s,%,%25,g;s,\n,%0A,g;s,\001,%01,g' > "$work/member_names" 2> /dev/null || return 1
     tar --list --ignore-zeros --verbose --numeric-owner --file="$1" 2> /dev/null | cut -c 1 | tr -- - f |
         paste -d ' ' - "$work/member_names" | sed '/^d /s,/$,,'
+}
+
+# The sum of an archive, or of the standard input: 64 hexadecimal digits and a name.
+sums() {
+    b2sum -l 256 "$@"
 }
 
 # Whether a file is a list of this user's that is whole: is_list FILE.

@@ -1,5 +1,5 @@
 #!/usr/bin/env bash
-# Backs up a folder as archives: backup_folder.sh [--content | --again] FOLDER LIST USER VERSION ADDR..
+# Backs up a folder as archives: backup_folder.sh [--content | --again] [--spool DIR] FOLDER LIST USER VERSION ADDR..
 #
 # Files, folders and symbolic links go into archives of tar, with their modes, owners, times and hard links, and the archives and a list of
 # what lies in which to the n clouds that listen at the addresses (3 to 16, in the order of the clouds). The list is VERSION of the path
@@ -15,6 +15,10 @@
 # A file that changes while it is packed is packed again, twice, and is then stored as it was read, and again by the next run. One that
 # can't be read is left out, and said so; so is what is neither a file, a folder nor a link. A name may have any bytes.
 #
+# With --spool each archive is kept in the folder DIR, which is made where there is none, until all clouds have it. A run that was cut off, or
+# whose cloud went away, then goes on with the same bytes in the middle of an archive, and asks nothing of the clouds that have it already.
+# DIR is this script's own, for one LIST; it must not be the folder of a cloud. rm -r DIR/cloud0 gives up what it keeps.
+#
 # There is a line for each archive. The status is the greatest of all: 0 where all is stored, 1 for wrong words and for what couldn't be
 # read or written, else that of `cdstore backup`. A version is stored whole or has no list: where an archive can't be stored, after three
 # tries if a cloud isn't reached (status 9), the run ends, and the same words go on from there. What is stored by then stands in LIST.began.
@@ -25,13 +29,18 @@ usual=8388608
 most=16777216
 alone=4194304
 
-content='' again=''
+content='' again='' spool=''
 case "${1:-}" in
     --content) content=yes ;;
     --again) content=yes again=yes ;;
 esac
 [ -z "$content" ] || shift
-(($# >= 7 && $# <= 20)) || fail "the words are [--content | --again] FOLDER LIST USER VERSION ADDR.. with 3 to 16 addresses"
+if [ "${1:-}" = --spool ] && [ -n "${2:-}" ]; then
+    spool="$2"
+    shift 2
+fi
+(($# >= 7 && $# <= 20)) ||
+    fail "the words are [--content | --again] [--spool DIR] FOLDER LIST USER VERSION ADDR.. with 3 to 16 addresses"
 folder="$1" list="$2" user="$3" version="$4"
 shift 4
 addresses=("$@")
@@ -55,17 +64,25 @@ meaning() {
         2) echo "refused: more than 64 MiB" ;;
         3) echo "the archive can't be read" ;;
         4) echo "${TMPDIR:-/tmp} has no room for its lines" ;;
+        5) echo "the spool $spool can't be read or written" ;;
         6) echo "out of memory" ;;
+        7) echo "the spool $spool keeps something else: $(head -n 1 "$work/lines")" ;;
         8) echo "not stored: $(grep -vE '^(job|stored)|^step 1 [0-9]+ (known|stored|committed)' "$work/lines" | head -n 9 | tr '\n' ' ')" ;;
         9) echo "a cloud can't be reached" ;;
         *) echo "ended with status $1" ;;
     esac
 }
 
+# Goes on with what the spool keeps: status 0 where it is stored, and where nothing was kept.
+resume() {
+    "$program" resume "$spool" "${addresses[@]}" > "$work/lines" 2> /dev/null < /dev/null
+}
+
 # Backs up one part of a file: store_part PATH FILE PART PARTS VERSION. 3 where it can't be read.
 store_part() {
     local words ends
     words=("$program" backup "$user" "$(path_of "$1" "$3")" "$5" "${addresses[@]}")
+    [ -z "$spool" ] || words=("$program" spool "$spool" "${words[@]:2}")
     if [ "$4" = 1 ]; then
         "${words[@]}" < "$2" > "$work/lines" 2> /dev/null
         return
@@ -77,14 +94,27 @@ store_part() {
     [ "${ends[0]}" = 0 ] || return 3
 }
 
+# Goes on with a part that the spool keeps, and begins it anew where it keeps nothing: the words of store_part.
+store_more() {
+    if [ -n "$spool" ]; then
+        resume || return
+        grep -q '^nospool$' "$work/lines" || return 0
+    fi
+    store_part "$@"
+}
+
 # Backs up a file as its parts: store PATH FILE PARTS VERSION. Where a cloud isn't reached it tries again, twice.
 store() {
     local status=0 try at
     for ((at = 0; at < $3; at++)); do
         for ((try = 1; try <= tries; try++)); do
-            [ "$try" = 1 ] || sleep 1
             status=0
-            store_part "$1" "$2" "$at" "$3" "$4" || status=$?
+            if [ "$try" = 1 ]; then
+                store_part "$1" "$2" "$at" "$3" "$4" || status=$?
+            else
+                sleep 1
+                store_more "$1" "$2" "$at" "$3" "$4" || status=$?
+            fi
             [ "$status" = 9 ] || break
         done
         [ "$status" = 0 ] || break
@@ -92,11 +122,10 @@ store() {
     return "$status"
 }
 
-# How many parts a file has.
-parts_of() {
-    local size
-    size="$(stat -c %s "$1")"
-    echo "$((size == 0 ? 1 : (size + part - 1) / part))"
+# Sees how many bytes and parts the archive has.
+measure() {
+    size="$(stat -c %s "$work/archive")"
+    parts="$((size == 0 ? 1 : (size + part - 1) / part))"
 }
 
 # Notes a line in LIST.began, so that what a run that is cut off has stored is known to the next one.
@@ -105,7 +134,23 @@ note() {
         fail "$list.began can't be written: is there room? What is stored by now is known, and the same words go on from there"
 }
 
-# What the earlier runs stored: archives by their states and by their SHA-256, the versions that have a list, and what may be there besides.
+# What a run that was cut off has kept is stored first.
+if [ -n "$spool" ]; then
+    mkdir -p -- "$spool" || fail "there is no room for $spool"
+    for ((try = 1; try <= tries; try++)); do
+        [ "$try" = 1 ] || sleep 1
+        status=0
+        resume || status=$?
+        [ "$status" = 9 ] || break
+    done
+    if [ "$status" != 0 ]; then
+        say "$status" "$spool" "$(meaning "$status"). What it keeps isn't stored; rm -r $(printf %q "$spool")/cloud0 gives it up"
+        exit "$worst"
+    fi
+    grep -q '^nospool$' "$work/lines" || say 0 "$spool" "what it kept of the run before is stored"
+fi
+
+# What the earlier runs stored: archives by their states and by their sums, the versions that have a list, and what may be there besides.
 declare -A by_state=() by_sum=() loose=()
 days=()
 take() {
@@ -134,9 +179,10 @@ take < "$list.began"
 mapfile -t days < <(printf '%s\n' "${days[@]+"${days[@]}"}" | grep . | sort -nu)
 
 # What lies in the folder: for each name its kind, and what is known of it. The byte 1 stands for a slash, so that sort gives the order of
-# the tree. LIST and $work are left out where they lie in it.
+# the tree. LIST, the spool and $work are left out where they lie in it.
 skipped=(-samefile "$work" -o -samefile "$list.began")
 [ ! -e "$list" ] || skipped+=(-o -samefile "$list")
+[ -z "$spool" ] || skipped+=(-o -samefile "$spool")
 now="$(date +%s.%N)"
 (cd -- "$folder" && find . -ignore_readdir_race \( "${skipped[@]}" \) -prune -o -printf '%y/%P//%m %U %G %s %T@ %C@ %i %D %n\0') \
     2> "$work/complaints" | sed -z 's/%/%25/g; s/\n/%0A/g; s/\x01/%01/g' | tr '\0/' '\n\001' > "$work/scan"
@@ -237,15 +283,16 @@ done
 declare -A states=()
 while read -r sum name; do
     states["$name"]="$sum"
-done < <(cd "$work/groups" && printf '%s\0' * | xargs -0 sha256sum --)
+done < <(cd "$work/groups" && printf '%s\0' * | xargs -0 b2sum -l 256 --)
 total="$(wc -l < "$work/table")"
 [ "${#states[@]}" = "$total" ] || no_room
 
 # Packs an archive into $work/archive, and keeps in groups/N what it has: pack N. settled is empty where it is to be packed again next time.
 pack() {
-    local group="$work/groups/$1" try status said kinds=fh
+    local group="$work/groups/$1" try status said kind kinds=fh
     local fine='file changed as we read it\|File shrank by\|No such file or directory\|File removed before'
-    [[ "$(head -c 1 "$group")" == [fh] ]] || kinds=ld
+    IFS= read -r -n 1 kind < "$group"
+    [[ "$kind" == [fh] ]] || kinds=ld
     settled=''
     for ((try = 1; try <= tries; try++)); do
         sed $'s/^..//; s/\001\001.*//' "$group" | tr '\n\001' '\0/' | plain > "$work/names" || no_room
@@ -323,7 +370,7 @@ while read -r at count bytes late <&3; do
     [ -s "$work/groups/$at" ] || continue
     [ -n "$settled" ] || what="$(wc -l < "$work/groups/$at") of $what"
     [ -n "$settled" ] && [ "$late" = 0 ] || state=-
-    sum="$(sha256sum < "$work/archive")"
+    sum="$(sums < "$work/archive")"
     sum="${sum%% *}"
     was="${by_sum[$sum]:-}"
     if [ -n "$was" ]; then
@@ -331,13 +378,14 @@ while read -r at count bytes late <&3; do
         old="${old%% *}"
         if [ -n "$again" ]; then
             status=0
-            store "//archive/$sum" "$work/archive" "$(parts_of "$work/archive")" "$old" || status=$?
+            measure
+            store "//archive/$sum" "$work/archive" "$parts" "$old" || status=$?
             [ "$status" = 0 ] || stop "$status" "$thing"
         fi
         say 0 "$thing" "$what: packed, the same as in version $old${again:+, stored again}"
     else
-        parts="$(parts_of "$work/archive")"
-        was="//archive/$sum $version $parts $(stat -c %s "$work/archive")"
+        measure
+        was="//archive/$sum $version $parts $size"
         note "begun //archive/$sum $version $parts"
         status=0
         store "//archive/$sum" "$work/archive" "$parts" "$version" || status=$?
@@ -345,7 +393,8 @@ while read -r at count bytes late <&3; do
         note "archive $was $sum $state"
         by_sum["$sum"]="$was"
         sent=$((sent + 1))
-        say 0 "$thing" "$what: stored$([ "$parts" = 1 ] || echo ", in $parts parts")"
+        [ "$parts" = 1 ] || what="$what, in $parts parts"
+        say 0 "$thing" "$what: stored"
     fi
     records+=("$at archive $was $sum $state")
 done 3< "$work/table"

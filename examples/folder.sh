@@ -30,16 +30,16 @@ run() { # runs a tool, and shows its lines where it fails: run WORDS..
     "$@" > "$work/lines" || fail "$* ended with status $?: $(cat "$work/lines")"
 }
 
-# COUNT: in the first run an archive of small files, one of two parts, one of links and folders, and the list; in the second the first of
-# these and the list; then two lists and an archive. From three of the clouds each state as five, the one file as two, and of the two lists
-# one with its archive. To prune the first state its list is read, and an archive and that list are deleted; then the first is asked for in
-# vain, and the second comes back.
-for cloud in 0 1 2 3; do start "$cloud" "$((5 + 2 + 3 + 3 + (cloud == 0 ? 0 : 5 + 5 + 2 + 1 + 2 + 1 + 5)))"; done
+# COUNT: in the first run an archive of small files, one of two parts, one of links and folders, and the list; in the second, which asks
+# first whether its spool keeps anything, the first of these and the list; then two lists and an archive. From three of the clouds each
+# state as five, the one file as two, and of the two lists one with its archive. To prune the first state its list is read, and an archive
+# and that list are deleted; then the first is asked for in vain, and the second comes back.
+for cloud in 0 1 2 3; do start "$cloud" "$((5 + 1 + 2 + 3 + 3 + (cloud == 0 ? 0 : 5 + 5 + 2 + 1 + 2 + 1 + 5)))"; done
 run "$tools/backup_folder.sh" "$work/in" "$work/list" 7 1 "${address[@]}"
 state "$work/in" > "$work/first"
 printf 'more' >> "$work/in/ blanks at both ends "
 state "$work/in" > "$work/second"
-run "$tools/backup_folder.sh" "$work/in" "$work/list" 7 2 "${address[@]}"
+run "$tools/backup_folder.sh" --spool "$work/spool" "$work/in" "$work/list" 7 2 "${address[@]}"
 [ "$(grep -c ': stored' "$work/lines")" = 2 ] || fail "the second run stored more than one archive and the list: $(cat "$work/lines")"
 run "$tools/restore_folder.sh" "$work/out1" 7 1 "${address[@]:1}"
 run "$tools/restore_folder.sh" "$work/out2" 7 2 "${address[@]:1}"

@@ -6,7 +6,7 @@
 #     restore_folder.sh --list LIST USER VERSION ADDR..          the list of VERSION alone, with the names: backup_folder.sh goes on from it
 #
 # FOLDER isn't there yet, or is empty. The k addresses (2 to 16) are those of any k clouds or more, in the order of the clouds. The list is
-# asked for first, then the archives that it names. Each is compared with the list's SHA-256, and its members with the list's names, before
+# asked for first, then the archives that it names. Each is compared with the list's sum, and its members with the list's names, before
 # tar unpacks it; until all is done FOLDER is its owner's alone. Owners come back where root restores.
 #
 # A list with a name that leads out of FOLDER, itself or through a link, is refused whole. An archive that can't be had, or isn't what the
@@ -149,9 +149,10 @@ while read -r group sort wanted path old parts bytes sum <&3; do
         say "$status" "$thing" "$(restore_meaning "$status"). Not restored: $wanted members, from $(head -n 1 "$work/groups/$group") on"
         continue
     fi
-    found="$(sha256sum < "$work/archive")"
+    found="$(sums < "$work/archive")"
+    [ "${found%% *}" = "$sum" ] || found="$(sha256sum < "$work/archive")"
     if [ "${found%% *}" != "$sum" ]; then
-        say 1 "$thing" "refused: its SHA-256 isn't the list's"
+        say 1 "$thing" "refused: its sum isn't the list's"
         continue
     fi
     if ! members "$work/archive" > "$work/members" || ! cmp -s "$work/members" "$work/groups/$group"; then
