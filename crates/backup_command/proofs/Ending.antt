@@ -47,6 +47,7 @@ through status call input out file text now stored due read carries same due_is 
         behind = came.behind;
         met = came.met;
         lanes = came.lanes;
+        others = came.others;
       };
       stored = stored;
       stored_is = carries.3;
@@ -71,6 +72,7 @@ lost status call input out file text now read carries same writes =
         behind = short.came.behind;
         met = short.came.met;
         lanes = short.came.lanes;
+        others = short.came.others;
       };
       writes = subst (λ (l : List ℕ). Writes l 9 out status) short.text_is
           (subst (λ (l : List ℕ). Writes l 9 out status) same writes);

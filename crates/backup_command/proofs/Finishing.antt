@@ -1,5 +1,6 @@
 -- What became of a file, by what became of it at the clouds that were greeted.
 use Rattle.std.proofs.Common.{◌≡◌, ℕ, Bool, List, [], length, Ok, Err, IsTrue, sym, ◌∙◌, ap, subst}
+use Rattle.std.specs.List.{Contains}
 use Rattle.std.specs.Prelude.{Result}
 use Rattle.cd_base.specs.declared.ids.UserId.{UserId}
 use Rattle.cd_base.specs.declared.ids.Version.{Version}
@@ -38,27 +39,29 @@ at_call call user path version file shape u p v P has =
 pub carried : (call : Call) (file : List ℕ) (dialled : List ℕ) (shape : Shape) (behind : Telling)
     (result : Result Bool CarryErr) (text : List ℕ) → Met call dialled shape behind
     → BringsFile call file shape behind dialled result text
-    → (IsCarryLost result → Rose call.faults_before call.faults_after) → Carries call file result text
-carried call file dialled shape behind (Ok stored) text met brings rose = (
+    → (IsCarryLost result → Rose call.faults_before call.faults_after)
+    → (IsTrue behind.told → (port : ℕ) → ¬ (Contains dialled port) → call.after.port port ≡ behind.port port)
+    → Carries call file result text
+carried call file dialled shape behind (Ok stored) text met brings rose others = (
   brings.0,
   brings.1,
-  record { dialled = dialled; shape = shape; behind = behind; met = met; lanes = brings.2 },
+  record { dialled = dialled; shape = shape; behind = behind; met = met; lanes = brings.2; others = others },
   brings.3,
   brings.4,
 )
-carried call file dialled shape behind (Err errors.Lost) text met brings rose = (
+carried call file dialled shape behind (Err errors.Lost) text met brings rose others = (
   record {
     steps = brings.0;
     after = brings.1;
-    came = record { dialled = dialled; shape = shape; behind = behind; met = met; lanes = brings.2 };
+    came = record { dialled = dialled; shape = shape; behind = behind; met = met; lanes = brings.2; others = others };
     text_is = brings.3;
   },
   rose tt,
 )
-carried call file dialled shape behind (Err errors.NoMemory) text met brings rose = tt
-carried call file dialled shape behind (Err errors.Undialled) text met brings rose = absurd brings
-carried call file dialled shape behind (Err errors.Unheard) text met brings rose = absurd brings
-carried call file dialled shape behind (Err (errors.Refused why)) text met brings rose = absurd brings
+carried call file dialled shape behind (Err errors.NoMemory) text met brings rose others = tt
+carried call file dialled shape behind (Err errors.Undialled) text met brings rose others = absurd brings
+carried call file dialled shape behind (Err errors.Unheard) text met brings rose others = absurd brings
+carried call file dialled shape behind (Err (errors.Refused why)) text met brings rose others = absurd brings
 
 module _ (count : ℕ) (old behind : Telling) (greeted : Greeted)
     (meets : MeetsAll Backup count old behind (Ok greeted)) where

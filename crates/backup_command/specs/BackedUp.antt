@@ -1,5 +1,6 @@
 -- What backing up over ports promises.
 use Rattle.std.specs.Prelude.{◌≡◌, ℕ, Bool, IsTrue, ◌↔◌, List, [], ◌∷◌, length, All, Some, Result, Ok, Err}
+use Rattle.std.specs.List.{Contains}
 use Rattle.std.specs.Prelude.{if◌then◌else◌}
 use Rattle.cd_base.specs.declared.ids.UserId.{UserId}
 use Rattle.cd_base.specs.declared.ids.Version.{Version}
@@ -106,7 +107,7 @@ pub record Met (call : Call) (dialled : List ℕ) (shape : Shape) (behind : Tell
   pub told : behind.told ≡ call.before.told
 
 -- The lanes of the job of the source's bytes went so, in order, each on the port of its cloud: their lines are these,
--- and they stand so in the end.
+-- and they stand so in the end. No port but the clouds' changed behind the Hellos.
 pub record Brought (call : Call) (input : Input) (result : Result (Unit {0}) Halt) (steps : List Line)
     (after : List LaneView) : Type 0 where
   pub file : List ℕ
@@ -117,6 +118,7 @@ pub record Brought (call : Call) (input : Input) (result : Result (Unit {0}) Hal
   pub met : Met call dialled shape behind
   pub lanes : LanesGo behind call.after (numbered 0 dialled) (lanes_begun shape (version_of call file)) result steps
       after
+  pub others : IsTrue behind.told → (port : ℕ) → ¬ (Contains dialled port) → call.after.port port ≡ behind.port port
 
 -- whether the version is entered at each cloud
 abbrev pub AreDone : List LaneView → Type 0

@@ -1,5 +1,6 @@
 -- The parts of a backup.
 use Rattle.std.specs.Prelude.{◌≡◌, ℕ, Bool, IsTrue, ◌↔◌, List, ◌∷◌, ◌++◌, length, map, All, Some, Result, Ok, Err}
+use Rattle.std.specs.List.{Contains}
 use Rattle.cd_base.specs.declared.ids.CloudNo.{CloudNo}
 use Rattle.cd_base.specs.declared.shape.Shape.{Shape}
 use Rattle.cd_edges.specs.Causes.{Rose}
@@ -120,7 +121,7 @@ IsNumbered it = (dialled : List ℕ) × (it.lines.items ≡ numbered 0 dialled) 
 
 -- ---- all of it, in front of the writing
 
--- Each lane came to its end, with these lines.
+-- Each lane came to its end, with these lines. No port but the clouds' changed behind the Hellos.
 pub record CameThrough (call : Call) (file : List ℕ) (result : Result (Unit {0}) Halt) (steps : List Line)
     (after : List LaneView) : Type 0 where
   pub dialled : List ℕ
@@ -129,6 +130,7 @@ pub record CameThrough (call : Call) (file : List ℕ) (result : Result (Unit {0
   pub met : Met call dialled shape behind
   pub lanes : LanesGo behind call.after (numbered 0 dialled) (lanes_begun shape (version_of call file)) result steps
       after
+  pub others : IsTrue behind.told → (port : ℕ) → ¬ (Contains dialled port) → call.after.port port ≡ behind.port port
 
 -- the ports failed in a lane, and the text has the lines so far
 pub record StoppedShort (call : Call) (file text : List ℕ) : Type 0 where

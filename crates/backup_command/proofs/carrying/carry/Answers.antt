@@ -33,6 +33,8 @@ returns-clause-carries g c =
     (greeted_on call.addresses call.before behind greeted meets told c.in-Ok-meet_all.ensures.talks))
     (λ yes. subst (λ (n : ℕ). Rose n (faults c.carry_greeted.new.ports)) c.in-Ok-meet_all.ensures.cause
     (c.carry_greeted.ensures.lost yes))
+    (c.carry_greeted.ensures.others meets.0
+    (greeted_on call.addresses call.before behind greeted meets told c.in-Ok-meet_all.ensures.talks))
 
 pub returns-clause-others : goal.returns-clause-others
 returns-clause-others g c = λ told.
