@@ -23,9 +23,9 @@ module _ {K W V : Type 0} (f : W → V) where
   held : (c : Content (Entry K W)) (k : K) (v : V) → show f c ≡ Some (k, v) → (a : ℕ) × (e : Entry K W) × (c ≡ Held a e) × (e.key ≡ k)
   held Empty k v is = absurd (let no : None ≡ Some (k, v) = is in cc)
   held (Held a e) k v is =
-      let two : Some (e.key, f e.value) ≡ Some (k, v) = is in
+      let two : ◌≡◌ {A = Option (K × V)} (Some (e.key, f e.value)) (Some (k, v)) = is in
       let same : ◌≡◌ {A = K × V} (e.key, f e.value) (k, v) = cc in
-      (a, e, refl, ap (λ p. p.0) same)
+      (a, e, refl, ap (λ (p : K × V). p.0) same)
 
   -- a key that is taken out of a table is seen no more, and every other where it was
   pub emptied-shown : {R : K → K → Ordering} → IsTotalOrder R → IsAntisymmetric R → (p q : Pool (Entry K W)) (key : K) → Drops R p q key → IsEmptied (shown_slots f p.slots) (shown_slots f q.slots) key
@@ -65,6 +65,6 @@ emptied-through {K} {V} {U} g old new key is = record {
     was : (o : Option (K × V)) (value : U) → option_map (through g) o ≡ Some (key, value) → (v : V) × (o ≡ Some (key, v))
     was None value at = absurd (let no : None ≡ Some (key, value) = at in cc)
     was (Some x) value at =
-        let two : Some (x.0, g x.1) ≡ Some (key, value) = at in
+        let two : ◌≡◌ {A = Option (K × U)} (Some (x.0, g x.1)) (Some (key, value)) = at in
         let same : ◌≡◌ {A = K × U} (x.0, g x.1) (key, value) = cc in
-        (x.1, ap (λ k. Some (k, x.1)) (ap (λ p. p.0) same))
+        (x.1, ap (λ (k : K). Some (k, x.1)) (ap (λ (p : K × U). p.0) same))
