@@ -6,3 +6,4 @@ pub mod Sharing
 pub mod Steps
 pub mod Records
 pub mod Fitting
+pub mod Moving
