@@ -7,3 +7,4 @@ pub mod Steps
 pub mod Records
 pub mod Fitting
 pub mod Moving
+pub mod Greatest

@@ -28,6 +28,7 @@ ghost use Rattle.user_dedup.specs.Dedup.{IsSound};
 ghost use Rattle.cloud_areas.specs.Chains.{IsRecord};
 ghost use Rattle.cloud_areas.specs.Laid.{AreLaid};
 ghost use Rattle.cloud_areas.specs.Placing.{places_given, places_of};
+ghost use Rattle.cloud_memory.specs.Greatest.{KeepsGreatest};
 ghost use Rattle.cloud_memory.specs.Memory.{Remembers, IsPlacedBy, HasEnds, as_spent, uses_of, summary, summary_of, keys_above};
 ghost use Rattle.cloud_memory.specs.News.{AreOf, AreNewTo, seen};
 ghost use Rattle.cloud_memory.specs.Rooms.{memory_of, HasRooms, full_news, full_commit};
@@ -92,6 +93,7 @@ impl CloudMemory {
         ensures placed { IsPlacedBy [] (memory_of self.new) }
         ensures ends { HasEnds region [] [] (memory_of self.new) }
         ensures rooms { (rooms : Rooms) → HasRooms rooms self.old → HasRooms rooms self.new }
+        ensures greatest { KeepsGreatest self.old self.new }
     {
         self.shares.clear();
         self.files.clear();
@@ -433,6 +435,7 @@ impl CloudMemory {
         ensures taken { memory_of self.new
             ≡ without_entry (fps_in recipe.now.items) user (key_of user.0 tag.now.0 version.0) (memory_of self.old) }
         ensures rooms { (rooms : Rooms) → HasRooms rooms self.old → HasRooms rooms self.new }
+        ensures greatest { KeepsGreatest self.old self.new }
     {
         self.files.remove(user, tag, version);
         lower_all(&mut self.shares, user, recipe);
@@ -451,6 +454,7 @@ impl CloudMemory {
         ensures taken { memory_of self.new ≡ without_entry [] user (key_of user.0 tag.now.0 version.0)
             (memory_of self.old) }
         ensures rooms { (rooms : Rooms) → HasRooms rooms self.old → HasRooms rooms self.new }
+        ensures greatest { KeepsGreatest self.old self.new }
     {
         self.files.remove(user, tag, version);
     }

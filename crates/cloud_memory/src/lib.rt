@@ -12,6 +12,7 @@ mod owning;
 mod places;
 mod records;
 mod rooms;
+mod shared;
 mod tables;
 mod uses;
 

@@ -8,6 +8,7 @@ ghost use Rattle.file_index.specs.Files.{key_of};
 ghost use Rattle.journal_start.specs.declared.rooms.Rooms.{Rooms};
 ghost use Rattle.pool_map.specs.Slots.{IsRewritten};
 ghost use Rattle.share_index.specs.Emptied.{IsEmptied};
+ghost use Rattle.cloud_memory.specs.Greatest.{KeepsGreatest};
 ghost use Rattle.cloud_memory.specs.Moving.{with_place, without_place, lying_at, with_recipe_at, with_ends, unspent};
 ghost use Rattle.cloud_memory.specs.Rooms.{memory_of, HasRooms};
 
@@ -25,6 +26,7 @@ impl CloudMemory {
         ensures owner_slots { self.new.shares.owner_slots ≡ self.old.shares.owner_slots }
         ensures files { self.new.files ≡ self.old.files }
         ensures rooms { (rooms : Rooms) → HasRooms rooms self.old → HasRooms rooms self.new }
+        ensures greatest { KeepsGreatest self.old self.new }
     {
         self.shares.move_place(fp, place);
     }
@@ -38,6 +40,7 @@ impl CloudMemory {
         ensures owner_slots { self.new.shares.owner_slots ≡ self.old.shares.owner_slots }
         ensures files { self.new.files ≡ self.old.files }
         ensures rooms { (rooms : Rooms) → HasRooms rooms self.old → HasRooms rooms self.new }
+        ensures greatest { KeepsGreatest self.old self.new }
     {
         self.shares.drop_place(fp);
     }
@@ -53,6 +56,7 @@ impl CloudMemory {
             (lying_at at e) }
         ensures shares { self.new.shares ≡ self.old.shares }
         ensures rooms { (rooms : Rooms) → HasRooms rooms self.old → HasRooms rooms self.new }
+        ensures greatest { KeepsGreatest self.old self.new }
     {
         match self.files.get(user, tag, version) {
             Some(entry) => {
@@ -73,6 +77,7 @@ impl CloudMemory {
         ensures shares { self.new.shares ≡ self.old.shares }
         ensures files { self.new.files ≡ self.old.files }
         ensures rooms { (rooms : Rooms) → HasRooms rooms self.old → HasRooms rooms self.new }
+        ensures greatest { KeepsGreatest self.old self.new }
     {
         self.shares_end = shares;
         self.recipes_end = recipes;
@@ -84,6 +89,7 @@ impl CloudMemory {
         ensures shares { self.new.shares ≡ self.old.shares }
         ensures files { self.new.files ≡ self.old.files }
         ensures rooms { (rooms : Rooms) → HasRooms rooms self.old → HasRooms rooms self.new }
+        ensures greatest { KeepsGreatest self.old self.new }
     {
         self.spent.clear();
     }

@@ -10,6 +10,7 @@ ghost use Rattle.file_index.specs.Files.{key_of};
 ghost use Rattle.file_index.specs.Files.{used_by as files_used};
 ghost use Rattle.spent_table.specs.Spending.{spent_by};
 ghost use Rattle.user_dedup.specs.Owning.{fps_in};
+ghost use Rattle.cloud_memory.specs.Greatest.{KeepsGreatest};
 ghost use Rattle.cloud_memory.specs.Inner.{Owned};
 ghost use Rattle.cloud_memory.specs.Records.{HasPlaceRoom, HasItemRoom, full_entries};
 ghost use Rattle.cloud_memory.specs.Rooms.{memory_of, HasRooms};
@@ -58,6 +59,7 @@ impl CloudMemory {
         requires { HasItemRoom self.old user item.now }
         ensures taken { memory_of self.new ≡ with_item user (memory_of self.old) item.now }
         ensures rooms { (rooms : Rooms) → HasRooms rooms self.old → HasRooms rooms self.new }
+        ensures greatest { KeepsGreatest self.old self.new }
     {
         match item.place {
             Some(place) => {
@@ -74,6 +76,7 @@ impl CloudMemory {
         requires { HasPlaceRoom self.old item.now.fp item.now.place }
         ensures taken { memory_of self.new ≡ with_kept (memory_of self.old) item.now }
         ensures rooms { (rooms : Rooms) → HasRooms rooms self.old → HasRooms rooms self.new }
+        ensures greatest { KeepsGreatest self.old self.new }
     {
         self.lay(item.fp, item.place);
     }
@@ -92,6 +95,7 @@ impl CloudMemory {
         ensures taken { OnOk result (memory_of self.new
             ≡ with_entry (fps_in recipe.now.items) commit.now (memory_of self.old)) }
         ensures rooms { (rooms : Rooms) → HasRooms rooms self.old → HasRooms rooms self.new }
+        ensures greatest { KeepsGreatest self.old self.new }
         ensures err { OnErr result (self.new ≡ self.old) }
     {
         match self.enter(commit) {
@@ -112,6 +116,7 @@ impl CloudMemory {
         requires recipes { (spent_by self.old.spent user).recipes + more.recipes < 2 ^ 64 }
         ensures taken { memory_of self.new ≡ spends user more (memory_of self.old) }
         ensures rooms { (rooms : Rooms) → HasRooms rooms self.old → HasRooms rooms self.new }
+        ensures greatest { KeepsGreatest self.old self.new }
     {
         let spent = self.spent.of(user);
         let sum = Spent {
@@ -126,6 +131,7 @@ impl CloudMemory {
     pub fn take_spent(&mut self, user: UserId, spent: Spent)
         ensures taken { memory_of self.new ≡ with_spent user spent (memory_of self.old) }
         ensures rooms { (rooms : Rooms) → HasRooms rooms self.old → HasRooms rooms self.new }
+        ensures greatest { KeepsGreatest self.old self.new }
     {
         if (user.0 as usize) < self.spent.users() {
             self.spent.set(user, spent);
