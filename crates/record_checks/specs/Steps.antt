@@ -1,4 +1,4 @@
--- What the steps of a call need and leave. No public clause cites this module.
+-- What the steps of a call need and leave, and what single checks say.
 use Rattle.std.specs.Prelude.{◌≡◌, ◌⊎◌, ◌↔◌, ℕ, ◌+◌, ◌*◌, ◌≤◌, Bool, IsTrue, IsFalse, List, length, count_by, bytes_eq, take, is_some, None, IsSome, Result, Ok, Err}
 use Rattle.std.specs.List.{list_any}
 use Rattle.std.specs.FinMap.{get, len}

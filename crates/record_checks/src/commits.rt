@@ -33,7 +33,7 @@ const PLACE: usize = 45;
 const RECIPE: usize = 57;
 
 /// The place in the body of the first of a Commit's place and tag at which a check fails, or None where none does.
-pub(crate) fn commit_fault(
+pub fn commit_fault(
     memory: &CloudMemory,
     ground: &Ground,
     inside: bool,
@@ -52,8 +52,8 @@ pub(crate) fn commit_fault(
     }
 }
 
-// What was read, where it is a recipe of the store's shape with this SHA-256.
-fn named<'a>(shape: Shape, fp: &Fp, read: &'a [u8]) -> Option<RecipeView<'a>>
+/// What was read, where it is a recipe of the store's shape with this SHA-256. None comes exactly where it isn't.
+pub fn named<'a>(shape: Shape, fp: &Fp, read: &'a [u8]) -> Option<RecipeView<'a>>
     requires { length read.now < 2 ^ 32 }
     ensures { MatchOption result (¬ (IsNamed shape fp.now read.now))
         (λ view. IsNamed shape fp.now read.now × (fps_of shape read.now ≡ fps_in view.items)) }
@@ -90,8 +90,9 @@ fn owns_all(memory: &CloudMemory, user: UserId, recipe: &RecipeView<'_>) -> bool
     true
 }
 
-// What was read, where it is the recipe that a Commit names, of which the user owns each fingerprint.
-fn whole<'a>(
+/// What was read, where it is the recipe that a Commit names, of which the user owns each fingerprint. None comes exactly
+/// where it isn't.
+pub fn whole<'a>(
     memory: &CloudMemory,
     shape: Shape,
     commit: &CommitBody,

@@ -37,9 +37,9 @@ fn is_laid(ground: &Ground, inside: bool, end: u64, place: Option<Place>) -> boo
     }
 }
 
-// The place in the body of the first field of a share at which a check fails, or None where none does, by what is
-// known of its fingerprint.
-fn item_fault(
+/// The place in the body of the first field of a Put's share at which a check fails, or None where none does, by what is
+/// known of its fingerprint: whether the user owns it, and whether it has a place. The shares so far end at `end`.
+pub fn item_fault(
     ground: &Ground,
     inside: bool,
     owned: bool,

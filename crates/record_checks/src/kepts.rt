@@ -23,9 +23,9 @@ use record_bodies::{FoundKept, KeptItems};
 // Where the number of items stands in the body.
 const COUNT: usize = 1;
 
-// The place in the body of the first field of a share at which a check fails, or None where none does, by what is
-// known of its fingerprint.
-fn kept_fault(
+/// The place in the body of the first field of a Kept's share at which a check fails, or None where none does, by what
+/// is known of its fingerprint: whether it has a place. The shares so far end at `end`.
+pub fn kept_fault(
     ground: &Ground,
     inside: bool,
     placed: bool,

@@ -16,7 +16,11 @@ mod puts;
 mod record;
 mod taking;
 
+pub use commits::{commit_fault, named, whole};
 pub use damage::Damage;
 pub use ground::Ground;
+pub use items::item_fault;
+pub use kepts::kept_fault;
+pub use places::{first_of, lies};
 pub use record::{recipe_of, take};
 pub use taking::Taking;

@@ -30,7 +30,7 @@ fn is_within(area: u64, at: u64, len: u32) -> bool
 }
 
 /// Where a region of an area of blobs begins.
-pub(crate) fn first_of(region: u8) -> u64
+pub fn first_of(region: u8) -> u64
     ensures { result ≡ region_start region }
 {
     u64::from(region) * REGION
@@ -38,7 +38,7 @@ pub(crate) fn first_of(region: u8) -> u64
 
 /// Whether a blob lies in the region that begins at `first`, in one container, in the area, and behind the checkpoint
 /// behind the end.
-pub(crate) fn lies(inside: bool, first: u64, end: u64, area: u64, place: &Place) -> bool
+pub fn lies(inside: bool, first: u64, end: u64, area: u64, place: &Place) -> bool
     ensures { IsTrue result ↔ Lies inside first end area place.now }
 {
     let Place { at, len } = *place;
