@@ -4,3 +4,4 @@ pub mod Owning
 pub mod Placing
 pub mod Indexing
 pub mod Scanning
+pub mod Holders

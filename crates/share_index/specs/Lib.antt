@@ -1,5 +1,6 @@
 pub mod Order
 pub mod Emptied
+pub mod Placed
 pub mod Counts
 pub mod SumBelow
 pub mod Counting

@@ -11,10 +11,12 @@ ghost use Rattle.pool_map.specs.Accounts.{limit_for, slots_of, keys_of};
 ghost use Rattle.pool_map.specs.Slots.{slot_of, IsListed, IsRewritten};
 ghost use Rattle.share_index.specs.Emptied.{IsEmptied};
 ghost use Rattle.share_index.specs.Order.{owner_of};
+ghost use Rattle.share_index.specs.Placed.{AreAllPlaced};
 ghost use Rattle.share_index.specs.Shares.{used_by, uses_at, owners_of, ownerless_in, batches_of, place_with, owner_with};
 
 mod counts;
 mod key;
+pub mod laws;
 mod owners;
 mod places;
 
@@ -156,6 +158,13 @@ impl ShareIndex {
             Some(kept) => kept.owners > 0,
             None => self.unplaced_owners(fp) > 0,
         }
+    }
+
+    /// Whether each fingerprint that some user owns has a place. It is kept, and not counted anew.
+    pub fn are_placed(&self) -> bool
+        ensures { IsTrue result ↔ AreAllPlaced self.now.places self.now.owners }
+    {
+        self.unplaced == 0
     }
 
     /// Gives a fingerprint without a place one. `Full` comes exactly where as many have a place as may, and the index is then
