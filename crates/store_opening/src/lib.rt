@@ -13,3 +13,4 @@ mod records;
 mod syncs;
 
 pub use opening::reopen;
+pub use syncs::sync_all;

@@ -1,4 +1,4 @@
-//! The syncs that an opening begins with.
+//! The syncs that an opening begins with, and whatever else is to find one image of each area.
 
 ghost use Rattle.std.specs.Prelude.{IsTrue, OnOk, OnErr};
 ghost use Rattle.cd_edges.specs.Disk.{LeavesOnly, IsImage};
@@ -9,7 +9,7 @@ use cd_base::CloudNo;
 use cd_edges::{Area, Failed, Shelf};
 
 /// Syncs Journal, Shares and Recipes, in this order. A crash leaves no more than it might have left before.
-pub(crate) fn sync_all<V: Shelf>(shelf: &mut V, cloud: CloudNo) -> Result<(), Failed>
+pub fn sync_all<V: Shelf>(shelf: &mut V, cloud: CloudNo) -> Result<(), Failed>
     ensures any_moment { IsTrue (V.cloud_at shelf.old cloud.0).told
         → LeavesOnly (V.cloud_at shelf.old cloud.0) (V.cloud_at shelf.new cloud.0)
         (IsImage (V.cloud_at shelf.old cloud.0).now) }
