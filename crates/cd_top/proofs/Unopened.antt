@@ -8,7 +8,7 @@ use Rattle.cd_base.specs.declared.shape.Shape.{Shape}
 use Rattle.cd_edges.specs.Causes.{Rose}
 use Rattle.cd_edges.specs.Disk.{Cloud, Image, IsImage}
 use Rattle.cd_edges.proofs.Moments.{left_alone, each_since}
-use Rattle.cloud_areas.specs.Peers.{StandsForSome}
+use Rattle.serve_command.specs.CloudAreas.Peers.{StandsForSome}
 use Rattle.serve_command.proofs.CloudServer.NoCommands.{empty_stands}
 use Rattle.read_command.specs.LocalLink.Calls.{header_of}
 use Rattle.session.specs.Fault.{Fault}

@@ -4,7 +4,7 @@ use Rattle.cd_edges.specs.Disk.{Cloud}
 use Rattle.std.specs.Io.KnownBytes.{Appends}
 use Rattle.cd_edges.specs.Causes.{Rose}
 use Rattle.journal_start.specs.declared.rooms.Rooms.{Rooms}
-use Rattle.kept_files.specs.Kept.{key_of}
+use Rattle.read_command.specs.KeptFiles.Kept.{key_of}
 use Rattle.transcript.specs.declared.ending.Ending.TheVariants as endings
 use Rattle.transcript.specs.Endings.{ending_text}
 use Rattle.user_dedup.specs.declared.command.Command.{Command}

@@ -27,7 +27,7 @@ use Rattle.checkpoints.specs.Records.{owned_in, item_of, items_of, items_from, p
 use Rattle.checkpoints.specs.Known.{AreListed}
 use Rattle.checkpoints.proofs.Apartness.{in_map, from_map}
 use Rattle.checkpoints.proofs.Sought.{from_picked, in_picked}
-use Rattle.checkpoints.proofs.Full.{flat_batched}
+use Rattle.checkpoints.proofs.FullBatches.{flat_batched}
 use Rattle.checkpoints.proofs.Owns.{items_together}
 use Rattle.checkpoints.proofs.KeptLaw.{kept_gives, item_in}
 

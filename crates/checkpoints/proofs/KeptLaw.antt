@@ -21,7 +21,7 @@ use Rattle.checkpoints.specs.Records.{kept_at, kept_from}
 use Rattle.checkpoints.specs.Known.{AreListed}
 use Rattle.checkpoints.proofs.Apartness.{Apart, are_apart, in_map, from_map}
 use Rattle.checkpoints.proofs.Sought.{from_picked, in_picked, apart_picked, map_picked}
-use Rattle.checkpoints.proofs.Full.{flat_batched, full_batched}
+use Rattle.checkpoints.proofs.FullBatches.{flat_batched, full_batched}
 use Rattle.checkpoints.proofs.Holders.{owners_some, owners_none}
 use Rattle.checkpoints.proofs.OwnLaw.{own_of, owner_of_own}
 

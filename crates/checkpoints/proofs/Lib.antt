@@ -2,9 +2,11 @@ pub mod Along
 pub mod Apartness
 pub mod Batching
 pub mod Chaining
+pub mod DiskProofs
+pub mod MemoryProofs
 pub mod Counted
 pub mod EntryLaw
-pub mod Full
+pub mod FullBatches
 pub mod Given
 pub mod Holders
 pub mod InPlace

@@ -31,7 +31,7 @@ use Rattle.checkpoints.specs.Records.{owned_at, owned_in, listed, put_of, items_
 use Rattle.checkpoints.specs.Known.{AreListed}
 use Rattle.checkpoints.proofs.Apartness.{Apart, are_apart, contained}
 use Rattle.checkpoints.proofs.Sought.{from_picked, in_picked, apart_picked}
-use Rattle.checkpoints.proofs.Full.{full_batched}
+use Rattle.checkpoints.proofs.FullBatches.{full_batched}
 use Rattle.checkpoints.proofs.Owns.{of_all, of_nobody, items_are, fps_are, flags_of}
 
 -- ---- a slot

@@ -16,7 +16,7 @@ use Rattle.user_dedup.specs.Owning.{is_among}
 use Rattle.cloud_areas.specs.Checkpoints.{PutRecord, of_user, fps_of, items_in, AreFlagged}
 use Rattle.checkpoints.specs.Picking.{batches}
 use Rattle.checkpoints.specs.Records.{owned_in, listed_below, listed, items_of, put_of, items_from, puts_from}
-use Rattle.checkpoints.proofs.Full.{flat_batched}
+use Rattle.checkpoints.proofs.FullBatches.{flat_batched}
 
 -- ---- one user's
 

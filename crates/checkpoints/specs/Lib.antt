@@ -1,4 +1,6 @@
 pub mod Chained
+pub mod CloudDisk
+pub mod CloudMemory
 pub mod Known
 pub mod Laying
 pub mod Marked

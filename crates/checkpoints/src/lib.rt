@@ -16,6 +16,8 @@ mod records;
 mod whole;
 
 pub use chains::OwnerChains;
+pub use cloud_disk::CloudDisk;
+pub use cloud_memory::{CloudMemory, Full, New};
 pub use entire::checkpoint;
 pub use laying::lay_checkpoint;
 pub use marks::Marks;

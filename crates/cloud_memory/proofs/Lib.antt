@@ -1,24 +1,25 @@
-pub mod Keys
-pub mod Naming
-pub mod Puts
-pub mod Lists
-pub mod Few
-pub mod PutLaw
+pub mod Adding
+mod Answering
+pub mod Beginning
+pub mod CloudAreas
 pub mod CommitLaw
 pub mod DeleteLaw
-pub mod Adding
-pub mod Taking
-mod Walking
-pub mod Beginning
-mod Next
-pub mod PlacingLaw
 pub mod EndsLaw
 mod Entering
-mod Holding
-mod PutLength
-mod Answering
-pub mod KeyCounts
-pub mod FullRooms
-pub mod Recording
-mod Unowned
+pub mod Few
 pub mod Fitting
+pub mod FullRooms
+mod Holding
+pub mod KeyCounts
+pub mod Keys
+pub mod Lists
+pub mod Naming
+mod Next
+pub mod PlacingLaw
+pub mod PutLaw
+mod PutLength
+pub mod Puts
+pub mod Recording
+pub mod Taking
+mod Unowned
+mod Walking

@@ -1,10 +1,11 @@
+pub mod CloudAreas
+pub mod Fitting
+pub mod Greatest
 pub mod Inner
 pub mod Memory
+pub mod Moving
 pub mod News
+pub mod Records
 pub mod Rooms
 pub mod Sharing
 pub mod Steps
-pub mod Records
-pub mod Fitting
-pub mod Moving
-pub mod Greatest

@@ -37,7 +37,7 @@ use Rattle.user_dedup.proofs.Sound.{put_adds, commit_adds, deletes_from}
 use Rattle.user_dedup.proofs.Spending.{commands_more, each_within}
 use Rattle.user_dedup.proofs.Suiting.{suits}
 use Rattle.user_dedup.proofs.Views.{held_is}
-use Rattle.server_reads.proofs.Sound.{strings_fit}
+use Rattle.server_requests.proofs.ServerReads.Sound.{strings_fit}
 
 -- ---- the parts of a command that a request adds
 

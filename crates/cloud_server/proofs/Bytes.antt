@@ -8,9 +8,9 @@ use Rattle.half_journal.specs.Openings.{OnFault}
 use Rattle.journal_halves.specs.Beginnings.{IsUnbegun}
 use Rattle.journal_start.specs.declared.start.Header.{Header}
 use Rattle.journal_start.specs.declared.start.Start.{Start}
-use Rattle.cloud_memory.specs.Memory.{Memory}
-use Rattle.record_checks.specs.declared.ground.Ground.{Ground}
-use Rattle.record_checks.specs.declared.taking.Taking.{Taking}
+use Rattle.store_opening.specs.CloudMemory.Memory.{Memory}
+use Rattle.store_opening.specs.RecordChecks.ground.Ground.{Ground}
+use Rattle.store_opening.specs.RecordChecks.taking.Taking.{Taking}
 use Rattle.store_opening.specs.Exact.{Replays, Ended, Early, Taken, Refused, Broken, Opens, Unbegun, NoStart, Other, New, Read}
 use Rattle.store_opening.specs.Spared.{MayBegin, Spares}
 use Rattle.store_opening.specs.Steps.{IsOfRecords}

@@ -20,8 +20,8 @@ use Rattle.user_dedup.specs.Exec.{Peer, MaySettleAs}
 use Rattle.user_dedup.specs.Spending.{IsWithin}
 use Rattle.cloud_areas.specs.Peers.{StandsForSome, ImagesNow, ImagesSince}
 use Rattle.cloud_areas.specs.Standing.{StandsFor}
-use Rattle.cloud_memory.specs.Rooms.{memory_of}
-use Rattle.record_laws.specs.Leaving.{MayHold}
+use Rattle.store_opening.specs.CloudMemory.Rooms.{memory_of}
+use Rattle.store_opening.specs.RecordLaws.Leaving.{MayHold}
 use Rattle.store_opening.specs.Exact.{Opens}
 use Rattle.store_opening.specs.Spared.{IsOkOrFault, MayBegin, Spares}
 use Rattle.server_requests.specs.OpenStore.store.OpenStore.{OpenStore}

@@ -17,8 +17,8 @@ use Rattle.user_dedup.specs.Spending.{full_for, IsWithin}
 use Rattle.user_dedup.proofs.Within.{next_within}
 use Rattle.cloud_areas.specs.Peers.{ImagesNow}
 use Rattle.cloud_areas.specs.Standing.{StandsFor}
-use Rattle.cloud_disk.proofs.Standing.{images_on}
-use Rattle.record_laws.specs.Leaving.{MayHold}
+use Rattle.store_opening.proofs.DiskProofs.Standing.{images_on}
+use Rattle.store_opening.specs.RecordLaws.Leaving.{MayHold}
 use Rattle.store_opening.proofs.Current.{not_unbegun}
 use Rattle.server_requests.specs.OpenStore.store.OpenStore.{OpenStore}
 use Rattle.server_requests.specs.OpenStore.Store.{IsOpen, ServesSome}

@@ -1,3 +1,5 @@
+pub mod CloudAreas
+pub mod CloudMemory
 pub mod Keeping
 pub mod Names
 pub mod OpenStore

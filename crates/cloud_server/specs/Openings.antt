@@ -8,7 +8,7 @@ use Rattle.half_journal.specs.Openings.{HasHeader}
 use Rattle.journal_halves.specs.Beginnings.{IsUnbegun}
 use Rattle.journal_halves.specs.Halves.{half_len}
 use Rattle.journal_start.specs.declared.start.Header.{Header}
-use Rattle.cloud_memory.specs.Memory.{Memory}
+use Rattle.store_opening.specs.CloudMemory.Memory.{Memory}
 use Rattle.store_opening.specs.Exact.{Opens}
 use Rattle.store_opening.specs.Spared.{MayBegin}
 use Rattle.store_opening.specs.Synced.{AreSynced}

@@ -21,7 +21,7 @@ use Rattle.user_dedup.specs.Exec.{Peer, MaySettleAs, Settles, Stays, Exec, items
 use Rattle.user_dedup.specs.Spending.{IsWithin}
 use Rattle.cloud_areas.specs.Peers.{StandsAs}
 use Rattle.cloud_areas.specs.Standing.{StandsFor}
-use Rattle.cloud_memory.specs.Rooms.{memory_of}
+use Rattle.store_opening.specs.CloudMemory.Rooms.{memory_of}
 use Rattle.store_opening.specs.Exact.{Opens}
 use Rattle.store_opening.specs.Spared.{IsOkOrFault, Spares}
 use Rattle.server_requests.specs.OpenStore.store.OpenStore.{OpenStore}

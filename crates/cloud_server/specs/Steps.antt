@@ -11,7 +11,7 @@ use Rattle.messages.specs.Replies.{IsReply}
 use Rattle.user_dedup.specs.declared.command.Command.{Command}
 use Rattle.user_dedup.specs.Dedup.{Outcome}
 use Rattle.user_dedup.specs.Exec.{Peer, Settles, Stays, CountsOn, Answers, IsCut}
-use Rattle.cloud_memory.specs.Rooms.{memory_of}
+use Rattle.store_opening.specs.CloudMemory.Rooms.{memory_of}
 use Rattle.store_opening.specs.Exact.{Opens}
 use Rattle.store_opening.specs.Spared.{Spares}
 use Rattle.server_requests.specs.OpenStore.store.OpenStore.{OpenStore}

@@ -45,7 +45,7 @@ impl Server {
     ghost use Rattle.user_dedup.specs.Spending.{IsWithin};
     ghost use Rattle.cloud_areas.specs.Peers.{ImagesNow, ImagesSince, MayBecome};
     ghost use Rattle.cloud_areas.specs.Standing.{StandsFor};
-    ghost use Rattle.cloud_memory.specs.Rooms.{memory_of};
+    ghost use Rattle.store_opening.specs.CloudMemory.Rooms.{memory_of};
     ghost use Rattle.store_opening.specs.Exact.{Opens};
     ghost use Rattle.store_opening.specs.Spared.{IsOkOrFault, MayBegin, Spares};
     ghost use Rattle.store_opening.specs.Synced.{BeginsSynced};

@@ -12,7 +12,7 @@ ghost use Rattle.user_dedup.specs.declared.command.Command.{Command};
 ghost use Rattle.user_dedup.specs.Exec.{Peer, MaySettleAs};
 ghost use Rattle.user_dedup.specs.Requests.{HasRecipe};
 ghost use Rattle.cloud_areas.specs.Peers.{ImagesSince, MayBecome};
-ghost use Rattle.cloud_memory.specs.Rooms.{memory_of};
+ghost use Rattle.store_opening.specs.CloudMemory.Rooms.{memory_of};
 ghost use Rattle.server_requests.specs.OpenStore.Store.{IsOpen, ServesSome};
 ghost use Rattle.server_requests.specs.ServerCommands.Leaving.{IsFound, LeavesAll};
 ghost use Rattle.server_requests.specs.ServerCommands.Serving.{serves};

@@ -22,9 +22,9 @@ use Rattle.user_dedup.specs.Cloud.{counted as number_in}
 use Rattle.user_dedup.specs.Dedup.{IsSound, Begun}
 use Rattle.user_dedup.specs.Exec.{Peer, MaySettleAs, Settles, Stays as PeerStays, CountsOn, StandsSound}
 use Rattle.user_dedup.specs.Spending.{IsWithin}
-use Rattle.cloud_areas.specs.Peers.{ImagesNow, ImagesSince}
-use Rattle.cloud_areas.specs.Standing.{StandsFor}
-use Rattle.cloud_memory.specs.Rooms.{memory_of}
+use Rattle.cloud_server.specs.CloudAreas.Peers.{ImagesNow, ImagesSince}
+use Rattle.cloud_server.specs.CloudAreas.Standing.{StandsFor}
+use Rattle.cloud_server.specs.CloudMemory.Rooms.{memory_of}
 use Rattle.cloud_server.specs.StoreOpening.Exact.{Opens}
 use Rattle.cloud_server.specs.StoreOpening.Spared.{IsOkOrFault, MayBegin, Spares}
 use Rattle.cloud_server.specs.OpenStore.Store.{IsOpen}

@@ -21,8 +21,8 @@ use Rattle.user_dedup.specs.Exec.{Peer, MaySettleAs, Exec, StandsSound, served}
 use Rattle.user_dedup.specs.Served.{served_by}
 use Rattle.user_dedup.proofs.Asked.{asked_law}
 use Rattle.user_dedup.proofs.Execs.{keeps_sound}
-use Rattle.cloud_areas.specs.Peers.{StandsForSome, ImagesNow, ImagesSince, MayBecome}
-use Rattle.cloud_memory.specs.Rooms.{memory_of}
+use Rattle.cloud_server.specs.CloudAreas.Peers.{StandsForSome, ImagesNow, ImagesSince, MayBecome}
+use Rattle.cloud_server.specs.CloudMemory.Rooms.{memory_of}
 use Rattle.cloud_server.specs.OpenStore.Store.{IsOpen}
 use Rattle.cloud_server.specs.ServerCommands.Leaving.{IsFound}
 use Rattle.cloud_server.specs.declared.server.Server.{Server}

@@ -16,7 +16,7 @@ use Rattle.user_dedup.specs.Dedup.{FullRoom}
 use Rattle.user_dedup.specs.Requests.{asked_at, HasRecipe}
 use Rattle.user_dedup.specs.Exec.{Peer, MaySettleAs, Stays, CountsOn, Exec, ExecTold, ExecUntold, IsCut, served}
 use Rattle.user_dedup.proofs.Asked.{asked_law}
-use Rattle.cloud_areas.specs.Peers.{StandsForSome, ImagesSince, MayBecome}
+use Rattle.cloud_server.specs.CloudAreas.Peers.{StandsForSome, ImagesSince, MayBecome}
 use Rattle.local_link.specs.declared.link.LocalLink.{LocalLink}
 use Rattle.local_link.specs.Tells.{server_at, header_at, rooms_at, full_at, IsPeer, LeavesRest, serving_at, StandsAt, PassesOn, telling}
 use Rattle.user_dedup.specs.Link.{Exchange, exchange_of, AddsNothing, Passes, ReadsFrom, Asks, serves}

@@ -12,7 +12,7 @@ use Rattle.user_dedup.specs.declared.command.Command.{Command}
 use Rattle.user_dedup.specs.Exec.{Peer, MaySettleAs}
 use Rattle.user_dedup.specs.Link.{LeavesOthers}
 use Rattle.user_dedup.specs.Spending.{full_for, IsWithin}
-use Rattle.cloud_areas.specs.Peers.{ImagesNow}
+use Rattle.cloud_server.specs.CloudAreas.Peers.{ImagesNow}
 use Rattle.cloud_server.specs.OpenStore.Store.{IsOpen}
 use Rattle.cloud_server.specs.Names.{header_of}
 use Rattle.cloud_server.specs.declared.server.Server.{Server}

@@ -9,7 +9,7 @@ use Rattle.cd_edges.specs.Disk.{Cloud, Image, IsImage, LeavesOnly}
 use Rattle.user_dedup.specs.declared.command.Command.{Command}
 use Rattle.user_dedup.specs.Exec.{Peer, MaySettleAs, Stays, StandsSound}
 use Rattle.user_dedup.specs.Spending.{IsWithin}
-use Rattle.cloud_areas.specs.Peers.{ImagesNow}
+use Rattle.cloud_server.specs.CloudAreas.Peers.{ImagesNow}
 pub use Rattle.cloud_server.specs.Names.{header_of}
 
 -- A cloud may be served as this peer, in these rooms: its counts are the peer's, and where it is told each image now stands for a list that

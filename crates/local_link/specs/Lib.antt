@@ -1,4 +1,6 @@
 pub mod Calls
+pub mod CloudAreas
+pub mod CloudMemory
 pub mod CloudServer
 pub mod Members
 pub mod Sounds

@@ -22,9 +22,9 @@ use Rattle.cloud_server.specs.Openings.{NotBegunIs, OtherStoreIs}
 use Rattle.cloud_server.specs.StoreOpening.Exact.{Opens}
 use Rattle.user_dedup.specs.Spending.{IsWithin}
 use Rattle.cloud_server.specs.OpenStore.Store.{IsOpen}
-use Rattle.cloud_areas.specs.Peers.{ImagesNow, ImagesSince, MayBecome}
-use Rattle.cloud_areas.specs.Standing.{StandsFor}
-use Rattle.cloud_memory.specs.Rooms.{memory_of}
+use Rattle.cloud_server.specs.CloudAreas.Peers.{ImagesNow, ImagesSince, MayBecome}
+use Rattle.cloud_server.specs.CloudAreas.Standing.{StandsFor}
+use Rattle.cloud_server.specs.CloudMemory.Rooms.{memory_of}
 use Rattle.cloud_server.specs.ServerCommands.Leaving.{IsFound, LeavesAll}
 use Rattle.cloud_server.specs.declared.server.Server.{Server}
 use Rattle.user_dedup.specs.Cloud.{counted}

@@ -10,7 +10,7 @@ use Rattle.user_dedup.specs.Dedup.{Outcome, FullRoom}
 use Rattle.user_dedup.specs.Requests.{asked_at}
 use Rattle.user_dedup.specs.Exec.{Peer, Stays, CountsOn, Exec, StandsSound, served}
 use Rattle.user_dedup.specs.Link.{LinkTelling, Exchange}
-use Rattle.cloud_areas.specs.Peers.{ImagesSince, MayBecome}
+use Rattle.cloud_server.specs.CloudAreas.Peers.{ImagesSince, MayBecome}
 use Rattle.journal_start.specs.declared.rooms.Rooms.{Rooms}
 use Rattle.journal_start.specs.declared.start.Header.{Header}
 use Rattle.journal_start.specs.Ranges.{usual_rooms}

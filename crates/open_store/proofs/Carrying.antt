@@ -31,13 +31,13 @@ use Rattle.cloud_areas.specs.Placing.{region_start, recipes_in, recipes_placed, 
 use Rattle.cloud_areas.specs.Standing.{Chain}
 use Rattle.cloud_areas.proofs.Ends.{end_each}
 use Rattle.cloud_areas.proofs.Entries.{share_lies}
-use Rattle.cloud_disk.specs.Disk.{Disk, IsOn, KeepsFronts}
-use Rattle.cloud_memory.specs.declared.cloud.CloudMemory.{CloudMemory}
-use Rattle.cloud_memory.specs.Memory.{Memory, Remembers, IsPlacedBy, HasEnds, Stand, summary, summary_of, commit_of}
-use Rattle.cloud_memory.specs.Rooms.{memory_of}
-use Rattle.record_laws.specs.Leaving.{record_left, MayHold, RecipesLie}
-use Rattle.record_laws.proofs.Known.{few_files, known_user}
-use Rattle.record_laws.proofs.Next.{next_left}
+use Rattle.checkpoints.specs.CloudDisk.Disk.{Disk, IsOn, KeepsFronts}
+use Rattle.checkpoints.specs.CloudMemory.cloud.CloudMemory.{CloudMemory}
+use Rattle.checkpoints.specs.CloudMemory.Memory.{Memory, Remembers, IsPlacedBy, HasEnds, Stand, summary, summary_of, commit_of}
+use Rattle.checkpoints.specs.CloudMemory.Rooms.{memory_of}
+use Rattle.store_opening.specs.RecordLaws.Leaving.{record_left, MayHold, RecipesLie}
+use Rattle.store_opening.proofs.RecordLaws.Known.{few_files, known_user}
+use Rattle.store_opening.proofs.RecordLaws.Next.{next_left}
 use Rattle.checkpoints.specs.Known.{HasCheckpoint, checkpoint_in}
 use Rattle.open_store.specs.Store.{ServesBy}
 

@@ -27,8 +27,8 @@ use Rattle.user_dedup.proofs.CompactSound.{all_fit, FitsAll}
 use Rattle.user_dedup.proofs.Sound.{sound_before, deletes_from, put_adds, commit_adds}
 use Rattle.user_dedup.proofs.Owned.{contains_here}
 use Rattle.std.proofs.lemmas.List.Elements.{Contains-append_right}
-use Rattle.cloud_memory.specs.declared.rooms.New.{New}
-use Rattle.cloud_memory.specs.News.{AreOf}
+use Rattle.checkpoints.specs.CloudMemory.rooms.New.{New}
+use Rattle.checkpoints.specs.CloudMemory.News.{AreOf}
 use Rattle.open_store.proofs.Putting.{HasFp, place_near}
 
 -- ---- what the last command of a sound list has

@@ -8,8 +8,8 @@ use Rattle.container_log.specs.Kept.{KeepsBelow}
 use Rattle.container_log.specs.States as logs
 use Rattle.journal_halves.specs.Journals.{Where, with_body, IsEither}
 use Rattle.half_journal.specs.States.{IsEnded}
-use Rattle.cloud_disk.specs.Disk as disks
-use Rattle.cloud_disk.proofs.Grown.{below}
+use Rattle.checkpoints.specs.CloudDisk.Disk as disks
+use Rattle.checkpoints.proofs.DiskProofs.Grown.{below}
 use Rattle.checkpoints.proofs.InPlace.{ended_still}
 use Rattle.open_store.specs.declared.store.OpenStore.{OpenStore}
 use Rattle.open_store.specs.Adding.{summed, IsOneOf, IsLeftOf, KeepsOrSums, HasRoomMade, KeepsOrGrows}

@@ -22,15 +22,15 @@ use Rattle.user_dedup.specs.Dedup.{IsSound}
 use Rattle.user_dedup.proofs.Owned.{fp_same, among_contains}
 use Rattle.cloud_areas.specs.Placing.{end_of, places_given}
 use Rattle.cloud_areas.specs.Standing.{Chain}
-use Rattle.cloud_disk.specs.Disk.{Stages, shares_laid}
-use Rattle.cloud_memory.specs.declared.rooms.New.{New}
-use Rattle.cloud_memory.specs.Memory.{Memory}
-use Rattle.cloud_memory.specs.News.{AreOf, AreApart, AreNewTo}
-use Rattle.cloud_memory.specs.Steps.{with_item, part_in, parts_of}
-use Rattle.cloud_memory.proofs.Adding.{Others, others, rest_apart}
-use Rattle.cloud_memory.specs.Rooms.{memory_of}
-use Rattle.cloud_memory.proofs.Lists.{strings_more, among_found}
-use Rattle.cloud_memory.proofs.Puts.{place_for, placed_more}
+use Rattle.checkpoints.specs.CloudDisk.Disk.{Stages, shares_laid}
+use Rattle.checkpoints.specs.CloudMemory.rooms.New.{New}
+use Rattle.checkpoints.specs.CloudMemory.Memory.{Memory}
+use Rattle.checkpoints.specs.CloudMemory.News.{AreOf, AreApart, AreNewTo}
+use Rattle.checkpoints.specs.CloudMemory.Steps.{with_item, part_in, parts_of}
+use Rattle.checkpoints.proofs.MemoryProofs.Adding.{Others, others, rest_apart}
+use Rattle.checkpoints.specs.CloudMemory.Rooms.{memory_of}
+use Rattle.checkpoints.proofs.MemoryProofs.Lists.{strings_more, among_found}
+use Rattle.checkpoints.proofs.MemoryProofs.Puts.{place_for, placed_more}
 use Rattle.open_store.specs.declared.store.OpenStore.{OpenStore}
 use Rattle.open_store.specs.Store.{Serves}
 use Rattle.open_store.specs.Adding.{IsPut, unplaced}

@@ -13,10 +13,10 @@ use Rattle.journal_halves.specs.Halves.{half_limit}
 use Rattle.user_dedup.specs.declared.command.Command.{Command}
 use Rattle.cloud_areas.specs.Placing.{greatest_end, region_start, shares_in, recipes_in, places_of}
 use Rattle.cloud_areas.specs.Standing.{Chain, where_of, IsChain, Holds}
-use Rattle.cloud_disk.specs.Disk.{Disk, IsOn, IsReadThrough, without_staged, regions_end}
-use Rattle.cloud_disk.proofs.Standing.{on_read}
-use Rattle.cloud_memory.specs.Memory.{Stand}
-use Rattle.cloud_memory.specs.Rooms.{memory_of}
+use Rattle.checkpoints.specs.CloudDisk.Disk.{Disk, IsOn, IsReadThrough, without_staged, regions_end}
+use Rattle.checkpoints.proofs.DiskProofs.Standing.{on_read}
+use Rattle.checkpoints.specs.CloudMemory.Memory.{Stand}
+use Rattle.checkpoints.specs.CloudMemory.Rooms.{memory_of}
 use Rattle.store_opening.proofs.Spends.{ends_far}
 use Rattle.open_store.specs.declared.store.OpenStore.{OpenStore}
 use Rattle.open_store.specs.Store.{IsOpen, IsSettled, EndsMeet, Serves, ServesBy}

@@ -18,11 +18,11 @@ use Rattle.user_dedup.specs.declared.command.Command.TheVariants as asked
 use Rattle.user_dedup.specs.Dedup.{IsSound}
 use Rattle.user_dedup.specs.Cloud.{user_view}
 use Rattle.cloud_areas.specs.Standing.{Chain}
-use Rattle.cloud_disk.specs.Disk.{Stages, shares_laid}
-use Rattle.cloud_memory.specs.declared.cloud.CloudMemory.{CloudMemory}
-use Rattle.cloud_memory.specs.declared.rooms.New.{New}
-use Rattle.cloud_memory.specs.Rooms.{memory_of}
-use Rattle.cloud_memory.specs.Steps.{parts_of}
+use Rattle.checkpoints.specs.CloudDisk.Disk.{Stages, shares_laid}
+use Rattle.checkpoints.specs.CloudMemory.cloud.CloudMemory.{CloudMemory}
+use Rattle.checkpoints.specs.CloudMemory.rooms.New.{New}
+use Rattle.checkpoints.specs.CloudMemory.Rooms.{memory_of}
+use Rattle.checkpoints.specs.CloudMemory.Steps.{parts_of}
 use Rattle.open_store.specs.declared.store.OpenStore.{OpenStore}
 use Rattle.open_store.specs.Store.{Serves, KeepsServing}
 use Rattle.open_store.specs.Adding.{IsPut, IsCommit, IsDelete}

@@ -32,13 +32,13 @@ use Rattle.cloud_areas.specs.Laid.{IsLaidBehind, HaveEnds, end_behind, place_by}
 use Rattle.cloud_areas.specs.Placing.{shares_in, shares_placed, recipes_placed, places_of}
 use Rattle.cloud_areas.specs.Standing.{Chain, StandsFor}
 use Rattle.cloud_areas.proofs.Placed.{shares_more}
-use Rattle.cloud_disk.specs.Disk.{Disk, IsOn, IsPrepared, KeepsFronts, KeepsOrAdds, StandsForEither, EndsBehind, Stages, shares_laid}
-use Rattle.cloud_disk.proofs.Blobs.{all_right}
-use Rattle.cloud_memory.specs.declared.cloud.CloudMemory.{CloudMemory}
-use Rattle.cloud_memory.specs.Memory.{Memory, Remembers, IsPlacedBy, HasEnds}
-use Rattle.cloud_memory.specs.Rooms.{memory_of}
+use Rattle.checkpoints.specs.CloudDisk.Disk.{Disk, IsOn, IsPrepared, KeepsFronts, KeepsOrAdds, StandsForEither, EndsBehind, Stages, shares_laid}
+use Rattle.checkpoints.proofs.DiskProofs.Blobs.{all_right}
+use Rattle.checkpoints.specs.CloudMemory.cloud.CloudMemory.{CloudMemory}
+use Rattle.checkpoints.specs.CloudMemory.Memory.{Memory, Remembers, IsPlacedBy, HasEnds}
+use Rattle.checkpoints.specs.CloudMemory.Rooms.{memory_of}
 use Rattle.checkpoints.specs.Settling.{KeepsList}
-use Rattle.record_laws.specs.Leaving.{record_left, MayHold, RecipesLie}
+use Rattle.store_opening.specs.RecordLaws.Leaving.{record_left, MayHold, RecipesLie}
 use Rattle.open_store.specs.Store.{ServesBy}
 use Rattle.open_store.proofs.Carrying.{ended_by, lie_after, serves_more}
 use Rattle.open_store.proofs.Preparing.{prepared}

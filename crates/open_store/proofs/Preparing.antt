@@ -11,8 +11,8 @@ use Rattle.cloud_areas.specs.Chains.{IsRecord, BothHaveRoom}
 use Rattle.cloud_areas.specs.Laid.{IsLaidBehind, HaveEnds}
 use Rattle.cloud_areas.specs.Standing.{Chain, region_in}
 use Rattle.cloud_areas.proofs.Room.{shares_few, recipes_few}
-use Rattle.cloud_disk.specs.Disk.{Disk, Stages, shares_laid, IsPrepared, regions_end}
-use Rattle.cloud_memory.specs.declared.cloud.CloudMemory.{CloudMemory}
+use Rattle.checkpoints.specs.CloudDisk.Disk.{Disk, Stages, shares_laid, IsPrepared, regions_end}
+use Rattle.checkpoints.specs.CloudMemory.cloud.CloudMemory.{CloudMemory}
 use Rattle.open_store.specs.Store.{ServesBy}
 
 module _ (header : Header) (list : List Command) (c : Chain) (commands region : ℕ) (memory : CloudMemory) (disk : Disk) (cloud : Cloud)

@@ -11,11 +11,11 @@ use Rattle.record_bodies.specs.Spelling.{Put, FitsBody}
 use Rattle.cd_base.specs.declared.place.Place.{Place}
 use Rattle.cloud_areas.specs.Laid.{AreSmall, IsLaidBehind}
 use Rattle.cloud_areas.specs.Placing.{places_given, places_of}
-use Rattle.cloud_memory.specs.declared.rooms.New.{New}
-use Rattle.cloud_memory.specs.Memory.{Memory}
-use Rattle.cloud_memory.specs.Steps.{part_in, parts_of, with_item, end_with}
-use Rattle.cloud_memory.proofs.Adding.{parts_count}
-use Rattle.cloud_memory.proofs.Recording.{parts_laid}
+use Rattle.checkpoints.specs.CloudMemory.rooms.New.{New}
+use Rattle.checkpoints.specs.CloudMemory.Memory.{Memory}
+use Rattle.checkpoints.specs.CloudMemory.Steps.{part_in, parts_of, with_item, end_with}
+use Rattle.checkpoints.proofs.MemoryProofs.Adding.{parts_count}
+use Rattle.checkpoints.proofs.MemoryProofs.Recording.{parts_laid}
 use Rattle.open_store.specs.Adding.{IsShareNew}
 
 -- a blob moves an end by at most twice its length

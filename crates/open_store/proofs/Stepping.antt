@@ -31,17 +31,17 @@ use Rattle.cloud_areas.specs.Chains.{IsRecord, commit_of}
 use Rattle.cloud_areas.specs.Laid.{AreLaid, end_behind}
 use Rattle.cloud_areas.specs.Placing.{end_of, places_given, places_of}
 use Rattle.cloud_areas.specs.Standing.{Chain}
-use Rattle.cloud_disk.specs.Disk.{Disk, Stages}
-use Rattle.cloud_memory.specs.declared.cloud.CloudMemory.{CloudMemory}
-use Rattle.cloud_memory.specs.declared.rooms.New.{New}
-use Rattle.cloud_memory.specs.Memory.{Memory, Remembers, IsPlacedBy, HasEnds}
-use Rattle.cloud_memory.specs.News.{AreOf, AreNewTo}
-use Rattle.cloud_memory.specs.Rooms.{memory_of}
-use Rattle.cloud_memory.specs.Steps.{with_item, with_items, with_put, parts_of, with_commit, without_entry}
-use Rattle.cloud_memory.proofs.EndsLaw.{put_ends, commit_ends, delete_ends}
-use Rattle.cloud_memory.proofs.PlacingLaw.{put_placed, commit_placed, delete_placed}
-use Rattle.cloud_memory.proofs.Puts.{files_stay}
-use Rattle.cloud_memory.proofs.Recording.{parts_laid}
+use Rattle.checkpoints.specs.CloudDisk.Disk.{Disk, Stages}
+use Rattle.checkpoints.specs.CloudMemory.cloud.CloudMemory.{CloudMemory}
+use Rattle.checkpoints.specs.CloudMemory.rooms.New.{New}
+use Rattle.checkpoints.specs.CloudMemory.Memory.{Memory, Remembers, IsPlacedBy, HasEnds}
+use Rattle.checkpoints.specs.CloudMemory.News.{AreOf, AreNewTo}
+use Rattle.checkpoints.specs.CloudMemory.Rooms.{memory_of}
+use Rattle.checkpoints.specs.CloudMemory.Steps.{with_item, with_items, with_put, parts_of, with_commit, without_entry}
+use Rattle.checkpoints.proofs.MemoryProofs.EndsLaw.{put_ends, commit_ends, delete_ends}
+use Rattle.checkpoints.proofs.MemoryProofs.PlacingLaw.{put_placed, commit_placed, delete_placed}
+use Rattle.checkpoints.proofs.MemoryProofs.Puts.{files_stay}
+use Rattle.checkpoints.proofs.MemoryProofs.Recording.{parts_laid}
 use Rattle.open_store.specs.Store.{ServesBy}
 use Rattle.open_store.proofs.Next.{IsNext}
 use Rattle.open_store.proofs.Putting.{put_laid}

@@ -32,12 +32,12 @@ use Rattle.user_dedup.specs.Dedup.{IsSound}
 use Rattle.user_dedup.specs.Cloud.{user_view}
 use Rattle.cloud_areas.specs.Adding.{with_record}
 use Rattle.cloud_areas.specs.Standing.{Chain}
-use Rattle.cloud_disk.specs.Disk.{Disk, IsOn, KeepsOrAdds, Stages, shares_laid, without_staged}
-use Rattle.cloud_memory.specs.declared.rooms.Full.{Full}
-use Rattle.cloud_memory.specs.declared.rooms.New.{New}
-use Rattle.cloud_memory.specs.News.{AreOf}
-use Rattle.cloud_memory.specs.Rooms.{memory_of}
-use Rattle.cloud_memory.specs.Steps.{parts_of}
+use Rattle.checkpoints.specs.CloudDisk.Disk.{Disk, IsOn, KeepsOrAdds, Stages, shares_laid, without_staged}
+use Rattle.checkpoints.specs.CloudMemory.rooms.Full.{Full}
+use Rattle.checkpoints.specs.CloudMemory.rooms.New.{New}
+use Rattle.checkpoints.specs.CloudMemory.News.{AreOf}
+use Rattle.checkpoints.specs.CloudMemory.Rooms.{memory_of}
+use Rattle.checkpoints.specs.CloudMemory.Steps.{parts_of}
 use Rattle.open_store.specs.declared.store.OpenStore.{OpenStore}
 use Rattle.open_store.specs.declared.store.Unadded.{Unadded}
 use Rattle.open_store.specs.declared.store.Unadded.TheVariants as why

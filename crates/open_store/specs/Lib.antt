@@ -1,2 +1,5 @@
-pub mod Store
 pub mod Adding
+pub mod CloudAreas
+pub mod CloudDisk
+pub mod CloudMemory
+pub mod Store

@@ -6,11 +6,11 @@ use Rattle.journal_start.specs.declared.start.Header.{Header}
 use Rattle.journal_start.specs.Ranges.{IsHeader}
 use Rattle.user_dedup.specs.declared.command.Command.{Command}
 use Rattle.cloud_areas.specs.Standing.{Chain}
-use Rattle.cloud_disk.specs.Disk.{Disk, regions_end}
-use Rattle.cloud_memory.specs.declared.cloud.CloudMemory.{CloudMemory}
-use Rattle.cloud_memory.specs.Fitting.{FitsRecords}
-use Rattle.cloud_memory.specs.Memory.{HasEnds}
-use Rattle.cloud_memory.specs.Rooms.{memory_of, HasRooms}
+use Rattle.checkpoints.specs.CloudDisk.Disk.{Disk, regions_end}
+use Rattle.checkpoints.specs.CloudMemory.cloud.CloudMemory.{CloudMemory}
+use Rattle.checkpoints.specs.CloudMemory.Fitting.{FitsRecords}
+use Rattle.checkpoints.specs.CloudMemory.Memory.{HasEnds}
+use Rattle.checkpoints.specs.CloudMemory.Rooms.{memory_of, HasRooms}
 use Rattle.store_opening.specs.Roomy.{IsRoomy}
 use Rattle.store_opening.specs.Spared.{IsFor}
 use Rattle.checkpoints.specs.Known.{IsKnown, checkpoint_in}

@@ -11,5 +11,6 @@ mod room;
 mod store;
 mod writing;
 
+pub use checkpoints::{CloudDisk, CloudMemory, New};
 pub use store::{OpenStore, Unadded};
 pub use store_opening::reopen;

@@ -5,12 +5,12 @@ ghost use Rattle.cd_edges.specs.Shelf.{IsCall, HasFailed, KeepsCounts};
 ghost use Rattle.record_bodies.specs.Spelling.{Body, FitsBody, body_bytes};
 ghost use Rattle.user_dedup.specs.declared.command.Command.{Command};
 ghost use Rattle.cloud_areas.specs.Standing.{Chain};
-ghost use Rattle.cloud_memory.specs.Rooms.{memory_of};
+ghost use Rattle.checkpoints.specs.CloudMemory.Rooms.{memory_of};
 ghost use Rattle.checkpoints.specs.Laying.{records_len};
 ghost use Rattle.checkpoints.specs.Settling.{KeepsList, KeepsOthers};
 ghost use Rattle.checkpoints.specs.Records.{records_of};
 ghost use Rattle.checkpoints.specs.Known.{stage_behind, IfFailed, UnlessFailed, IfLong};
-ghost use Rattle.cloud_disk.specs.Disk.{regions_end};
+ghost use Rattle.checkpoints.specs.CloudDisk.Disk.{regions_end};
 ghost use Rattle.open_store.specs.Adding.{NoneStaged, IsTooLong, Unmoved, KeepsOrSums, HasRoomMade};
 ghost use Rattle.open_store.specs.Store.{IsOpen, IsSettled, Serves, Fits, chain_with_room, KeepsServing};
 

@@ -9,14 +9,12 @@ ghost use Rattle.journal_start.specs.Ranges.{IsHeader};
 ghost use Rattle.half_journal.specs.declared.journal.Stage.TheVariants.{Shut};
 ghost use Rattle.user_dedup.specs.declared.command.Command.{Command};
 ghost use Rattle.cloud_areas.specs.Standing.{Chain};
-ghost use Rattle.cloud_disk.specs.Disk.{Stages};
+ghost use Rattle.checkpoints.specs.CloudDisk.Disk.{Stages};
 ghost use Rattle.open_store.specs.Store.{IsOpen, IsSettled, EndsMeet, Serves, closed};
 ghost use Rattle.open_store.specs.Adding.{NoneStaged, unstaged};
 
 use cd_base::NoMemory;
-use checkpoints::{Marks, OwnerChains};
-use cloud_disk::CloudDisk;
-use cloud_memory::{CloudMemory, Full};
+use checkpoints::{CloudDisk, CloudMemory, Full, Marks, OwnerChains};
 use container_log::LogFull;
 use journal_start::Header;
 use record_bodies::BodyBuf;

@@ -2,7 +2,7 @@
 
 ghost use Rattle.std.specs.Prelude.{◌≡◌, ◌+◌, ◌-◌, ◌≤◌, ◌++◌, ◌^◌, ◌∷◌, [], ℕ, List, min, length, IsTrue, OnOk, OnErr};
 ghost use Rattle.cd_edges.specs.Disk.{moment};
-ghost use Rattle.cloud_disk.specs.Held.{flush_moments};
+ghost use Rattle.checkpoints.specs.CloudDisk.Held.{flush_moments};
 ghost use Rattle.cd_edges.specs.Shelf.{IsCall, HasFailed, KeepsCounts};
 ghost use Rattle.container_log.specs.Laying.{Placed};
 ghost use Rattle.record_body.specs.Spelling.{item_bytes};
@@ -10,7 +10,7 @@ ghost use Rattle.record_bodies.specs.Spelling.{Body, Put, body_bytes};
 ghost use Rattle.user_dedup.specs.declared.command.Command.{Command};
 ghost use Rattle.cloud_areas.specs.Adding.{with_record};
 ghost use Rattle.cloud_areas.specs.Standing.{Chain};
-ghost use Rattle.cloud_disk.specs.Disk.{IsOn, IsPrepared, KeepsOrAdds, KeepsOrGrows, KeepsFronts, EndsBehind, SameRooms};
+ghost use Rattle.checkpoints.specs.CloudDisk.Disk.{IsOn, IsPrepared, KeepsOrAdds, KeepsOrGrows, KeepsFronts, EndsBehind, SameRooms};
 ghost use Rattle.open_store.specs.Store.{IsOpen, IsSettled, Fits};
 ghost use Rattle.half_journal.specs.declared.journal.Stage.TheVariants.{AtEnd};
 ghost use Rattle.half_journal.specs.Outcomes.{stage_after};

@@ -18,7 +18,7 @@ use Rattle.journal_start.specs.declared.start.Start.{Start}
 use Rattle.local_link.proofs.StoreOpening.OneStart.{current_whole}
 use Rattle.user_dedup.specs.declared.command.Command.{Command}
 use Rattle.local_link.specs.StoreOpening.Exact.{Opens}
-use Rattle.cloud_memory.specs.Rooms.{memory_of}
+use Rattle.local_link.specs.CloudMemory.Rooms.{memory_of}
 use Rattle.local_link.specs.CloudServer.Openings.{HasNoOther, NotBegunIs, OpensTo, OtherStoreIs}
 use Rattle.local_link.specs.StoreOpening.Spared.{IsOkOrFault, MayBegin, Spares}
 use Rattle.user_dedup.specs.Spending.{IsWithin}

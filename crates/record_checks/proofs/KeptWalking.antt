@@ -5,7 +5,7 @@ use Rattle.std.specs.FinMap.{len}
 use Rattle.record_bodies.specs.declared.body.FoundKept.{FoundKept}
 use Rattle.record_bodies.specs.declared.body.KeptItem.{KeptItem}
 use Rattle.record_bodies.specs.InPlace.{Walk, StepsOver}
-use Rattle.cloud_areas.specs.Placing.{end_of}
+use Rattle.cloud_memory.specs.CloudAreas.Placing.{end_of}
 use Rattle.cloud_memory.specs.declared.cloud.CloudMemory.{CloudMemory}
 use Rattle.cloud_memory.specs.Memory.{Memory}
 use Rattle.cloud_memory.specs.Records.{HasPlaceRoom}

@@ -1,8 +1,10 @@
+pub mod CloudAreas
+pub mod MemoryProofs
 pub mod Faults
-mod Naming
-mod Walking
-mod Rooming
-mod Overlaying
-mod KeptWalking
 pub mod Judged
+mod KeptWalking
+mod Naming
 pub mod OneAnswer
+mod Overlaying
+mod Rooming
+mod Walking

@@ -18,7 +18,7 @@ use Rattle.cd_base.specs.Order.{fp_cmp}
 use Rattle.share_index.proofs.Owning.{owner_total}
 use Rattle.share_index.proofs.Placing.{fp_total}
 use Rattle.user_dedup.specs.Spending.{Spent, nothing, limits_of}
-use Rattle.cloud_areas.specs.Placing.{end_of}
+use Rattle.cloud_memory.specs.CloudAreas.Placing.{end_of}
 use Rattle.cloud_memory.specs.declared.cloud.CloudMemory.{CloudMemory}
 use Rattle.cloud_memory.specs.Memory.{Memory}
 use Rattle.cloud_memory.specs.Records.{HasPlaceRoom, HasItemRoom}

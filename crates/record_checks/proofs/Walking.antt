@@ -6,7 +6,7 @@ use Rattle.record_body.specs.declared.body.FoundItem.{FoundItem}
 use Rattle.record_body.specs.declared.body.PutItem.{PutItem}
 use Rattle.record_body.specs.InPlace.{Walk, StepsOver}
 use Rattle.cd_base.specs.declared.place.Place.{Place}
-use Rattle.cloud_areas.specs.Placing.{end_of}
+use Rattle.cloud_memory.specs.CloudAreas.Placing.{end_of}
 use Rattle.cloud_memory.specs.Memory.{Memory}
 use Rattle.cloud_memory.specs.Steps.{with_item, with_items, end_with}
 use Rattle.record_checks.specs.declared.damage.Damage.{Damage}

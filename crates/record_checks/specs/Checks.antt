@@ -28,7 +28,7 @@ use Rattle.spent_table.specs.Spending.{spent_by}
 use Rattle.user_dedup.specs.Cloud.{fingerprint}
 use Rattle.user_dedup.specs.Requests.{fps_of}
 use Rattle.user_dedup.specs.Spending.{limits_of, files_limit}
-use Rattle.cloud_areas.specs.Placing.{region_start, end_of}
+use Rattle.cloud_memory.specs.CloudAreas.Placing.{region_start, end_of}
 use Rattle.cloud_memory.specs.Memory.{Memory}
 use Rattle.cloud_memory.specs.Sharing.{AreOwned}
 use Rattle.cloud_memory.specs.Steps.{with_item, with_kept, spends, spent_on}

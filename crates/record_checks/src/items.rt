@@ -4,14 +4,14 @@ ghost use Rattle.std.specs.Prelude.{◌≡◌, ◌↔◌, ◌+◌, ◌<◌, ◌�
 ghost use Rattle.std.specs.Prelude.{IfErr, OnOk, MatchOption, MatchResult};
 ghost use Rattle.std.specs.FinMap.{get};
 ghost use Rattle.cd_base.specs.declared.ids.UserId.{UserId as Number};
-ghost use Rattle.cloud_areas.specs.Placing.{end_of};
+ghost use Rattle.cloud_memory.specs.CloudAreas.Placing.{end_of};
 ghost use Rattle.cloud_memory.specs.Memory.{Memory};
 ghost use Rattle.cloud_memory.specs.Rooms.{memory_of, HasRooms};
 ghost use Rattle.cloud_memory.specs.Steps.{with_items, end_with};
 ghost use Rattle.record_checks.specs.Checks.{IsOwn, Lies, IsRightItem, ItemFault, AreRight, ItemsFault, ShareLies};
 ghost use Rattle.record_checks.specs.Noting.{EndsGrow, put_field};
 ghost use Rattle.record_checks.specs.Steps.{Facts, names_fp, HasRoomFor};
-ghost use Rattle.cloud_areas.specs.Placing.{region_start};
+ghost use Rattle.cloud_memory.specs.CloudAreas.Placing.{region_start};
 
 use crate::noting::note;
 use crate::places::{first_of, lies};

@@ -3,7 +3,7 @@
 ghost use Rattle.std.specs.Prelude.{◌≡◌, ◌↔◌, ◌+◌, ◌*◌, ◌<◌, ◌≤◌, ◌^◌, ℕ, Bool, List, length, take, max, IsTrue};
 ghost use Rattle.std.specs.Prelude.{IsSome, IfNone, IfErr, OnOk, MatchOption, MatchResult};
 ghost use Rattle.std.specs.FinMap.{get};
-ghost use Rattle.cloud_areas.specs.Placing.{end_of};
+ghost use Rattle.cloud_memory.specs.CloudAreas.Placing.{end_of};
 ghost use Rattle.record_bodies.specs.Spelling.{Kept};
 ghost use Rattle.cloud_memory.specs.Memory.{Memory};
 ghost use Rattle.cloud_memory.specs.Rooms.{memory_of, HasRooms};

@@ -16,6 +16,7 @@ mod puts;
 mod record;
 mod taking;
 
+pub use cloud_memory::CloudMemory;
 pub use commits::{commit_fault, named, whole};
 pub use damage::Damage;
 pub use ground::Ground;

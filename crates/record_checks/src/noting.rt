@@ -1,7 +1,7 @@
 //! Damage in a body, and where the places of the farthest blobs stand.
 
 ghost use Rattle.std.specs.Prelude.{◌≡◌, ◌+◌, ◌-◌, ◌<◌, ◌≤◌, ◌^◌, length, nat_lt, IfSome};
-ghost use Rattle.cloud_areas.specs.Placing.{end_of};
+ghost use Rattle.cloud_memory.specs.CloudAreas.Placing.{end_of};
 ghost use Rattle.record_body.specs.Reading.{IsPlaced};
 ghost use Rattle.record_checks.specs.Checks.{damaged_at, body_fault};
 ghost use Rattle.record_checks.specs.Noting.{farther_field};

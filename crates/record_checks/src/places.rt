@@ -2,7 +2,7 @@
 
 ghost use Rattle.std.specs.Prelude.{◌≡◌, ◌↔◌, ◌≤◌, ◌+◌, ◌^◌, ◌<◌, max, IsTrue, IfSome};
 ghost use Rattle.container_log.specs.Places.{LiesInOne};
-ghost use Rattle.cloud_areas.specs.Placing.{region_start, end_of};
+ghost use Rattle.cloud_memory.specs.CloudAreas.Placing.{region_start, end_of};
 ghost use Rattle.record_checks.specs.Checks.{Lies, RecipeLies};
 ghost use Rattle.cloud_memory.specs.Rooms.{memory_of};
 

@@ -40,16 +40,16 @@ use Rattle.user_dedup.specs.Cloud.{user_view, strings_in}
 use Rattle.user_dedup.specs.Spending.{Spent, spent_of, IsWithin}
 use Rattle.user_dedup.proofs.Spending.{front_within, each_within}
 use Rattle.user_dedup.proofs.Views.{own_adds}
-use Rattle.cloud_areas.specs.Chains.{commit_of, PlacedNew, AreItems, IsRecord, LiesIn}
-use Rattle.cloud_areas.specs.Placing.{places_given, places_of, end_of, region_start, AreBehind, shares_end, recipes_end}
-use Rattle.cloud_areas.proofs.Apart.{Apart, apart_from}
-use Rattle.cloud_areas.proofs.Lists.{from_map}
-use Rattle.cloud_memory.specs.Memory.{Memory, Remembers, as_spent, summary, summary_of, uses_of}
-use Rattle.cloud_memory.specs.Sharing.{AreOwned}
-use Rattle.cloud_memory.specs.Steps.{with_item, with_items, with_put, with_entry, with_commit, spent_on, places_with, end_with}
-use Rattle.cloud_memory.proofs.Keys.{owner_in}
-use Rattle.cloud_memory.proofs.Lists.{are_placed, row_here, string_len}
-use Rattle.cloud_memory.proofs.Puts.{ArePlaced, len_at, spent_stays}
+use Rattle.record_checks.specs.CloudAreas.Chains.{commit_of, PlacedNew, AreItems, IsRecord, LiesIn}
+use Rattle.record_checks.specs.CloudAreas.Placing.{places_given, places_of, end_of, region_start, AreBehind, shares_end, recipes_end}
+use Rattle.record_checks.proofs.CloudAreas.Apart.{Apart, apart_from}
+use Rattle.record_checks.proofs.CloudAreas.Lists.{from_map}
+use Rattle.record_checks.specs.CloudMemory.Memory.{Memory, Remembers, as_spent, summary, summary_of, uses_of}
+use Rattle.record_checks.specs.CloudMemory.Sharing.{AreOwned}
+use Rattle.record_checks.specs.CloudMemory.Steps.{with_item, with_items, with_put, with_entry, with_commit, spent_on, places_with, end_with}
+use Rattle.record_checks.proofs.MemoryProofs.Keys.{owner_in}
+use Rattle.record_checks.proofs.MemoryProofs.Lists.{are_placed, row_here, string_len}
+use Rattle.record_checks.proofs.MemoryProofs.Puts.{ArePlaced, len_at, spent_stays}
 use Rattle.record_checks.specs.declared.ground.Ground.{Ground}
 use Rattle.record_checks.specs.Checks.{Asks, ByCommit, ByDelete, Lies, ShareLies, IsFlagged, AreRight, RecipeLies, IsNamed, IsWhole, PutFits, CommitFits}
 use Rattle.record_checks.specs.Judging.{JudgesBody, PutTaken, CommitTaken, Deleted}

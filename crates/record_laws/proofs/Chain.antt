@@ -21,14 +21,14 @@ use Rattle.user_dedup.specs.Cloud.{held_bytes}
 use Rattle.user_dedup.specs.Spending.{IsWithin}
 use Rattle.user_dedup.proofs.Sound.{sound_before}
 use Rattle.user_dedup.proofs.Spending.{front_within}
-use Rattle.cloud_areas.specs.Chains.{Says, Summed, Then, AreLong, BothHaveRoom}
-use Rattle.cloud_areas.specs.Placing.{shares_placed, shares_in}
-use Rattle.cloud_areas.specs.Standing.{Chain, region_in, Holds}
-use Rattle.cloud_areas.proofs.Entries.{share_lies}
-use Rattle.cloud_areas.proofs.Lists.{contained}
-use Rattle.cloud_areas.proofs.Placed.{shares_more, placed_is_sent, held_stays}
-use Rattle.cloud_memory.specs.Memory.{Memory, HasEnds, Stand}
-use Rattle.cloud_memory.specs.Steps.{begun}
+use Rattle.record_checks.specs.CloudAreas.Chains.{Says, Summed, Then, AreLong, BothHaveRoom}
+use Rattle.record_checks.specs.CloudAreas.Placing.{shares_placed, shares_in}
+use Rattle.record_checks.specs.CloudAreas.Standing.{Chain, region_in, Holds}
+use Rattle.record_checks.proofs.CloudAreas.Entries.{share_lies}
+use Rattle.record_checks.proofs.CloudAreas.Lists.{contained}
+use Rattle.record_checks.proofs.CloudAreas.Placed.{shares_more, placed_is_sent, held_stays}
+use Rattle.record_checks.specs.CloudMemory.Memory.{Memory, HasEnds, Stand}
+use Rattle.record_checks.specs.CloudMemory.Steps.{begun}
 use Rattle.record_laws.specs.Leaving.{record_left, left_by, chain_left, IsLeft, EndsWithinRows}
 use Rattle.record_laws.proofs.Checkpoint.{checkpoint_left}
 use Rattle.record_laws.proofs.Known.{few_files, known_spent, known_user}

@@ -35,21 +35,21 @@ use Rattle.user_dedup.specs.Cloud.{user_view, named_by, named_in}
 use Rattle.user_dedup.specs.Spending.{Spent, nothing, spent_of, files_of}
 use Rattle.user_dedup.proofs.Filtered.{in_filter}
 use Rattle.user_dedup.proofs.Sound.{keys_apart}
-use Rattle.cloud_areas.specs.Chains.{AreLong}
-use Rattle.cloud_areas.specs.Checkpoints.{put_body, of_user, fps_of, items_in, key_of, HasEntry, SpentIs, ListSpent, IsCheckpoint}
-use Rattle.cloud_areas.specs.Placing.{shares_in}
-use Rattle.cloud_areas.proofs.Apart.{apart_from}
-use Rattle.cloud_areas.proofs.Entries.{entry_of}
-use Rattle.cloud_areas.proofs.Lists.{in_map, from_map}
-use Rattle.cloud_areas.proofs.Once.{checkpoint_once, checkpoint_all}
-use Rattle.cloud_areas.proofs.Placed.{checkpoint_is_sent}
-use Rattle.cloud_memory.specs.Memory.{Memory, as_spent, times, uses_of, summary, summary_of}
-use Rattle.cloud_memory.specs.Steps.{begun}
-use Rattle.cloud_memory.proofs.Beginning.{none_remembered, none_placed}
-use Rattle.cloud_memory.proofs.Few.{all_named, times_few}
-use Rattle.cloud_memory.proofs.Keys.{both_ways}
-use Rattle.cloud_memory.proofs.Naming.{committed_as_viewed}
-use Rattle.cloud_memory.proofs.PutLaw.{unnamed, named_user}
+use Rattle.record_checks.specs.CloudAreas.Chains.{AreLong}
+use Rattle.record_checks.specs.CloudAreas.Checkpoints.{put_body, of_user, fps_of, items_in, key_of, HasEntry, SpentIs, ListSpent, IsCheckpoint}
+use Rattle.record_checks.specs.CloudAreas.Placing.{shares_in}
+use Rattle.record_checks.proofs.CloudAreas.Apart.{apart_from}
+use Rattle.record_checks.proofs.CloudAreas.Entries.{entry_of}
+use Rattle.record_checks.proofs.CloudAreas.Lists.{in_map, from_map}
+use Rattle.record_checks.proofs.CloudAreas.Once.{checkpoint_once, checkpoint_all}
+use Rattle.record_checks.proofs.CloudAreas.Placed.{checkpoint_is_sent}
+use Rattle.record_checks.specs.CloudMemory.Memory.{Memory, as_spent, times, uses_of, summary, summary_of}
+use Rattle.record_checks.specs.CloudMemory.Steps.{begun}
+use Rattle.record_checks.proofs.MemoryProofs.Beginning.{none_remembered, none_placed}
+use Rattle.record_checks.proofs.MemoryProofs.Few.{all_named, times_few}
+use Rattle.record_checks.proofs.MemoryProofs.Keys.{both_ways}
+use Rattle.record_checks.proofs.MemoryProofs.Naming.{committed_as_viewed}
+use Rattle.record_checks.proofs.MemoryProofs.PutLaw.{unnamed, named_user}
 use Rattle.record_laws.specs.Leaving.{record_left, left_by, bytes_at, IsLeft, RecipesLie}
 use Rattle.record_laws.proofs.Counts.{same_sum, sums_match, times_flat, files_apart, entry_found, is_by, commits_by, version_of, from_user, versions_apart}
 use Rattle.record_laws.proofs.Places.{all_placed, shares_end_all, recipes_end_all, Finds, places_remembered}

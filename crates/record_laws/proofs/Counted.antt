@@ -32,9 +32,9 @@ use Rattle.user_dedup.specs.declared.command.Command.{Command}
 use Rattle.user_dedup.specs.Cloud.{commands_of, strings_in, user_view}
 use Rattle.user_dedup.specs.Spending.{limits_of, files_limit, IsWithin}
 use Rattle.user_dedup.proofs.Spending.{each_within}
-use Rattle.cloud_areas.proofs.Lists.{in_map}
-use Rattle.cloud_memory.proofs.FullRooms.{own_few, strings_within}
-use Rattle.cloud_memory.proofs.KeyCounts.{few_keys, all_keys}
+use Rattle.record_checks.proofs.CloudAreas.Lists.{in_map}
+use Rattle.record_checks.proofs.MemoryProofs.FullRooms.{own_few, strings_within}
+use Rattle.record_checks.proofs.MemoryProofs.KeyCounts.{few_keys, all_keys}
 
 -- the key of a user's entry, by tag and version
 abbrev key_by : UserId → Tag × Version → FileKey

@@ -14,12 +14,12 @@ use Rattle.user_dedup.specs.Pages.{entry_at}
 use Rattle.user_dedup.proofs.Owned.{contains_here, contains_later}
 use Rattle.user_dedup.proofs.Sound.{found_entry, no_entry}
 use Rattle.user_dedup.proofs.Filtered.{from_filter}
-use Rattle.cloud_areas.specs.Checkpoints.{key_of}
-use Rattle.cloud_areas.proofs.Apart.{Apart, contains_get, one_by}
-use Rattle.cloud_areas.proofs.Counting.{split_at, beside}
-use Rattle.cloud_areas.proofs.Lists.{in_map, from_map}
-use Rattle.cloud_memory.specs.Memory.{times}
-use Rattle.cloud_memory.proofs.Naming.{times-append}
+use Rattle.record_checks.specs.CloudAreas.Checkpoints.{key_of}
+use Rattle.record_checks.proofs.CloudAreas.Apart.{Apart, contains_get, one_by}
+use Rattle.record_checks.proofs.CloudAreas.Counting.{split_at, beside}
+use Rattle.record_checks.proofs.CloudAreas.Lists.{in_map, from_map}
+use Rattle.record_checks.specs.CloudMemory.Memory.{times}
+use Rattle.record_checks.proofs.MemoryProofs.Naming.{times-append}
 
 -- ---- sums
 

@@ -11,10 +11,10 @@ use Rattle.user_dedup.specs.Dedup.{IsSound}
 use Rattle.user_dedup.specs.Spending.{IsWithin}
 use Rattle.user_dedup.proofs.Sound.{last_same, sound_before}
 use Rattle.user_dedup.proofs.Spending.{front_within}
-use Rattle.cloud_areas.specs.Chains.{IsRecord, Says, Summed, Then, AreLong}
-use Rattle.cloud_areas.specs.Checkpoints.{IsCheckpoint}
-use Rattle.cloud_areas.specs.Placing.{shares_in}
-use Rattle.cloud_areas.proofs.Lists.{contained}
+use Rattle.record_checks.specs.CloudAreas.Chains.{IsRecord, Says, Summed, Then, AreLong}
+use Rattle.record_checks.specs.CloudAreas.Checkpoints.{IsCheckpoint}
+use Rattle.record_checks.specs.CloudAreas.Placing.{shares_in}
+use Rattle.record_checks.proofs.CloudAreas.Lists.{contained}
 use Rattle.record_laws.proofs.Chain.{long_before, checkpoint_within}
 
 -- ---- lists from their ends

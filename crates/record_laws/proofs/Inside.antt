@@ -42,19 +42,19 @@ use Rattle.user_dedup.specs.Cloud.{user_view, strings_in}
 use Rattle.user_dedup.specs.Spending.{Spent, nothing, spent_of}
 use Rattle.user_dedup.proofs.Sound.{entries_owned}
 use Rattle.user_dedup.proofs.Spending.{each_within}
-use Rattle.cloud_areas.specs.Checkpoints.{PutRecord, put_body, of_user, fps_of, items_in, key_of, AreFlagged, IsCheckpoint}
-use Rattle.cloud_areas.specs.Placing.{shares_placed, shares_in, fps_placed}
-use Rattle.cloud_areas.proofs.Apart.{Apart, apart_from}
-use Rattle.cloud_areas.proofs.Entries.{entry_of}
-use Rattle.cloud_areas.proofs.Lists.{in_map, contained}
-use Rattle.cloud_areas.proofs.Once.{checkpoint_once}
-use Rattle.cloud_areas.proofs.Placed.{shares_more, checkpoint_is_sent}
-use Rattle.cloud_memory.specs.Memory.{Memory, IsPlacedBy, times}
-use Rattle.cloud_memory.specs.Sharing.{AreOwned}
-use Rattle.cloud_memory.specs.Steps.{begun, with_items, with_kepts, with_entry, raised}
-use Rattle.cloud_memory.proofs.Beginning.{none_placed}
-use Rattle.cloud_memory.proofs.Keys.{entry_in}
-use Rattle.cloud_memory.proofs.Naming.{one_more, repeated}
+use Rattle.record_checks.specs.CloudAreas.Checkpoints.{PutRecord, put_body, of_user, fps_of, items_in, key_of, AreFlagged, IsCheckpoint}
+use Rattle.record_checks.specs.CloudAreas.Placing.{shares_placed, shares_in, fps_placed}
+use Rattle.record_checks.proofs.CloudAreas.Apart.{Apart, apart_from}
+use Rattle.record_checks.proofs.CloudAreas.Entries.{entry_of}
+use Rattle.record_checks.proofs.CloudAreas.Lists.{in_map, contained}
+use Rattle.record_checks.proofs.CloudAreas.Once.{checkpoint_once}
+use Rattle.record_checks.proofs.CloudAreas.Placed.{shares_more, checkpoint_is_sent}
+use Rattle.record_checks.specs.CloudMemory.Memory.{Memory, IsPlacedBy, times}
+use Rattle.record_checks.specs.CloudMemory.Sharing.{AreOwned}
+use Rattle.record_checks.specs.CloudMemory.Steps.{begun, with_items, with_kepts, with_entry, raised}
+use Rattle.record_checks.proofs.MemoryProofs.Beginning.{none_placed}
+use Rattle.record_checks.proofs.MemoryProofs.Keys.{entry_in}
+use Rattle.record_checks.proofs.MemoryProofs.Naming.{one_more, repeated}
 use Rattle.record_checks.specs.declared.ground.Ground.{Ground}
 use Rattle.record_checks.specs.Checks.{ByCommit, RecipeLies, IsNamed, IsWhole, CommitFits}
 use Rattle.record_checks.specs.Judging.{JudgesBody, PutTaken, CommitTaken, KeptTaken, SpentTaken}

@@ -15,12 +15,12 @@ use Rattle.cd_base.specs.declared.place.Place.{Place}
 use Rattle.share_index.specs.Order.{owner_of}
 use Rattle.user_dedup.specs.Owning.{is_among}
 use Rattle.user_dedup.proofs.Owned.{fp_same, contains_here, contains_later, among_contains}
-use Rattle.cloud_areas.specs.Checkpoints.{PutRecord, put_body, fps_of, items_in, AreFlagged}
-use Rattle.cloud_areas.specs.Placing.{places_given, places_kept, places_of, fps_placed}
-use Rattle.cloud_areas.proofs.Apart.{Apart}
-use Rattle.cloud_memory.specs.Memory.{Memory}
-use Rattle.cloud_memory.specs.Steps.{with_item, with_items, with_kept, places_with}
-use Rattle.cloud_memory.proofs.Keys.{owner_in, place_in}
+use Rattle.record_checks.specs.CloudAreas.Checkpoints.{PutRecord, put_body, fps_of, items_in, AreFlagged}
+use Rattle.record_checks.specs.CloudAreas.Placing.{places_given, places_kept, places_of, fps_placed}
+use Rattle.record_checks.proofs.CloudAreas.Apart.{Apart}
+use Rattle.record_checks.specs.CloudMemory.Memory.{Memory}
+use Rattle.record_checks.specs.CloudMemory.Steps.{with_item, with_items, with_kept, places_with}
+use Rattle.record_checks.proofs.MemoryProofs.Keys.{owner_in, place_in}
 use Rattle.record_checks.specs.declared.ground.Ground.{Ground}
 use Rattle.record_checks.specs.Checks.{ShareLies, AreRight, AreRightKepts}
 use Rattle.record_laws.proofs.Places.{Gives, one_gives, no_place, apart_behind}

@@ -18,8 +18,8 @@ use Rattle.user_dedup.specs.Cloud.{user_of, user_view}
 use Rattle.user_dedup.specs.Spending.{Spent, nothing, spent_of, files_of, IsWithin}
 use Rattle.user_dedup.proofs.Spending.{front_within}
 use Rattle.user_dedup.proofs.Views.{own_adds}
-use Rattle.cloud_areas.proofs.Room.{files_above, files_below, spent_above}
-use Rattle.cloud_memory.proofs.Lists.{and_more, spent_next}
+use Rattle.record_checks.proofs.CloudAreas.Room.{files_above, files_below, spent_above}
+use Rattle.record_checks.proofs.MemoryProofs.Lists.{and_more, spent_next}
 use Rattle.record_laws.proofs.Asked.{lawful}
 
 module _ (shape : Shape) (rooms : Rooms) (list : List Command) (within : IsWithin shape rooms list) where

@@ -40,23 +40,23 @@ use Rattle.user_dedup.specs.Cloud.{user_of, user_view, strings_in}
 use Rattle.user_dedup.specs.Spending.{files_of}
 use Rattle.user_dedup.proofs.Deleting.{at_its_key, entry_stays}
 use Rattle.user_dedup.proofs.Views.{own_adds, others_stay}
-use Rattle.cloud_areas.specs.Chains.{commit_of, PlacedNew, AreItems, IsRecord}
-use Rattle.cloud_areas.specs.Checkpoints.{fps_of}
-use Rattle.cloud_areas.specs.Placing.{places_given, shares_in}
-use Rattle.cloud_areas.proofs.Lists.{contained, from_map}
-use Rattle.cloud_areas.proofs.Placed.{shares_more}
-use Rattle.cloud_memory.specs.declared.rooms.New.{New}
-use Rattle.cloud_memory.specs.Memory.{Memory, Remembers, as_spent, uses_of, summary, summary_of}
-use Rattle.cloud_memory.specs.News.{AreOf, AreNewTo}
-use Rattle.cloud_memory.specs.Sharing.{AreOwned}
-use Rattle.cloud_memory.specs.Steps.{with_item, with_items, part_in, parts_of, placed_len, spent_on, with_put, with_commit, without_entry, places_with}
-use Rattle.cloud_memory.proofs.CommitLaw.{commit_remembered}
-use Rattle.cloud_memory.proofs.DeleteLaw.{delete_remembered}
-use Rattle.cloud_memory.proofs.Keys.{place_in, entry_in, entry_out}
-use Rattle.cloud_memory.proofs.Lists.{strings_more, is_placed, placed_len_is, are_placed, among_found, string_len}
-use Rattle.cloud_memory.proofs.PutLaw.{placed_after, put_remembered, named_user}
-use Rattle.cloud_memory.proofs.PlacingLaw.{commit_placed, delete_placed}
-use Rattle.cloud_memory.proofs.Puts.{ArePlaced, len_at, files_stay, spent_stays}
+use Rattle.record_checks.specs.CloudAreas.Chains.{commit_of, PlacedNew, AreItems, IsRecord}
+use Rattle.record_checks.specs.CloudAreas.Checkpoints.{fps_of}
+use Rattle.record_checks.specs.CloudAreas.Placing.{places_given, shares_in}
+use Rattle.record_checks.proofs.CloudAreas.Lists.{contained, from_map}
+use Rattle.record_checks.proofs.CloudAreas.Placed.{shares_more}
+use Rattle.record_checks.specs.CloudMemory.rooms.New.{New}
+use Rattle.record_checks.specs.CloudMemory.Memory.{Memory, Remembers, as_spent, uses_of, summary, summary_of}
+use Rattle.record_checks.specs.CloudMemory.News.{AreOf, AreNewTo}
+use Rattle.record_checks.specs.CloudMemory.Sharing.{AreOwned}
+use Rattle.record_checks.specs.CloudMemory.Steps.{with_item, with_items, part_in, parts_of, placed_len, spent_on, with_put, with_commit, without_entry, places_with}
+use Rattle.record_checks.proofs.MemoryProofs.CommitLaw.{commit_remembered}
+use Rattle.record_checks.proofs.MemoryProofs.DeleteLaw.{delete_remembered}
+use Rattle.record_checks.proofs.MemoryProofs.Keys.{place_in, entry_in, entry_out}
+use Rattle.record_checks.proofs.MemoryProofs.Lists.{strings_more, is_placed, placed_len_is, are_placed, among_found, string_len}
+use Rattle.record_checks.proofs.MemoryProofs.PutLaw.{placed_after, put_remembered, named_user}
+use Rattle.record_checks.proofs.MemoryProofs.PlacingLaw.{commit_placed, delete_placed}
+use Rattle.record_checks.proofs.MemoryProofs.Puts.{ArePlaced, len_at, files_stay, spent_stays}
 use Rattle.record_laws.specs.Leaving.{bytes_at, entry_bytes, record_left, IsLeft, RecipesLie}
 use Rattle.record_laws.proofs.Asked.{lawful}
 use Rattle.record_laws.proofs.Counts.{sums_match}

@@ -22,17 +22,17 @@ use Rattle.cd_base.specs.Order.{fp_cmp}
 use Rattle.user_dedup.proofs.Owned.{fp_same, contains_here, contains_nothing, contains_cases}
 use Rattle.user_dedup.specs.declared.command.Command.{Command}
 use Rattle.user_dedup.specs.Cloud.{held_bytes}
-use Rattle.cloud_areas.specs.Placing.{places_given, places_kept, shares_placed, recipes_placed, shares_in, recipes_in, fps_placed, places_of, end_of, greatest_end, region_start, shares_end, recipes_end, HasPlace}
-use Rattle.cloud_areas.specs.Chains.{AreLong}
-use Rattle.cloud_areas.proofs.Apart.{Apart}
-use Rattle.cloud_areas.proofs.Behind.{recipes_more}
-use Rattle.cloud_areas.proofs.Lists.{in_map}
-use Rattle.cloud_areas.proofs.Placed.{shares_more, fps_sent, AreSent}
-use Rattle.cloud_memory.specs.Memory.{Memory, IsPlacedBy, commit_of}
-use Rattle.cloud_memory.specs.Steps.{with_item, with_items, with_put, with_kept, with_kepts}
-use Rattle.cloud_memory.proofs.Keys.{place_in}
-use Rattle.cloud_memory.proofs.PlacingLaw.{commit_placed, delete_placed}
-use Rattle.cloud_memory.proofs.Puts.{files_stay, recipes_end_stays}
+use Rattle.record_checks.specs.CloudAreas.Placing.{places_given, places_kept, shares_placed, recipes_placed, shares_in, recipes_in, fps_placed, places_of, end_of, greatest_end, region_start, shares_end, recipes_end, HasPlace}
+use Rattle.record_checks.specs.CloudAreas.Chains.{AreLong}
+use Rattle.record_checks.proofs.CloudAreas.Apart.{Apart}
+use Rattle.record_checks.proofs.CloudAreas.Behind.{recipes_more}
+use Rattle.record_checks.proofs.CloudAreas.Lists.{in_map}
+use Rattle.record_checks.proofs.CloudAreas.Placed.{shares_more, fps_sent, AreSent}
+use Rattle.record_checks.specs.CloudMemory.Memory.{Memory, IsPlacedBy, commit_of}
+use Rattle.record_checks.specs.CloudMemory.Steps.{with_item, with_items, with_put, with_kept, with_kepts}
+use Rattle.record_checks.proofs.MemoryProofs.Keys.{place_in}
+use Rattle.record_checks.proofs.MemoryProofs.PlacingLaw.{commit_placed, delete_placed}
+use Rattle.record_checks.proofs.MemoryProofs.Puts.{files_stay, recipes_end_stays}
 use Rattle.record_laws.specs.Leaving.{taken, recipe_for, record_left, left_by}
 
 -- ---- places one after another

@@ -32,14 +32,14 @@ use Rattle.user_dedup.proofs.Owned.{contains_here, contains_later, contains_noth
 use Rattle.user_dedup.specs.declared.command.Command.{Command}
 use Rattle.user_dedup.specs.Cloud.{user_view}
 use Rattle.user_dedup.specs.Spending.{spent_of}
-use Rattle.cloud_areas.specs.Checkpoints.{PutRecord, put_body, of_user, fps_of, items_in, IsEntry, AreEntries}
-use Rattle.cloud_memory.specs.Memory.{Memory, times, as_spent}
-use Rattle.cloud_memory.specs.Steps.{with_item, with_items, with_kepts, with_entry, with_spent}
-use Rattle.cloud_memory.proofs.Keys.{owner_in, entry_in}
-use Rattle.cloud_memory.proofs.Lists.{row_here, row_there}
-use Rattle.cloud_memory.proofs.Naming.{times-append, one_more, repeated, all_raised}
-use Rattle.cloud_memory.proofs.Puts.{files_stay, spent_stays}
-use Rattle.cloud_memory.proofs.PutLaw.{named_user}
+use Rattle.record_checks.specs.CloudAreas.Checkpoints.{PutRecord, put_body, of_user, fps_of, items_in, IsEntry, AreEntries}
+use Rattle.record_checks.specs.CloudMemory.Memory.{Memory, times, as_spent}
+use Rattle.record_checks.specs.CloudMemory.Steps.{with_item, with_items, with_kepts, with_entry, with_spent}
+use Rattle.record_checks.proofs.MemoryProofs.Keys.{owner_in, entry_in}
+use Rattle.record_checks.proofs.MemoryProofs.Lists.{row_here, row_there}
+use Rattle.record_checks.proofs.MemoryProofs.Naming.{times-append, one_more, repeated, all_raised}
+use Rattle.record_checks.proofs.MemoryProofs.Puts.{files_stay, spent_stays}
+use Rattle.record_checks.proofs.MemoryProofs.PutLaw.{named_user}
 use Rattle.record_laws.specs.Leaving.{row_of, bytes_at, left_by}
 use Rattle.record_laws.proofs.Counts.{commits_by}
 use Rattle.record_laws.proofs.Places.{kepts_files, kepts_owners, kepts_spent}

@@ -24,9 +24,9 @@ use Rattle.user_dedup.specs.Cloud.{strings_of, strings_in, held_bytes, user_view
 use Rattle.user_dedup.proofs.CompactSound.{FitsCommand, all_fit, files_fit}
 use Rattle.user_dedup.proofs.Filtered.{from_flat}
 use Rattle.user_dedup.proofs.Views.{held_is, sent_is_held}
-use Rattle.cloud_areas.specs.Chains.{LiesIn}
-use Rattle.cloud_areas.specs.Placing.{shares_placed, recipes_placed, places_of, region_start, end_of}
-use Rattle.cloud_areas.proofs.Lists.{from_map}
+use Rattle.record_checks.specs.CloudAreas.Chains.{LiesIn}
+use Rattle.record_checks.specs.CloudAreas.Placing.{shares_placed, recipes_placed, places_of, region_start, end_of}
+use Rattle.record_checks.proofs.CloudAreas.Lists.{from_map}
 
 -- ---- strings
 

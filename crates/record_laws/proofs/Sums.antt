@@ -14,9 +14,9 @@ use Rattle.user_dedup.specs.declared.command.Command.{Command}
 use Rattle.user_dedup.specs.Cloud.{user_of, commands_of}
 use Rattle.user_dedup.specs.Spending.{Spent, spent_of, spent_by_all, IsWithin}
 use Rattle.user_dedup.proofs.Filtered.{in_filter}
-use Rattle.cloud_areas.proofs.Counting.{without_less, own_without, no_weight, all_nothing}
-use Rattle.cloud_areas.proofs.Room.{spent_above, shares_by, shares_sum, recipes_by, recipes_total}
-use Rattle.cloud_memory.specs.Memory.{Memory, Remembers}
+use Rattle.record_checks.proofs.CloudAreas.Counting.{without_less, own_without, no_weight, all_nothing}
+use Rattle.record_checks.proofs.CloudAreas.Room.{spent_above, shares_by, shares_sum, recipes_by, recipes_total}
+use Rattle.record_checks.specs.CloudMemory.Memory.{Memory, Remembers}
 
 -- the sum of these numbers
 abbrev sum_to : (ℕ → ℕ) → ℕ → ℕ

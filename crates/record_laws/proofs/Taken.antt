@@ -24,13 +24,13 @@ use Rattle.user_dedup.specs.Cloud.{held_bytes}
 use Rattle.user_dedup.proofs.Filtered.{in_flat}
 use Rattle.user_dedup.proofs.Sound.{sound_before}
 use Rattle.user_dedup.proofs.Spending.{front_within}
-use Rattle.cloud_areas.specs.Chains.{IsRecord, laid_shares, LiesIn}
-use Rattle.cloud_areas.specs.Placing.{shares_placed, shares_in, recipes_placed, recipes_in, places_of}
-use Rattle.cloud_areas.specs.Standing.{Chain, region_in, Holds}
-use Rattle.cloud_areas.proofs.Lists.{contained, in_map, from_map}
-use Rattle.cloud_areas.proofs.Placed.{placed_is_sent}
-use Rattle.cloud_memory.specs.Memory.{Memory}
-use Rattle.cloud_memory.specs.Steps.{begun}
+use Rattle.record_checks.specs.CloudAreas.Chains.{IsRecord, laid_shares, LiesIn}
+use Rattle.record_checks.specs.CloudAreas.Placing.{shares_placed, shares_in, recipes_placed, recipes_in, places_of}
+use Rattle.record_checks.specs.CloudAreas.Standing.{Chain, region_in, Holds}
+use Rattle.record_checks.proofs.CloudAreas.Lists.{contained, in_map, from_map}
+use Rattle.record_checks.proofs.CloudAreas.Placed.{placed_is_sent}
+use Rattle.record_checks.specs.CloudMemory.Memory.{Memory}
+use Rattle.record_checks.specs.CloudMemory.Steps.{begun}
 use Rattle.record_checks.specs.Checks.{IsOfCheckpoint, Asks, AsksFor, ByCommit, ByDelete}
 use Rattle.record_checks.specs.declared.ground.Ground.{Ground}
 use Rattle.record_checks.specs.declared.taking.Taking.{Taking as Noted}

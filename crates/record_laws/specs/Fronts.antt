@@ -6,7 +6,7 @@ use Rattle.journal_start.specs.declared.start.Header.{Header}
 use Rattle.record_bodies.specs.Spelling as bodies
 use Rattle.record_bodies.specs.Spelling.{Body, body_bytes}
 use Rattle.user_dedup.specs.declared.command.Command.{Command}
-use Rattle.cloud_areas.specs.Standing.{Chain, region_in, Holds}
+use Rattle.record_checks.specs.CloudAreas.Standing.{Chain, region_in, Holds}
 use Rattle.cd_base.specs.declared.place.Place.{Place}
 use Rattle.record_checks.specs.Checks.{AsksFor}
 use Rattle.record_checks.specs.Judging.{Judges}

@@ -25,11 +25,11 @@ use Rattle.user_dedup.specs.declared.command.Command.{Command}
 use Rattle.user_dedup.specs.Dedup.{IsSound}
 use Rattle.user_dedup.specs.Cloud.{user_view}
 use Rattle.user_dedup.specs.Spending.{IsWithin}
-use Rattle.cloud_areas.specs.Chains.{least_shares, least_recipes}
-use Rattle.cloud_areas.specs.Placing.{region_start, shares_end, recipes_end}
-use Rattle.cloud_areas.specs.Standing.{Chain, region_in}
-use Rattle.cloud_memory.specs.Memory.{Memory, Remembers, IsPlacedBy}
-use Rattle.cloud_memory.specs.Steps.{begun, with_items, with_put, with_entry, with_commit, without_entry, with_kepts, with_spent}
+use Rattle.record_checks.specs.CloudAreas.Chains.{least_shares, least_recipes}
+use Rattle.record_checks.specs.CloudAreas.Placing.{region_start, shares_end, recipes_end}
+use Rattle.record_checks.specs.CloudAreas.Standing.{Chain, region_in}
+use Rattle.record_checks.specs.CloudMemory.Memory.{Memory, Remembers, IsPlacedBy}
+use Rattle.record_checks.specs.CloudMemory.Steps.{begun, with_items, with_put, with_entry, with_commit, without_entry, with_kepts, with_spent}
 
 -- ---- one record
 

@@ -7,12 +7,12 @@ ghost use Rattle.container_log.specs.Laying.{Placed, IsAt};
 ghost use Rattle.journal_start.specs.declared.start.Header.{Header};
 ghost use Rattle.record_bodies.specs.Spelling.{Body};
 ghost use Rattle.user_dedup.specs.declared.command.Command.{Command};
-ghost use Rattle.cloud_areas.specs.Chains.{IsRecord, AreLong, BothHaveRoom};
-ghost use Rattle.cloud_areas.specs.Checkpoints.{IsCheckpoint};
-ghost use Rattle.cloud_areas.specs.Placing.{shares_in};
-ghost use Rattle.cloud_areas.specs.Standing.{Chain, region_in, Holds};
-ghost use Rattle.cloud_memory.specs.Memory.{Memory, HasEnds, Stand};
-ghost use Rattle.cloud_memory.specs.Steps.{begun};
+ghost use Rattle.record_checks.specs.CloudAreas.Chains.{IsRecord, AreLong, BothHaveRoom};
+ghost use Rattle.record_checks.specs.CloudAreas.Checkpoints.{IsCheckpoint};
+ghost use Rattle.record_checks.specs.CloudAreas.Placing.{shares_in};
+ghost use Rattle.record_checks.specs.CloudAreas.Standing.{Chain, region_in, Holds};
+ghost use Rattle.record_checks.specs.CloudMemory.Memory.{Memory, HasEnds, Stand};
+ghost use Rattle.record_checks.specs.CloudMemory.Steps.{begun};
 ghost use Rattle.record_laws.specs.Leaving.{record_left, left_by, MayHold, front_left, IsLeftIn, EndsWithinRows};
 
 /// The records of a checkpoint, read into an empty memory, leave that of each list that they say, whatever their order.

@@ -10,7 +10,7 @@ use Rattle.journal_start.specs.declared.start.Header.{Header}
 use Rattle.cd_edges.specs.Causes.{Rose}
 use Rattle.cd_edges.specs.Disk.{Cloud, IsImage, reads}
 use Rattle.cd_edges.proofs.Moments.{weaker, at_end, each_since}
-use Rattle.cloud_areas.specs.Peers.{StandsForSome}
+use Rattle.cloud_server.specs.CloudAreas.Peers.{StandsForSome}
 use Rattle.script_lines.specs.LocalLink.link.LocalLink.{LocalLink}
 use Rattle.script_lines.specs.LocalLink.Calls.{no_commands}
 use Rattle.cloud_server.specs.declared.server.Server.{Server}

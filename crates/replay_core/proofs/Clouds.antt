@@ -14,8 +14,8 @@ use Rattle.half_journal.specs.declared.errors.OpenErr.TheVariants as errors
 use Rattle.journal_start.specs.declared.start.Header.{Header}
 use Rattle.half_journal.specs.Openings.{OnFault}
 use Rattle.cloud_server.specs.StoreOpening.Spared.{IsOkOrFault}
-use Rattle.cloud_areas.specs.Peers.{StandsForSome}
-use Rattle.cloud_areas.specs.Standing.{StandsFor}
+use Rattle.cloud_server.specs.CloudAreas.Peers.{StandsForSome}
+use Rattle.cloud_server.specs.CloudAreas.Standing.{StandsFor}
 use Rattle.cloud_server.specs.Names.{HasNoJournal}
 use Rattle.cloud_server.specs.Refusals.{IsDamage}
 use Rattle.replay_core.specs.declared.end.ReplayEnd.{ReplayEnd}

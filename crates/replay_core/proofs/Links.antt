@@ -13,8 +13,8 @@ use Rattle.journal_start.specs.declared.start.Header.{Header}
 use Rattle.cloud_server.specs.StoreOpening.Spared.{IsOkOrFault, MayBegin}
 use Rattle.journal_start.specs.declared.rooms.Rooms.{Rooms}
 use Rattle.user_dedup.specs.Spending.{IsWithin}
-use Rattle.cloud_areas.specs.Peers.{StandsForSome, ImagesNow, ImagesSince}
-use Rattle.cloud_areas.specs.Standing.{StandsFor}
+use Rattle.cloud_server.specs.CloudAreas.Peers.{StandsForSome, ImagesNow, ImagesSince}
+use Rattle.cloud_server.specs.CloudAreas.Standing.{StandsFor}
 use Rattle.cloud_server.specs.declared.server.Server.{Server}
 use Rattle.cloud_server.specs.Names.{header_of}
 use Rattle.cloud_server.specs.Serving.{settled_with}

@@ -4,7 +4,7 @@ use Rattle.std.specs.Io.KnownBytes.{Appends}
 use Rattle.cd_base.specs.declared.shape.Shape.{Shape}
 use Rattle.cd_edges.specs.Causes.{Rose}
 use Rattle.cd_edges.specs.Disk.{Cloud}
-use Rattle.cloud_areas.specs.Peers.{ImagesSince}
+use Rattle.cloud_server.specs.CloudAreas.Peers.{ImagesSince}
 use Rattle.upload_job.specs.Lanes.{LaneView}
 use Rattle.script_lines.specs.LocalLink.fate.Fate.TheVariants.{Deliver}
 use Rattle.script_lines.specs.LocalLink.link.LocalLink.{LocalLink}

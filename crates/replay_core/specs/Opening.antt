@@ -9,7 +9,7 @@ use Rattle.cd_edges.specs.Disk.{Cloud, Image, IsImage, reads}
 use Rattle.journal_start.specs.declared.start.Header.{Header}
 use Rattle.half_journal.specs.declared.errors.OpenErr.{OpenErr}
 use Rattle.half_journal.specs.declared.errors.OpenErr.TheVariants as open_errors
-use Rattle.cloud_areas.specs.Peers.{ImagesSince}
+use Rattle.cloud_server.specs.CloudAreas.Peers.{ImagesSince}
 use Rattle.script_lines.specs.LocalLink.link.LocalLink.{LocalLink}
 use Rattle.script_lines.specs.LocalLink.Calls.{no_commands}
 use Rattle.script_lines.specs.LocalLink.Tells.{server_at, rooms_at, header_at, StandsAt}

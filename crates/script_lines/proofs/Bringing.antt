@@ -6,7 +6,7 @@ use Rattle.std.proofs.lemmas.List.{map-append}
 use Rattle.std.proofs.lemmas.List.Elements.{Contains-append_left, Contains-append_right}
 use Rattle.cd_edges.specs.Disk.{Cloud}
 use Rattle.cd_edges.proofs.Moments.{joined}
-use Rattle.cloud_areas.specs.Peers.{StandsForSome}
+use Rattle.session_model.specs.CloudAreas.Peers.{StandsForSome}
 use Rattle.messages.specs.declared.request.Request.{Request}
 use Rattle.messages.specs.declared.reply.Reply.{Reply}
 use Rattle.user_dedup.specs.declared.command.Command.{Command}

@@ -8,7 +8,7 @@ use Rattle.messages.specs.declared.reply.Reply.{Reply}
 use Rattle.user_dedup.specs.Requests.{asked_at}
 use Rattle.user_dedup.specs.Exec.{Peer}
 use Rattle.user_dedup.specs.Link.{LeavesOthers, Does, serves}
-use Rattle.cloud_areas.specs.Peers.{ImagesSince, MayBecome}
+use Rattle.session_model.specs.CloudAreas.Peers.{ImagesSince, MayBecome}
 use Rattle.session_model.specs.CloudServer.server.Server.{Server}
 use Rattle.session_model.specs.LocalLink.fate.Fate.TheVariants as fates
 use Rattle.session_model.specs.LocalLink.fate.Fate.TheVariants.{Deliver}

@@ -15,7 +15,7 @@ use Rattle.user_dedup.specs.Exec.{Peer, MaySettleAs, Exec, served}
 use Rattle.user_dedup.specs.Spending.{full_for}
 use Rattle.user_dedup.specs.Link.{LeavesOthers, Exchange, Passes}
 use Rattle.user_dedup.proofs.Owned.{contains_here}
-use Rattle.cloud_areas.specs.Peers.{StandsForSome, ImagesNow, ImagesSince, MayBecome}
+use Rattle.session_model.specs.CloudAreas.Peers.{StandsForSome, ImagesNow, ImagesSince, MayBecome}
 use Rattle.upload_job.specs.Lanes.{LaneView}
 use Rattle.session_model.specs.LocalLink.fate.Fate.TheVariants.{Deliver}
 use Rattle.session_model.specs.LocalLink.link.LocalLink.{LocalLink}

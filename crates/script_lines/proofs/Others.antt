@@ -24,7 +24,7 @@ use Rattle.user_dedup.specs.Dedup.{FullRoom}
 use Rattle.user_dedup.specs.Requests.{asked_at}
 use Rattle.user_dedup.specs.Exec.{Peer, MaySettleAs, Stays, CountsOn}
 use Rattle.user_dedup.specs.Link.{LeavesOthers, Talk, ReadsFrom}
-use Rattle.cloud_areas.specs.Peers.{StandsForSome, ImagesNow, ImagesSince}
+use Rattle.session_model.specs.CloudAreas.Peers.{StandsForSome, ImagesNow, ImagesSince}
 use Rattle.restore_job.specs.Asking.{PeersOf, OnlyRead, Leads, Asked, is_lost, TellsAll}
 use Rattle.restore_job.specs.Refusals.{Names, Causes}
 use Rattle.restore_job.specs.declared.error.RestoreErr.{RestoreErr}
@@ -35,7 +35,7 @@ use Rattle.session_model.specs.CloudServer.server.Server.{Server}
 use Rattle.session_model.specs.CloudServer.Serving.{ReopensAs}
 use Rattle.upload_job.specs.Lanes.{LaneView, lanes_begun, request_at, IsAsked}
 use Rattle.lane_steps.specs.Reached.{IsReached}
-use Rattle.kept_files.specs.Kept.{key_of}
+use Rattle.rebuild.specs.KeptFiles.Kept.{key_of}
 use Rattle.session_model.specs.LocalLink.fate.Fate.{Fate}
 use Rattle.session_model.specs.LocalLink.fate.Fate.TheVariants as fates
 use Rattle.session_model.specs.LocalLink.fate.Fate.TheVariants.{Deliver}

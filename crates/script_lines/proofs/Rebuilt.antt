@@ -13,7 +13,7 @@ use Rattle.user_dedup.specs.Dedup.{FullRoom}
 use Rattle.user_dedup.specs.Exec.{Peer, MaySettleAs, served}
 use Rattle.user_dedup.specs.Link.{LinkTelling, Talk, serves}
 use Rattle.user_dedup.proofs.Owned.{contains_cases, contains_here, contains_later, contains_nothing}
-use Rattle.cloud_areas.specs.Peers.{StandsForSome, ImagesSince, MayBecome}
+use Rattle.session_model.specs.CloudAreas.Peers.{StandsForSome, ImagesSince, MayBecome}
 use Rattle.upload_job.specs.Lanes.{LaneView}
 use Rattle.lane_steps.specs.Runs.{Turn}
 use Rattle.session_model.specs.LocalLink.fate.Fate.{Fate}

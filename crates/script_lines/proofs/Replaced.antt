@@ -20,7 +20,7 @@ use Rattle.user_dedup.specs.declared.command.Command.{Command}
 use Rattle.user_dedup.specs.Exec.{Peer, MaySettleAs}
 use Rattle.user_dedup.specs.Link.{LeavesOthers}
 use Rattle.user_dedup.proofs.Owned.{contains_here, contains_cases, contains_nothing}
-use Rattle.cloud_areas.specs.Peers.{StandsForSome, ImagesNow, ImagesSince}
+use Rattle.session_model.specs.CloudAreas.Peers.{StandsForSome, ImagesNow, ImagesSince}
 use Rattle.session_model.specs.CloudServer.server.Server.{Server}
 use Rattle.session_model.specs.CloudServer.Serving.{ReopensAs}
 use Rattle.session_model.proofs.CloudServer.NoCommands.{empty_stands}

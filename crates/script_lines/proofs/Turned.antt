@@ -16,7 +16,7 @@ use Rattle.user_dedup.specs.Link.{Exchange, Talk, Passes, ReadsFrom, AddsNothing
 use Rattle.user_dedup.specs.Requests.{asked_at, HasRecipe}
 use Rattle.user_dedup.proofs.Asked.{asked_law}
 use Rattle.user_dedup.proofs.Owned.{contains_here, contains_later}
-use Rattle.cloud_areas.specs.Peers.{StandsForSome, ImagesSince, MayBecome}
+use Rattle.session_model.specs.CloudAreas.Peers.{StandsForSome, ImagesSince, MayBecome}
 use Rattle.user_dedup.specs.Spending.{full_for}
 use Rattle.lane_steps.specs.Runs.{Turn}
 use Rattle.session_model.specs.LocalLink.link.LocalLink.{LocalLink}

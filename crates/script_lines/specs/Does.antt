@@ -2,7 +2,7 @@
 use Rattle.std.specs.Prelude.{◌≡◌, ℕ, ◌<◌, ◌≤◌, IsTrue, List, ◌++◌}
 use Rattle.cd_edges.specs.Disk.{Cloud}
 use Rattle.user_dedup.specs.Exec.{Peer, MaySettleAs}
-use Rattle.cloud_areas.specs.Peers.{ImagesNow, ImagesSince}
+use Rattle.session_model.specs.CloudAreas.Peers.{ImagesNow, ImagesSince}
 use Rattle.upload_job.specs.Lanes.{LaneView}
 use Rattle.session_model.specs.LocalLink.link.LocalLink.{LocalLink}
 use Rattle.session.specs.declared.event.Event.{Event}

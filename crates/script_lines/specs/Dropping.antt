@@ -6,7 +6,7 @@ use Rattle.messages.specs.declared.reply.Reply.{Reply}
 use Rattle.user_dedup.specs.Requests.{asked_at}
 use Rattle.user_dedup.specs.Exec.{Peer, Exec}
 use Rattle.user_dedup.specs.Link.{LeavesOthers}
-use Rattle.cloud_areas.specs.Peers.{ImagesSince, MayBecome}
+use Rattle.session_model.specs.CloudAreas.Peers.{ImagesSince, MayBecome}
 use Rattle.session_model.specs.LocalLink.fate.Fate.TheVariants.{Deliver}
 use Rattle.session_model.specs.LocalLink.link.LocalLink.{LocalLink}
 use Rattle.session_model.specs.LocalLink.Tells.{telling, serving_at, StandsAt, LeavesRest, rooms_at, header_at}

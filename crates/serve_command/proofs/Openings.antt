@@ -15,8 +15,8 @@ use Rattle.user_dedup.specs.declared.command.Command.{Command}
 use Rattle.user_dedup.specs.Exec.{Peer}
 use Rattle.cloud_server.specs.StoreOpening.Exact.{Opens}
 use Rattle.cloud_server.specs.StoreOpening.Spared.{IsOkOrFault, MayBegin, Spares}
-use Rattle.cloud_memory.specs.Memory.{Memory}
-use Rattle.cloud_memory.specs.Rooms.{memory_of}
+use Rattle.cloud_server.specs.CloudMemory.Memory.{Memory}
+use Rattle.cloud_server.specs.CloudMemory.Rooms.{memory_of}
 use Rattle.cloud_server.specs.Openings.{OpensTo, OtherStoreIs}
 use Rattle.user_dedup.specs.Spending.{IsWithin}
 use Rattle.user_dedup.specs.Served.{served_by}

@@ -1,3 +1,4 @@
+pub mod CloudAreas
 pub mod Complete
 pub mod Connection
 pub mod Framing

@@ -18,8 +18,8 @@ use Rattle.user_dedup.specs.declared.command.Command.{Command}
 use Rattle.user_dedup.specs.declared.file_list.FileEntry.{FileEntry}
 use Rattle.user_dedup.specs.Cloud.{user_view}
 use Rattle.user_dedup.specs.Pages.{entry_at}
-use Rattle.cloud_areas.specs.Standing.{Chain}
-use Rattle.cloud_memory.specs.Rooms.{memory_of}
+use Rattle.open_store.specs.CloudAreas.Standing.{Chain}
+use Rattle.server_reads.specs.CloudMemory.Rooms.{memory_of}
 use Rattle.open_store.specs.declared.store.OpenStore.{OpenStore}
 use Rattle.open_store.specs.Store.{IsSettled, IsOpen, Serves, closed}
 use Rattle.server_reads.specs.declared.blobs.Stop.{Stop}

@@ -16,8 +16,8 @@ use Rattle.user_dedup.specs.Cloud.{user_view}
 use Rattle.user_dedup.specs.Dedup.{Outcome, only, delete_outcome, answer_over, Added}
 use Rattle.user_dedup.specs.Pages.{entry_at}
 use Rattle.user_dedup.specs.Spending.{full_for}
-use Rattle.cloud_areas.specs.Standing.{Chain}
-use Rattle.cloud_disk.proofs.Standing.{none_staged}
+use Rattle.open_store.specs.CloudAreas.Standing.{Chain}
+use Rattle.open_store.proofs.DiskProofs.Standing.{none_staged}
 use Rattle.open_store.specs.declared.store.OpenStore.{OpenStore}
 use Rattle.open_store.specs.Store.{Serves}
 use Rattle.open_store.specs.Adding.{NoneStaged, IsDelete}

@@ -15,12 +15,12 @@ use Rattle.messages.specs.declared.reply.Reply.TheVariants as replies
 use Rattle.messages.specs.Replies.{IsReply, reply_bytes}
 use Rattle.user_dedup.specs.declared.command.Command.{Command}
 use Rattle.user_dedup.specs.Dedup.{Outcome, only, FullRoom, unless_full, by_room}
-use Rattle.cloud_areas.specs.Peers.{StandsForSome}
-use Rattle.cloud_areas.specs.Standing.{StandsFor}
-use Rattle.cloud_disk.specs.Disk.{KeepsOrAdds, StandsForEither}
-use Rattle.cloud_disk.proofs.Standing.{images_on}
-use Rattle.cloud_memory.specs.Memory.{Memory}
-use Rattle.cloud_memory.specs.Rooms.{memory_of}
+use Rattle.open_store.specs.CloudAreas.Peers.{StandsForSome}
+use Rattle.open_store.specs.CloudAreas.Standing.{StandsFor}
+use Rattle.open_store.specs.CloudDisk.Disk.{KeepsOrAdds, StandsForEither}
+use Rattle.open_store.proofs.DiskProofs.Standing.{images_on}
+use Rattle.server_reads.specs.CloudMemory.Memory.{Memory}
+use Rattle.server_reads.specs.CloudMemory.Rooms.{memory_of}
 use Rattle.open_store.specs.declared.store.OpenStore.{OpenStore}
 use Rattle.open_store.specs.Store.{ServesSome}
 use Rattle.server_reads.specs.Found.{IsOther, IsFoundRecipe, IsFoundShare}

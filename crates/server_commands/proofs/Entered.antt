@@ -29,10 +29,10 @@ use Rattle.user_dedup.specs.declared.command.Command.TheVariants as commands
 use Rattle.user_dedup.specs.Cloud.{fingerprint, user_view}
 use Rattle.user_dedup.specs.Owning.{fps_in, first_lacking}
 use Rattle.user_dedup.specs.Dedup.{Outcome, Added}
-use Rattle.cloud_areas.specs.Standing.{Chain}
-use Rattle.cloud_disk.proofs.Standing.{none_staged}
-use Rattle.cloud_memory.specs.Memory.{Remembers}
-use Rattle.cloud_memory.specs.Rooms.{memory_of}
+use Rattle.open_store.specs.CloudAreas.Standing.{Chain}
+use Rattle.open_store.proofs.DiskProofs.Standing.{none_staged}
+use Rattle.server_reads.specs.CloudMemory.Memory.{Remembers}
+use Rattle.server_reads.specs.CloudMemory.Rooms.{memory_of}
 use Rattle.open_store.specs.declared.store.OpenStore.{OpenStore}
 use Rattle.open_store.specs.Store.{EndsMeet, Serves}
 use Rattle.open_store.specs.Adding.{NoneStaged, IsCommit, EndBehind, unstaged}

@@ -21,9 +21,9 @@ use Rattle.user_dedup.specs.declared.command.Command.{Command}
 use Rattle.user_dedup.specs.Cloud.{fingerprint, user_view}
 use Rattle.user_dedup.specs.Owning.{is_among, new_strings}
 use Rattle.user_dedup.proofs.New.{are_new}
-use Rattle.cloud_memory.specs.declared.rooms.New.{New}
-use Rattle.cloud_memory.specs.Memory.{Memory, Remembers, uses_of}
-use Rattle.cloud_memory.specs.Rooms.{memory_of}
+use Rattle.server_reads.specs.CloudMemory.rooms.New.{New}
+use Rattle.server_reads.specs.CloudMemory.Memory.{Memory, Remembers, uses_of}
+use Rattle.server_reads.specs.CloudMemory.Rooms.{memory_of}
 use Rattle.open_store.specs.declared.store.OpenStore.{OpenStore}
 use Rattle.open_store.specs.Store.{IsOpen, IsSettled, EndsMeet}
 use Rattle.open_store.specs.Adding.{unplaced}

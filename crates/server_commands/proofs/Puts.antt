@@ -26,11 +26,11 @@ use Rattle.user_dedup.specs.Cloud.{user_view}
 use Rattle.user_dedup.specs.Dedup.{IsSound, Added, Outcome, only, put_outcome, answer_over}
 use Rattle.user_dedup.specs.Owning.{new_strings}
 use Rattle.user_dedup.specs.Spending.{full_for}
-use Rattle.cloud_areas.specs.Standing.{Chain}
-use Rattle.cloud_memory.specs.declared.cloud.CloudMemory.{CloudMemory}
-use Rattle.cloud_memory.specs.declared.rooms.New.{New}
-use Rattle.cloud_memory.specs.Memory.{Memory}
-use Rattle.cloud_memory.specs.Rooms.{memory_of}
+use Rattle.open_store.specs.CloudAreas.Standing.{Chain}
+use Rattle.server_reads.specs.CloudMemory.cloud.CloudMemory.{CloudMemory}
+use Rattle.server_reads.specs.CloudMemory.rooms.New.{New}
+use Rattle.server_reads.specs.CloudMemory.Memory.{Memory}
+use Rattle.server_reads.specs.CloudMemory.Rooms.{memory_of}
 use Rattle.open_store.specs.declared.store.OpenStore.{OpenStore}
 use Rattle.open_store.specs.Store.{IsSettled, EndsMeet, Serves}
 use Rattle.open_store.specs.Adding.{NoneStaged, Unmoved, IsPut, unplaced, unstaged}

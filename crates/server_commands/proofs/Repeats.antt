@@ -18,8 +18,8 @@ use Rattle.user_dedup.specs.Owning.{fps_in, first_lacking}
 use Rattle.user_dedup.specs.Pages.{entry_at}
 use Rattle.user_dedup.specs.Requests.{fps_of}
 use Rattle.user_dedup.specs.Spending.{full_for}
-use Rattle.cloud_memory.specs.Memory.{Remembers}
-use Rattle.cloud_memory.specs.Rooms.{memory_of}
+use Rattle.server_reads.specs.CloudMemory.Memory.{Remembers}
+use Rattle.server_reads.specs.CloudMemory.Rooms.{memory_of}
 use Rattle.open_store.specs.declared.store.OpenStore.{OpenStore}
 use Rattle.open_store.specs.Store.{IsSettled, IsOpen, closed}
 use Rattle.server_reads.specs.declared.blobs.Stop.{Stop}

@@ -5,7 +5,7 @@ use Rattle.cd_base.specs.declared.ids.Fp.{Fp}
 use Rattle.cd_edges.specs.declared.area.Area.TheVariants.{Journal, Shares, Recipes}
 use Rattle.cd_edges.specs.Disk.{Areas, Cloud}
 use Rattle.cd_edges.specs.Shelf.{Stays}
-use Rattle.cloud_areas.specs.Peers.{StandsForSome}
+use Rattle.open_store.specs.CloudAreas.Peers.{StandsForSome}
 use Rattle.container_log.specs.Caches.{Kept}
 use Rattle.container_log.specs.Kept.{KeepsBelow}
 use Rattle.messages.specs.declared.request.Request.{Request}

@@ -17,14 +17,14 @@ use Rattle.message_fields.specs.Shares.{IsShare}
 use Rattle.share_index.specs.Order.{owner_cmp, owner_of}
 use Rattle.user_dedup.specs.Cloud.{fingerprint}
 use Rattle.user_dedup.specs.Owning.{is_among}
-use Rattle.cloud_memory.specs.declared.rooms.New.{New}
-use Rattle.cloud_memory.specs.Memory.{Memory}
-use Rattle.cloud_memory.specs.News.{AreOf, AreApart, AreNewTo}
-use Rattle.cloud_memory.specs.Rooms.{memory_of}
-use Rattle.cloud_memory.specs.Sharing.{AreOwned}
-use Rattle.cloud_memory.specs.Steps.{end_with, with_item, with_items, with_put, part_in, parts_of}
-use Rattle.cloud_memory.proofs.Adding.{Others, others, rest_apart}
-use Rattle.cloud_memory.proofs.Puts.{place_for, placed_more}
+use Rattle.server_reads.specs.CloudMemory.rooms.New.{New}
+use Rattle.server_reads.specs.CloudMemory.Memory.{Memory}
+use Rattle.server_reads.specs.CloudMemory.News.{AreOf, AreApart, AreNewTo}
+use Rattle.server_reads.specs.CloudMemory.Rooms.{memory_of}
+use Rattle.server_reads.specs.CloudMemory.Sharing.{AreOwned}
+use Rattle.server_reads.specs.CloudMemory.Steps.{end_with, with_item, with_items, with_put, part_in, parts_of}
+use Rattle.server_reads.proofs.MemoryProofs.Adding.{Others, others, rest_apart}
+use Rattle.server_reads.proofs.MemoryProofs.Puts.{place_for, placed_more}
 use Rattle.open_store.specs.declared.store.OpenStore.{OpenStore}
 use Rattle.open_store.specs.Store.{EndsMeet}
 use Rattle.open_store.specs.Adding.{IsShareNew, EndBehind, unplaced}

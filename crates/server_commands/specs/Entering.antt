@@ -10,10 +10,10 @@ use Rattle.messages.specs.declared.reply.Reply.TheVariants as replies
 use Rattle.share_index.specs.Order.{owner_cmp, owner_of}
 use Rattle.user_dedup.specs.Cloud.{fingerprint}
 use Rattle.user_dedup.specs.Owning.{is_among}
-use Rattle.cloud_memory.specs.declared.rooms.New.{New}
-use Rattle.cloud_memory.specs.Memory.{Memory}
-use Rattle.cloud_memory.specs.Rooms.{full_news}
-use Rattle.cloud_memory.specs.Steps.{parts_of, with_put}
+use Rattle.server_reads.specs.CloudMemory.rooms.New.{New}
+use Rattle.server_reads.specs.CloudMemory.Memory.{Memory}
+use Rattle.server_reads.specs.CloudMemory.Rooms.{full_news}
+use Rattle.server_reads.specs.CloudMemory.Steps.{parts_of, with_put}
 
 -- ---- a Put
 

@@ -8,8 +8,8 @@ use Rattle.messages.specs.declared.reply.Reply.{Reply}
 use Rattle.messages.specs.declared.reply.Reply.TheVariants as replies
 use Rattle.messages.specs.Replies.{IsReply}
 use Rattle.user_dedup.specs.declared.command.Command.{Command}
-use Rattle.cloud_areas.specs.Peers.{ImagesSince}
-use Rattle.cloud_memory.specs.Rooms.{memory_of}
+use Rattle.open_store.specs.CloudAreas.Peers.{ImagesSince}
+use Rattle.server_reads.specs.CloudMemory.Rooms.{memory_of}
 use Rattle.open_store.specs.declared.store.OpenStore.{OpenStore}
 use Rattle.open_store.specs.Store.{IsOpen, IsSettled, EndsMeet, ServesSome}
 use Rattle.open_store.specs.Adding.{NoneStaged, KeepsOrGrows}

@@ -12,8 +12,8 @@ use Rattle.messages.specs.declared.request.Request.TheVariants as requests
 use Rattle.messages.specs.declared.reply.Reply.{Reply}
 use Rattle.messages.specs.declared.reply.Reply.TheVariants as replies
 use Rattle.user_dedup.specs.Cloud.{fingerprint}
-use Rattle.cloud_memory.specs.Memory.{Memory}
-use Rattle.cloud_memory.specs.Sharing.{AreOwned}
+use Rattle.server_reads.specs.CloudMemory.Memory.{Memory}
+use Rattle.server_reads.specs.CloudMemory.Sharing.{AreOwned}
 use Rattle.server_reads.specs.Found.{IsFoundRecipe, IsFoundShare}
 
 -- to Put: no share is new, or a room of the user's is too small

@@ -1,3 +1,5 @@
+pub mod CloudAreas
+pub mod CloudDisk
 pub mod Entering
 pub mod Executing
 pub mod Leaving

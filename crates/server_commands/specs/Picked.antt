@@ -7,10 +7,10 @@ use Rattle.message_fields.specs.Shares.{IsShare}
 use Rattle.user_dedup.specs.declared.command.Command.{Command}
 use Rattle.user_dedup.specs.Cloud.{user_view}
 use Rattle.user_dedup.specs.Owning.{new_strings}
-use Rattle.cloud_memory.specs.declared.rooms.New.{New}
-use Rattle.cloud_memory.specs.Memory.{Remembers}
-use Rattle.cloud_memory.specs.News.{AreOf, AreNewTo}
-use Rattle.cloud_memory.specs.Rooms.{memory_of}
+use Rattle.server_reads.specs.CloudMemory.rooms.New.{New}
+use Rattle.server_reads.specs.CloudMemory.Memory.{Remembers}
+use Rattle.server_reads.specs.CloudMemory.News.{AreOf, AreNewTo}
+use Rattle.server_reads.specs.CloudMemory.Rooms.{memory_of}
 use Rattle.open_store.specs.declared.store.OpenStore.{OpenStore}
 use Rattle.open_store.specs.Adding.{unplaced}
 use Rattle.server_commands.specs.Entering.{new_of, unowned}

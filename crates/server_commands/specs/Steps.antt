@@ -18,13 +18,13 @@ use Rattle.user_dedup.specs.Dedup.{answer_over}
 use Rattle.user_dedup.specs.Requests.{HasRecipe}
 use Rattle.user_dedup.specs.declared.file_list.FileEntry.{FileEntry}
 use Rattle.user_dedup.specs.Pages.{entry_at}
-use Rattle.cloud_areas.specs.Peers.{ImagesSince}
-use Rattle.cloud_areas.specs.Standing.{Chain}
+use Rattle.open_store.specs.CloudAreas.Peers.{ImagesSince}
+use Rattle.open_store.specs.CloudAreas.Standing.{Chain}
 use Rattle.open_store.specs.declared.store.OpenStore.{OpenStore}
 use Rattle.open_store.specs.Store.{IsOpen, IsSettled, EndsMeet, Serves}
-use Rattle.cloud_memory.specs.declared.rooms.New.{New}
-use Rattle.cloud_memory.specs.News.{AreOf}
-use Rattle.cloud_memory.specs.Rooms.{memory_of}
+use Rattle.server_reads.specs.CloudMemory.rooms.New.{New}
+use Rattle.server_reads.specs.CloudMemory.News.{AreOf}
+use Rattle.server_reads.specs.CloudMemory.Rooms.{memory_of}
 use Rattle.open_store.specs.Adding.{NoneStaged, unplaced}
 use Rattle.server_reads.specs.declared.blobs.Stop.{Stop}
 use Rattle.server_reads.specs.Reading.{IfRotten}

@@ -13,5 +13,5 @@ mod refusing;
 
 pub use committing::commit;
 pub use deleting::delete;
-pub use open_store::OpenStore;
+pub use open_store::{CloudDisk, OpenStore};
 pub use putting::put;

@@ -9,16 +9,16 @@ ghost use Rattle.message_fields.specs.Shares.{IsShare, AreShares};
 ghost use Rattle.share_index.specs.Order.{owner_of};
 ghost use Rattle.user_dedup.specs.Cloud.{fingerprint};
 ghost use Rattle.user_dedup.specs.Owning.{is_among};
-ghost use Rattle.cloud_memory.specs.Rooms.{memory_of};
+ghost use Rattle.server_reads.specs.CloudMemory.Rooms.{memory_of};
 ghost use Rattle.open_store.specs.Store.{IsOpen, IsSettled, EndsMeet};
 ghost use Rattle.server_commands.specs.Executing.{IsReady};
 ghost use Rattle.server_commands.specs.Entering.{new_of};
 ghost use Rattle.server_commands.specs.Picked.{fps_of, with_shares, Picked};
 
 use cd_base::{Fp, UserId, sha256};
-use cloud_memory::{CloudMemory, New};
 use message_fields::SharesView;
 use open_store::OpenStore;
+use server_reads::{CloudMemory, New};
 
 // The first share and those behind it. It asks for one share at least.
 fn next_share<'a>(shares: &SharesView<'a>) -> (&'a [u8], SharesView<'a>)

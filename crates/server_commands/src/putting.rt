@@ -10,9 +10,9 @@ ghost use Rattle.messages.specs.Replies.{IsReply};
 ghost use Rattle.user_dedup.specs.declared.command.Command.{Command};
 ghost use Rattle.user_dedup.specs.Cloud.{user_view};
 ghost use Rattle.user_dedup.specs.Owning.{new_strings};
-ghost use Rattle.cloud_areas.specs.Standing.{Chain};
-ghost use Rattle.cloud_memory.specs.News.{AreNewTo};
-ghost use Rattle.cloud_memory.specs.Rooms.{memory_of};
+ghost use Rattle.open_store.specs.CloudAreas.Standing.{Chain};
+ghost use Rattle.server_reads.specs.CloudMemory.News.{AreNewTo};
+ghost use Rattle.server_reads.specs.CloudMemory.Rooms.{memory_of};
 ghost use Rattle.open_store.specs.Adding.{IsPut, IsShareNew, unstaged};
 ghost use Rattle.server_reads.specs.Allowed.{Replies};
 ghost use Rattle.server_commands.specs.Entering.{Stores};
@@ -23,11 +23,11 @@ use crate::news::collect;
 use crate::refusing::refuse_long;
 use cd_base::{Fp, UserId};
 use cd_edges::{Failed, Shelf};
-use cloud_memory::New;
 use frames::ReplyBuf;
 use message_fields::SharesView;
 use messages::{write_full, write_stored};
 use open_store::{OpenStore, Unadded};
+use server_reads::New;
 
 // Adds the Put of these shares, which are new; those that have no place yet are staged.
 fn add_news<V: Shelf>(

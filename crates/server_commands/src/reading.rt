@@ -12,9 +12,9 @@ ghost use Rattle.file_index.specs.declared.key.FileKey.{FileKey};
 ghost use Rattle.file_index.specs.Files.{key_of};
 ghost use Rattle.user_dedup.specs.declared.command.Command.{Command};
 ghost use Rattle.user_dedup.specs.Cloud.{fingerprint, user_view};
-ghost use Rattle.cloud_areas.specs.Standing.{Chain};
-ghost use Rattle.cloud_memory.specs.Memory.{Memory};
-ghost use Rattle.cloud_memory.specs.Rooms.{memory_of};
+ghost use Rattle.open_store.specs.CloudAreas.Standing.{Chain};
+ghost use Rattle.server_reads.specs.CloudMemory.Memory.{Memory};
+ghost use Rattle.server_reads.specs.CloudMemory.Rooms.{memory_of};
 ghost use Rattle.open_store.specs.Store.{IsSettled, Serves};
 ghost use Rattle.server_reads.specs.Found.{IsOther, IsFoundRecipe, ReadsLog};
 ghost use Rattle.server_reads.specs.Reading.{HasRead, IfRotten};
@@ -22,9 +22,8 @@ ghost use Rattle.server_commands.specs.Steps.{OnlyReads, ReadsFile};
 
 use cd_base::CloudNo;
 use cd_edges::Shelf;
-use cloud_disk::CloudDisk;
 use file_index::Entry;
-use open_store::OpenStore;
+use open_store::{CloudDisk, OpenStore};
 use server_reads::{Stop, read_recipe};
 
 // The same as `read_entry`, by the disk alone.

@@ -1,4 +1,5 @@
 pub mod Allowed
+pub mod CloudMemory
 pub mod Found
 pub mod Owned
 pub mod Reading

@@ -14,6 +14,7 @@ mod owning;
 mod sending;
 
 pub use blobs::{Stop, read_blob};
+pub use cloud_memory::{CloudMemory, New};
 pub use fetching::{read_recipe, recipe};
 pub use greeting::hello;
 pub use listing::entries;

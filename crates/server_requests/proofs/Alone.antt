@@ -6,8 +6,8 @@ use Rattle.messages.specs.declared.request.Request.{Request}
 use Rattle.messages.specs.Replies.{reply_bytes}
 use Rattle.user_dedup.specs.declared.command.Command.{Command}
 use Rattle.user_dedup.specs.Dedup.{only}
-use Rattle.cloud_memory.specs.Memory.{Remembers}
-use Rattle.cloud_memory.specs.Rooms.{memory_of}
+use Rattle.server_reads.specs.CloudMemory.Memory.{Remembers}
+use Rattle.server_reads.specs.CloudMemory.Rooms.{memory_of}
 use Rattle.server_commands.specs.OpenStore.store.OpenStore.{OpenStore}
 use Rattle.server_commands.specs.Executing.{IsReady, Executes}
 use Rattle.server_commands.specs.Leaving.{IsFound}

@@ -12,7 +12,7 @@ use Rattle.messages.specs.declared.reply.Reply.TheVariants as replies
 use Rattle.messages.specs.Replies.{IsReply, reply_bytes}
 use Rattle.user_dedup.specs.Cloud.{fingerprint}
 use Rattle.user_dedup.specs.Exec.{items_of}
-use Rattle.cloud_memory.specs.Memory.{Memory}
+use Rattle.server_reads.specs.CloudMemory.Memory.{Memory}
 use Rattle.server_reads.specs.Allowed.{Replies, IsPlain}
 use Rattle.server_reads.specs.Found.{IsNamed}
 use Rattle.server_commands.specs.Leaving.{FindsNone, FindsForeign}

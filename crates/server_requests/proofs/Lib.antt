@@ -3,3 +3,4 @@ pub mod Contents
 pub mod OfOpenStore
 pub mod Places
 pub mod Readings
+pub mod ServerReads

@@ -12,9 +12,9 @@ use Rattle.messages.specs.declared.reply.Reply.TheVariants as replies
 use Rattle.messages.specs.Replies.{IsReply, reply_bytes}
 use Rattle.user_dedup.specs.declared.command.Command.{Command}
 use Rattle.user_dedup.specs.Dedup.{only, answer_over}
-use Rattle.cloud_areas.specs.Standing.{Chain}
-use Rattle.cloud_disk.specs.Disk.{Disk, IsReadThrough}
-use Rattle.cloud_memory.specs.Rooms.{memory_of}
+use Rattle.server_commands.specs.CloudAreas.Standing.{Chain}
+use Rattle.server_commands.specs.CloudDisk.Disk.{Disk, IsReadThrough}
+use Rattle.server_reads.specs.CloudMemory.Rooms.{memory_of}
 use Rattle.server_commands.specs.OpenStore.store.OpenStore.{OpenStore}
 use Rattle.server_commands.specs.OpenStore.Store.{IsSettled, IsOpen, Serves, ServesSome, closed}
 use Rattle.server_commands.specs.OpenStore.Adding.{NoneStaged}

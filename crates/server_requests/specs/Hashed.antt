@@ -8,7 +8,7 @@ use Rattle.messages.specs.declared.request.Request.TheVariants as requests
 use Rattle.messages.specs.declared.reply.Reply.{Reply}
 use Rattle.messages.specs.declared.reply.Reply.TheVariants as replies
 use Rattle.user_dedup.specs.Cloud.{fingerprint}
-use Rattle.cloud_memory.specs.Memory.{Memory}
+use Rattle.server_reads.specs.CloudMemory.Memory.{Memory}
 use Rattle.server_reads.specs.Found.{IsNamed}
 
 -- shares have these fingerprints

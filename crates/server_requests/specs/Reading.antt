@@ -1,7 +1,7 @@
 -- What reading through the logs leaves of a disk. No public clause cites this module.
 use Rattle.std.specs.Prelude.{◌≡◌}
 use Rattle.cd_edges.specs.Disk.{Cloud}
-use Rattle.cloud_disk.specs.Disk.{Disk}
+use Rattle.server_commands.specs.CloudDisk.Disk.{Disk}
 use Rattle.server_reads.specs.Found.{ReadsLog}
 
 -- The journal stays. Of the two logs only the containers have changed that they keep, which agree with the told cloud's areas as they did.

@@ -14,8 +14,8 @@ ghost use Rattle.messages.specs.declared.reply.Reply.TheVariants as replies;
 ghost use Rattle.messages.specs.Replies.{reply_bytes, IsReply};
 ghost use Rattle.user_dedup.specs.declared.command.Command.{Command};
 ghost use Rattle.user_dedup.specs.Dedup.{answer_over, IsSound};
-ghost use Rattle.cloud_memory.specs.Memory.{Remembers, Stand};
-ghost use Rattle.cloud_memory.specs.Rooms.{memory_of};
+ghost use Rattle.server_reads.specs.CloudMemory.Memory.{Remembers, Stand};
+ghost use Rattle.server_reads.specs.CloudMemory.Rooms.{memory_of};
 ghost use Rattle.server_reads.specs.Allowed.{Replies, RecipeReply};
 ghost use Rattle.server_reads.specs.Found.{IsNamed, HasNone, IsFoundRecipe};
 ghost use Rattle.server_commands.specs.Executing.{IsReady, Executes};
@@ -24,11 +24,9 @@ ghost use Rattle.server_requests.specs.Reading.{ReadsDisk};
 
 use cd_base::{CloudNo, Tag, UserId, Version};
 use cd_edges::{Failed, Shelf};
-use cloud_disk::CloudDisk;
-use cloud_memory::CloudMemory;
 use frames::ReplyBuf;
-use server_commands::OpenStore;
-use server_reads::recipe;
+use server_commands::{CloudDisk, OpenStore};
+use server_reads::{CloudMemory, recipe};
 
 // The same as `recipe`, by the disk.
 fn recipe_on_disk<V: Shelf>(

@@ -16,8 +16,8 @@ ghost use Rattle.messages.specs.Replies.{reply_bytes, IsReply};
 ghost use Rattle.user_dedup.specs.declared.command.Command.{Command};
 ghost use Rattle.user_dedup.specs.Cloud.{fingerprint};
 ghost use Rattle.user_dedup.specs.Dedup.{answer_over, IsSound};
-ghost use Rattle.cloud_memory.specs.Memory.{Remembers, Stand};
-ghost use Rattle.cloud_memory.specs.Rooms.{memory_of};
+ghost use Rattle.server_reads.specs.CloudMemory.Memory.{Remembers, Stand};
+ghost use Rattle.server_reads.specs.CloudMemory.Rooms.{memory_of};
 ghost use Rattle.server_reads.specs.Allowed.{Replies, SharesReply};
 ghost use Rattle.server_reads.specs.Found.{IsFoundShare};
 ghost use Rattle.server_commands.specs.Executing.{IsReady, Executes};
@@ -26,12 +26,10 @@ ghost use Rattle.server_requests.specs.Reading.{ReadsDisk};
 
 use cd_base::{CloudNo, UserId};
 use cd_edges::{Failed, Shelf};
-use cloud_disk::CloudDisk;
-use cloud_memory::CloudMemory;
 use frames::ReplyBuf;
 use message_fields::FpsView;
-use server_commands::OpenStore;
-use server_reads::shares;
+use server_commands::{CloudDisk, OpenStore};
+use server_reads::{CloudMemory, shares};
 
 // The same as `shares`, by the disk.
 fn shares_on_disk<V: Shelf>(

@@ -5,7 +5,7 @@ ghost use Rattle.cd_base.specs.Limits.{recipe_limit};
 ghost use Rattle.messages.specs.declared.reply.Reply.{Reply};
 ghost use Rattle.messages.specs.Requests.{FitsRequest};
 ghost use Rattle.messages.specs.Replies.{IsReply};
-ghost use Rattle.cloud_memory.specs.Rooms.{memory_of};
+ghost use Rattle.server_reads.specs.CloudMemory.Rooms.{memory_of};
 ghost use Rattle.server_commands.specs.Executing.{IsReady, Executes};
 ghost use Rattle.server_requests.specs.Asking.{IsOfShape, request_of, IsForMemory};
 ghost use Rattle.server_requests.specs.Hashed.{IsHashed};

@@ -29,8 +29,8 @@ use Rattle.subset_restore.proofs.Elements.{contains_middle, of_all}
 use Rattle.subset_restore.proofs.Choices.{subset_is_one}
 use Rattle.subset_restore.proofs.Files.{lacking_refuses}
 use Rattle.subset_restore.proofs.Standing.{ends_among}
-use Rattle.kept_files.specs.Kept.{Keeps, key_of}
-use Rattle.kept_files.proofs.Giving.{kept_is_given}
+use Rattle.rebuild.specs.KeptFiles.Kept.{Keeps, key_of}
+use Rattle.rebuild.proofs.KeptFiles.Giving.{kept_is_given}
 use Rattle.rebuild.specs.declared.error.SkipWhy.TheVariants as whys
 use Rattle.rebuild.specs.declared.error.RebuildErr.{RebuildErr}
 use Rattle.rebuild.specs.declared.skips.Rebuilt.{Rebuilt}

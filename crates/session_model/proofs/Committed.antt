@@ -21,8 +21,8 @@ use Rattle.upload_job.specs.declared.news.LaneNews.TheVariants as lane_news
 use Rattle.upload_job.specs.Upload.{FileVersion, Work, work_of}
 use Rattle.upload_job.specs.Lane.{LaneState, Asking, Sending, Committing, Done, Refused, unflagged, lane_request, news_of}
 use Rattle.upload_job.specs.Lanes.{LaneView}
-use Rattle.kept_files.specs.Kept.{Keeps}
-use Rattle.kept_files.proofs.Keeping.{committed_keeps}
+use Rattle.rebuild.specs.KeptFiles.Kept.{Keeps}
+use Rattle.rebuild.proofs.KeptFiles.Keeping.{committed_keeps}
 
 -- ---- which reply tells of a Commit
 

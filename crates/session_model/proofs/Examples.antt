@@ -12,7 +12,7 @@ use Rattle.user_dedup.proofs.Owned.{contains_here}
 use Rattle.upload_job.specs.Upload.{FileVersion}
 use Rattle.upload_job.specs.Lane.{LaneState, Committing, Done, Refused}
 use Rattle.upload_job.specs.Lanes.{LaneView}
-use Rattle.lane_steps.specs.Runs.{starting, progress_after, no_lane}
+use Rattle.rebuild.specs.LaneSteps.Runs.{starting, progress_after, no_lane}
 use Rattle.session.specs.Scripts.{jobs_of}
 use Rattle.session.specs.declared.event.Event.{Event}
 use Rattle.session.specs.declared.event.Event.TheVariants as events

@@ -33,7 +33,7 @@ use Rattle.upload_job.specs.declared.news.LaneNews.TheVariants as lane_news
 use Rattle.upload_job.specs.Lane.{lane_request}
 use Rattle.upload_job.specs.Lanes.{LaneView}
 use Rattle.upload_job.specs.Lanes as lanes
-use Rattle.lane_steps.specs.Runs.{Turn, Progress, LaneRun, Tell, lane_at, progress_after, starting}
+use Rattle.rebuild.specs.LaneSteps.Runs.{Turn, Progress, LaneRun, Tell, lane_at, progress_after, starting}
 use Rattle.restore_job.specs.Refusals.{Causes}
 use Rattle.restore_job.specs.declared.error.RestoreErr.{RestoreErr}
 use Rattle.restore_job.specs.declared.error.RestoreErr.TheVariants as restore_errors
@@ -45,7 +45,7 @@ use Rattle.rebuild.specs.Over as rebuilding
 use Rattle.rebuild.proofs.Turning.{fault_rose}
 use Rattle.rebuild.proofs.Landing.{news_fault}
 use Rattle.subset_restore.specs.Refusals.{refusal_of}
-use Rattle.kept_files.specs.Kept.{key_of}
+use Rattle.rebuild.specs.KeptFiles.Kept.{key_of}
 use Rattle.session.specs.declared.event.Event.{Event}
 use Rattle.session.specs.declared.event.Event.TheVariants as events
 use Rattle.transcript.specs.declared.news.News.TheVariants as news

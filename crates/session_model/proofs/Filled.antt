@@ -18,7 +18,7 @@ use Rattle.user_dedup.specs.Exec.{Peer, Exec, served}
 use Rattle.user_dedup.proofs.Owned.{contains_here, contains_later}
 use Rattle.upload_job.specs.Upload.{FileVersion}
 use Rattle.upload_job.specs.Lane.{LaneState, Asking, Sending, Committing, Done, Refused}
-use Rattle.lane_steps.specs.Runs.{Turn, Progress, LaneRun, progress_after}
+use Rattle.rebuild.specs.LaneSteps.Runs.{Turn, Progress, LaneRun, progress_after}
 use Rattle.restore_job.specs.Restored.{Unrestored, given_by, missing, restored_file}
 use Rattle.rebuild.specs.declared.error.SkipWhy.{SkipWhy}
 use Rattle.rebuild.specs.Found.{Finding, findings, first_of, keys_in, name_judged, name_opened, recipes_differ, unless_skipped, version_named, version_under}

@@ -25,10 +25,10 @@ use Rattle.user_dedup.proofs.Growing.{Each, GrowsBy, IfCommand, AddsBy, AsksNoDe
 use Rattle.user_dedup.specs.Exec.{Peer, MaySettleAs, Settles, Stays, IsCut, Exec, ExecTold, ExecUntold}
 use Rattle.local_link.specs.CloudServer.Serving.{ReopensAs}
 use Rattle.upload_job.specs.Upload.{FileVersion}
-use Rattle.kept_files.specs.Kept.{Keeps, key_of, AreHarmless}
-use Rattle.kept_files.proofs.Keeping.{keeps_still}
+use Rattle.rebuild.specs.KeptFiles.Kept.{Keeps, key_of, AreHarmless}
+use Rattle.rebuild.proofs.KeptFiles.Keeping.{keeps_still}
 use Rattle.upload_job.specs.Lanes as lanes
-use Rattle.lane_steps.specs.Runs.{Turn, Progress, LaneRun, lane_at, progress_after}
+use Rattle.rebuild.specs.LaneSteps.Runs.{Turn, Progress, LaneRun, lane_at, progress_after}
 use Rattle.rebuild.specs.declared.error.SkipWhy.{SkipWhy}
 use Rattle.rebuild.specs.Found.{Finding}
 use Rattle.rebuild.specs.Rebuilding.{Progressed, lane_of, BringsOne, BringsAll}

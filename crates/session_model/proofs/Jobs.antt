@@ -12,7 +12,7 @@ use Rattle.session.specs.declared.event.Event.{Event}
 use Rattle.session.specs.declared.event.Event.TheVariants as events
 use Rattle.transcript.specs.declared.line.Line.{Line}
 use Rattle.session_model.specs.Vault.{Setting, JobState, Vault, new_job, lanes_at, with_lanes_at, lanes_of, with_lanes}
-use Rattle.lane_steps.specs.Runs.{lane_at}
+use Rattle.rebuild.specs.LaneSteps.Runs.{lane_at}
 use Rattle.session_model.specs.Steps.{Moment, version_of, LaneStep, DropStep, FinishLanes, VStep}
 use Rattle.session_model.specs.Run.{Answered, Turns, script_of}
 use Rattle.session_model.specs.Kept.{upload_of, uploads}

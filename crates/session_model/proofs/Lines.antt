@@ -27,13 +27,13 @@ use Rattle.upload_job.specs.Upload.{FileVersion, work_of}
 use Rattle.upload_job.specs.Lane.{lane_request, news_of}
 use Rattle.upload_job.specs.Lanes.{LaneView}
 use Rattle.upload_job.specs.Lanes as lanes
-use Rattle.lane_steps.specs.Runs.{Turn, Progress, LaneRun, Tell, starting, request_of, progress_after, lane_at}
+use Rattle.rebuild.specs.LaneSteps.Runs.{Turn, Progress, LaneRun, Tell, starting, request_of, progress_after, lane_at}
 use Rattle.restore_job.specs.declared.error.RestoreErr.{RestoreErr}
 use Rattle.rebuild.specs.declared.error.RebuildErr.{RebuildErr}
 use Rattle.rebuild.specs.declared.skips.Skip.{Skip}
 use Rattle.rebuild.specs.declared.skips.Rebuilt.{Rebuilt}
-use Rattle.kept_files.specs.Kept.{Keeps, key_of}
-use Rattle.kept_files.proofs.Keeping.{keeps_still, harmless_all}
+use Rattle.rebuild.specs.KeptFiles.Kept.{Keeps, key_of}
+use Rattle.rebuild.proofs.KeptFiles.Keeping.{keeps_still, harmless_all}
 use Rattle.session.specs.declared.event.Event.{Event}
 use Rattle.session.specs.declared.event.Event.TheVariants as events
 use Rattle.transcript.specs.declared.refusal.Refusal.{Refusal}

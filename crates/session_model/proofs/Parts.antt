@@ -22,7 +22,7 @@ use Rattle.upload_job.specs.declared.news.LaneNews.{LaneNews}
 use Rattle.upload_job.specs.declared.news.LaneNews.TheVariants as lane_news
 use Rattle.upload_job.specs.Lane.{LaneState, Asking, Sending, Committing, Done, Refused, news_of}
 use Rattle.upload_job.specs.Lanes.{with_state}
-use Rattle.lane_steps.specs.Runs.{Turn, Progress, starting, request_of, progress_after, LaneRun, LaneAlong, Tell, lane_at}
+use Rattle.rebuild.specs.LaneSteps.Runs.{Turn, Progress, starting, request_of, progress_after, LaneRun, LaneAlong, Tell, lane_at}
 use Rattle.subset_restore.specs.Subsets.{subsets, IsSubset}
 use Rattle.subset_restore.specs.Going.{sought}
 use Rattle.subset_restore.proofs.Choices.{first_choice, only_choice}

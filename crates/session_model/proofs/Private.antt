@@ -26,7 +26,7 @@ use Rattle.user_dedup.proofs.Replies.{same_reply}
 use Rattle.user_dedup.proofs.Sound.{by_asker}
 use Rattle.user_dedup.proofs.Spending.{full_alone}
 use Rattle.upload_job.specs.Lanes as lanes
-use Rattle.lane_steps.specs.Runs.{Turn, Progress, LaneRun, progress_after}
+use Rattle.rebuild.specs.LaneSteps.Runs.{Turn, Progress, LaneRun, progress_after}
 use Rattle.session.specs.declared.event.Event.{Event}
 use Rattle.session.specs.declared.event.Event.TheVariants as events
 use Rattle.transcript.specs.declared.refusal.Refusal.{Refusal}

@@ -28,8 +28,8 @@ use Rattle.user_dedup.specs.Cloud.{strings_in}
 use Rattle.upload_job.specs.declared.news.LaneNews.TheVariants as lane_news
 use Rattle.upload_job.specs.Upload.{FileVersion, Work, work_of}
 use Rattle.upload_job.specs.Lane.{LaneState, Asking, Sending, Committing, Done, Refused, onward, past_known, lane_request, lane_after, news_of}
-use Rattle.lane_steps.specs.Runs.{Turn, Progress, LaneRun, progress_after}
-use Rattle.kept_files.specs.Kept.{Keeps, key_of}
+use Rattle.rebuild.specs.LaneSteps.Runs.{Turn, Progress, LaneRun, progress_after}
+use Rattle.rebuild.specs.KeptFiles.Kept.{Keeps, key_of}
 use Rattle.rebuild.specs.declared.error.SkipWhy.{SkipWhy}
 use Rattle.rebuild.specs.declared.error.SkipWhy.TheVariants as whys
 use Rattle.rebuild.specs.declared.skips.Rebuilt.{Rebuilt}

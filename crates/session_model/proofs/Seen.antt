@@ -11,7 +11,7 @@ use Rattle.user_dedup.specs.Exec.{Peer}
 use Rattle.user_dedup.proofs.Owned.{contains_here}
 use Rattle.user_dedup.specs.Cloud.{strings_in}
 use Rattle.upload_job.specs.Lanes as lanes
-use Rattle.lane_steps.specs.Runs.{Turn, Progress, LaneRun}
+use Rattle.rebuild.specs.LaneSteps.Runs.{Turn, Progress, LaneRun}
 use Rattle.session.specs.declared.event.Event.{Event}
 use Rattle.session.specs.declared.event.Event.TheVariants as events
 use Rattle.transcript.specs.declared.refusal.Refusal.{Refusal}

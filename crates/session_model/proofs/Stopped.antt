@@ -15,7 +15,7 @@ use Rattle.user_dedup.proofs.Owned.{contains_cases, contains_here, contains_late
 use Rattle.user_dedup.specs.Spending.{full_for}
 use Rattle.upload_job.specs.Upload.{FileVersion, work_of}
 use Rattle.upload_job.specs.Lane.{beginning, lane_request}
-use Rattle.lane_steps.specs.Runs.{Turn}
+use Rattle.rebuild.specs.LaneSteps.Runs.{Turn}
 use Rattle.restore_job.specs.Asking.{MayRead}
 use Rattle.restore_job.specs.declared.error.RestoreErr.TheVariants as restore_errors
 use Rattle.rebuild.specs.declared.error.RebuildErr.{RebuildErr}

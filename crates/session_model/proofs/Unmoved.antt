@@ -23,8 +23,8 @@ use Rattle.rebuild.specs.Rebuilding.{nothing_yet}
 use Rattle.rebuild.proofs.Telling.{lanes_none}
 use Rattle.upload_job.specs.declared.news.LaneNews.TheVariants as lane_news
 use Rattle.upload_job.specs.Lanes.{with_state}
-use Rattle.lane_steps.specs.Runs.{moved, lane_at}
-use Rattle.kept_files.specs.Kept.{key_of}
+use Rattle.rebuild.specs.LaneSteps.Runs.{moved, lane_at}
+use Rattle.rebuild.specs.KeptFiles.Kept.{key_of}
 use Rattle.local_link.specs.Calls.{Armed}
 use Rattle.session.specs.Spelling.{Fits, AreClouds}
 use Rattle.session.specs.declared.event.Event.{Event}

@@ -10,7 +10,7 @@ use Rattle.messages.specs.declared.reply.Reply.{Reply}
 use Rattle.user_dedup.specs.Exec.{Peer, Exec, CountsOn}
 use Rattle.user_dedup.proofs.Owned.{contains_cases, contains_nothing}
 use Rattle.upload_job.specs.Upload.{FileVersion}
-use Rattle.lane_steps.specs.Runs.{Turn, Progress, LaneRun, progress_after}
+use Rattle.rebuild.specs.LaneSteps.Runs.{Turn, Progress, LaneRun, progress_after}
 use Rattle.rebuild.specs.declared.error.SkipWhy.{SkipWhy}
 use Rattle.rebuild.specs.Found.{Finding}
 use Rattle.rebuild.specs.Rebuilding.{Progressed, lane_of, BringsOne, BringsAll}

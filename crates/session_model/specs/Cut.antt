@@ -3,7 +3,7 @@ use Rattle.std.specs.Prelude.{◌≡◌, ◌⊎◌, ℕ, List, [], ◌∷◌, �
 use Rattle.user_dedup.specs.Exec.{Peer}
 use Rattle.upload_job.specs.declared.news.LaneNews.{LaneNews}
 use Rattle.upload_job.specs.Lanes.{with_state}
-use Rattle.lane_steps.specs.Runs.{Turn, Progress, starting, LaneRun, LaneAlong, Tell, lane_at}
+use Rattle.rebuild.specs.LaneSteps.Runs.{Turn, Progress, starting, LaneRun, LaneAlong, Tell, lane_at}
 use Rattle.session_model.specs.Vault.{Setting, Vault, Executes, lanes_of, with_lanes}
 use Rattle.session_model.specs.Steps.{Moment, moment_of}
 

@@ -12,12 +12,12 @@ use Rattle.user_dedup.specs.Cloud.{user_view}
 use Rattle.user_dedup.specs.Dedup.{answer_by_view}
 use Rattle.user_dedup.specs.Requests.{asker}
 use Rattle.user_dedup.specs.Exec.{Peer, MaySettleAs}
-use Rattle.cloud_areas.specs.Standing.{StandsFor}
+use Rattle.local_link.specs.CloudAreas.Standing.{StandsFor}
 use Rattle.local_link.specs.CloudServer.Names.{header_of}
 use Rattle.upload_job.specs.Upload.{FileVersion}
 use Rattle.restore_job.specs.Restored.{recipe_in}
 use Rattle.subset_restore.specs.Subsets.{IsSubset}
-use Rattle.kept_files.specs.Kept.{Keeps, key_of}
+use Rattle.rebuild.specs.KeptFiles.Kept.{Keeps, key_of}
 use Rattle.session.specs.Scripts.{AreLines}
 use Rattle.session.specs.declared.event.Event.{Event}
 use Rattle.session.specs.declared.event.Event.TheVariants as events

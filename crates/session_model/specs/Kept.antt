@@ -6,7 +6,7 @@ use Rattle.caont_rs.specs.Package.{package_of, tag}
 use Rattle.user_dedup.specs.Cloud.{fingerprint, strings_in}
 use Rattle.user_dedup.specs.Exec.{Peer}
 use Rattle.upload_job.specs.Upload.{FileVersion, shares_for}
-use Rattle.kept_files.specs.Kept.{key_of}
+use Rattle.rebuild.specs.KeptFiles.Kept.{key_of}
 use Rattle.session.specs.declared.event.Event.{Event}
 use Rattle.session.specs.declared.event.Event.TheVariants as events
 use Rattle.transcript.specs.declared.line.Line.{Line}

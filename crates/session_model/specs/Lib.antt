@@ -1,9 +1,14 @@
+pub mod CloudAreas
 pub mod CloudServer
 pub mod Cut
 pub mod Faults
 pub mod Headline
 pub mod Kept
+pub mod KeptFiles
+pub mod LaneSteps
 pub mod LocalLink
+pub mod Rebuild
 pub mod Run
 pub mod Steps
+pub mod SubsetRestore
 pub mod Vault

@@ -3,7 +3,7 @@ use Rattle.std.specs.Prelude.{◌≡◌, ℕ, ◌⊎◌, List, [], ◌∷◌, ma
 use Rattle.std.specs.List.{Contains, flat_map}
 use Rattle.user_dedup.specs.declared.command.Command.{Command}
 use Rattle.user_dedup.specs.Exec.{Peer, MaySettleAs}
-use Rattle.cloud_areas.specs.Peers.{MayBecome}
+use Rattle.local_link.specs.CloudAreas.Peers.{MayBecome}
 use Rattle.session.specs.declared.event.Event.{Event}
 use Rattle.transcript.specs.declared.line.Line.{Line}
 use Rattle.session_model.specs.Vault.{Setting, Vault, served_at}

@@ -24,7 +24,7 @@ use Rattle.upload_job.specs.Lane.{LaneState, Done, news_of}
 use Rattle.upload_job.specs.Upload.{FileVersion}
 use Rattle.upload_job.specs.Lanes.{LaneView, with_state}
 use Rattle.upload_job.specs.Lanes as lanes
-use Rattle.lane_steps.specs.Runs.{Turn, Progress, starting, moved, LaneRun, Tell, lane_at}
+use Rattle.rebuild.specs.LaneSteps.Runs.{Turn, Progress, starting, moved, LaneRun, Tell, lane_at}
 use Rattle.restore_job.specs.declared.error.RestoreErr.{RestoreErr}
 use Rattle.restore_job.specs.Asking.{OnlyRead, AreRead, is_lost}
 use Rattle.restore_job.specs.Reading.{Ends}
@@ -33,7 +33,7 @@ use Rattle.subset_restore.specs.Subsets.{subsets}
 use Rattle.subset_restore.specs.Ends.{Sought, outcome_of, any_outcome, JustRestores, GivesNone}
 use Rattle.subset_restore.specs.Going.{sought}
 use Rattle.subset_restore.specs.Refusals.{refusal_of}
-use Rattle.kept_files.specs.Kept.{key_of}
+use Rattle.rebuild.specs.KeptFiles.Kept.{key_of}
 use Rattle.local_link.specs.Calls.{Armed}
 use Rattle.rebuild.specs.declared.error.SkipWhy.{SkipWhy}
 use Rattle.rebuild.specs.declared.error.SkipWhy.TheVariants as whys

@@ -11,7 +11,7 @@ use Rattle.user_dedup.specs.Exec.{Peer, Exec}
 use Rattle.user_dedup.specs.Served.{served_by}
 use Rattle.upload_job.specs.Upload.{FileVersion}
 use Rattle.upload_job.specs.Lanes.{LaneView, lanes_begun}
-use Rattle.lane_steps.specs.Runs.{Turn}
+use Rattle.rebuild.specs.LaneSteps.Runs.{Turn}
 use Rattle.local_link.specs.Calls.{no_commands}
 
 -- what holds for a whole session. A cloud is told where its disk returns what was written

@@ -15,7 +15,7 @@ ghost use Rattle.user_dedup.specs.Requests.{asker};
 ghost use Rattle.user_dedup.specs.Exec.{Peer};
 ghost use Rattle.user_dedup.specs.Served.{served_by};
 ghost use Rattle.user_dedup.specs.Spending.{HoldsItself};
-ghost use Rattle.lane_steps.specs.Runs.{Turn};
+ghost use Rattle.rebuild.specs.LaneSteps.Runs.{Turn};
 ghost use Rattle.rebuild.specs.Rebuilding.{IsCut};
 ghost use Rattle.rebuild.specs.Turns.{OwnLanes};
 ghost use Rattle.session.specs.Spelling.{AreClouds, AreSources, Fits};

@@ -12,3 +12,4 @@ mod writing;
 
 pub use resuming::resume;
 pub use spooling::{SpooledFile, spool};
+pub use upload_spool::{Spool, SpoolErr};

@@ -13,9 +13,9 @@ use Rattle.half_journal.specs.declared.errors.OpenErr.TheVariants.{Fault, NotBeg
 use Rattle.half_journal.specs.declared.journal.Stage.TheVariants.{Reading}
 use Rattle.half_journal.specs.Openings.{OnFault}
 use Rattle.half_journal.specs.States.{State, IsReading}
-use Rattle.cloud_memory.specs.declared.cloud.CloudMemory.{CloudMemory}
-use Rattle.cloud_memory.specs.Memory.{Memory}
-use Rattle.cloud_memory.specs.Rooms.{memory_of, HasRooms}
+use Rattle.record_checks.specs.CloudMemory.cloud.CloudMemory.{CloudMemory}
+use Rattle.record_checks.specs.CloudMemory.Memory.{Memory}
+use Rattle.record_checks.specs.CloudMemory.Rooms.{memory_of, HasRooms}
 use Rattle.record_checks.specs.declared.ground.Ground.{Ground}
 use Rattle.record_checks.specs.declared.taking.Taking.{Taking}
 use Rattle.store_opening.specs.Exact.{Closes, number_behind}

@@ -7,7 +7,7 @@ use Rattle.spent_table.specs.Spending.{reached}
 use Rattle.half_journal.specs.declared.errors.OpenErr.{OpenErr}
 use Rattle.half_journal.specs.declared.errors.OpenErr.TheVariants.{Damaged}
 use Rattle.half_journal.specs.Openings.{OnFault}
-use Rattle.cloud_memory.specs.Memory.{Memory}
+use Rattle.record_checks.specs.CloudMemory.Memory.{Memory}
 use Rattle.record_checks.specs.declared.damage.Damage.{Damage}
 use Rattle.record_checks.specs.declared.ground.Ground.{Ground}
 use Rattle.record_checks.specs.declared.taking.Taking.{Taking}

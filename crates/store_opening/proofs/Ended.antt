@@ -7,10 +7,10 @@ use Rattle.half_journal.specs.declared.errors.OpenErr.TheVariants.{Fault, NotBeg
 use Rattle.half_journal.specs.declared.journal.Stage.{Stage}
 use Rattle.half_journal.specs.Openings.{OnFault}
 use Rattle.half_journal.specs.States.{State}
-use Rattle.cloud_memory.specs.Fitting.{FitsRecords}
-use Rattle.cloud_memory.specs.Memory.{Memory}
-use Rattle.cloud_memory.specs.Steps.{begun}
-use Rattle.cloud_memory.proofs.Fitting.{begun_fits}
+use Rattle.record_checks.specs.CloudMemory.Fitting.{FitsRecords}
+use Rattle.record_checks.specs.CloudMemory.Memory.{Memory}
+use Rattle.record_checks.specs.CloudMemory.Steps.{begun}
+use Rattle.record_checks.proofs.MemoryProofs.Fitting.{begun_fits}
 use Rattle.record_checks.specs.declared.ground.Ground.{Ground}
 use Rattle.record_checks.specs.declared.taking.Taking.{Taking}
 use Rattle.record_checks.specs.Noting.{nothing_noted}

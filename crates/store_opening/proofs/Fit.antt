@@ -8,10 +8,10 @@ use Rattle.record_body.specs.declared.body.PutItem.{PutItem}
 use Rattle.record_body.specs.Spelling.{FitsPlaced, FitsItem}
 use Rattle.cd_base.specs.declared.place.Place.{Place}
 use Rattle.spent_table.specs.declared.Spent.{Spent}
-use Rattle.cloud_memory.specs.Fitting.{FitsPart, FitsRecords}
-use Rattle.cloud_memory.specs.Memory.{Memory}
-use Rattle.cloud_memory.specs.Steps.{with_items}
-use Rattle.cloud_memory.proofs.Fitting.{filled_fits, spends_fits}
+use Rattle.record_checks.specs.CloudMemory.Fitting.{FitsPart, FitsRecords}
+use Rattle.record_checks.specs.CloudMemory.Memory.{Memory}
+use Rattle.record_checks.specs.CloudMemory.Steps.{with_items}
+use Rattle.record_checks.proofs.MemoryProofs.Fitting.{filled_fits, spends_fits}
 use Rattle.record_checks.specs.Checks.{spends_behind}
 
 abbrev place_or : Place → Option Place → Place

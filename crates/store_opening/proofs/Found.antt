@@ -18,7 +18,7 @@ use Rattle.user_dedup.specs.declared.command.Command.{Command}
 use Rattle.user_dedup.specs.Cloud.{counted}
 use Rattle.cloud_areas.specs.Standing.{where_of, region_in, number_at, HasList, StandsFor}
 use Rattle.cloud_disk.specs.Disk.{Disk, AreEnds, IsOn}
-use Rattle.cloud_memory.specs.Memory.{Memory}
+use Rattle.record_checks.specs.CloudMemory.Memory.{Memory}
 use Rattle.record_laws.specs.Leaving.{MayHold, IsLeftIn}
 use Rattle.record_laws.proofs.Chain.{left_ends, left_stands}
 use Rattle.store_opening.specs.Exact.{ReplaysAll, number_behind, Opens, Unbegun, NoStart, Other, New, Read}

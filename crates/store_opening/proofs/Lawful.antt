@@ -21,7 +21,7 @@ use Rattle.record_bodies.specs.Spelling.{Body, body_bytes, FitsBody}
 use Rattle.user_dedup.specs.declared.command.Command.{Command}
 use Rattle.cloud_areas.specs.Standing.{Chain, region_in, IsChain, Holds}
 use Rattle.cloud_areas.proofs.Room.{half_is_enough}
-use Rattle.cloud_memory.specs.Memory.{Memory}
+use Rattle.record_checks.specs.CloudMemory.Memory.{Memory}
 use Rattle.record_checks.specs.declared.damage.Damage.{Damage}
 use Rattle.record_checks.specs.declared.ground.Ground.{Ground}
 use Rattle.record_checks.specs.declared.taking.Taking.{Taking}

@@ -11,8 +11,8 @@ use Rattle.journal_halves.specs.Journals.{Where}
 use Rattle.journal_halves.specs.Findings.{part_of}
 use Rattle.half_journal.specs.declared.errors.OpenErr.{OpenErr}
 use Rattle.half_journal.specs.States.{State, IsReading}
-use Rattle.cloud_memory.specs.Memory.{Memory}
-use Rattle.cloud_memory.specs.Steps.{begun}
+use Rattle.record_checks.specs.CloudMemory.Memory.{Memory}
+use Rattle.record_checks.specs.CloudMemory.Steps.{begun}
 use Rattle.record_checks.specs.declared.ground.Ground.{Ground}
 use Rattle.record_checks.specs.Noting.{nothing_noted}
 use Rattle.store_opening.specs.Exact.{Replays, ReplaysAll, ground_of}

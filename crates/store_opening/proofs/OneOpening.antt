@@ -16,7 +16,7 @@ use Rattle.journal_start.specs.Spelling.{records_of}
 use Rattle.journal_halves.specs.Halves.{half_len}
 use Rattle.half_journal.specs.declared.errors.OpenErr.{OpenErr}
 use Rattle.half_journal.specs.declared.errors.OpenErr.TheVariants.{Damaged, OtherStore}
-use Rattle.cloud_memory.specs.Memory.{Memory}
+use Rattle.record_checks.specs.CloudMemory.Memory.{Memory}
 use Rattle.record_checks.specs.declared.damage.Damage.{Damage}
 use Rattle.record_checks.specs.declared.ground.Ground.{Ground}
 use Rattle.record_checks.specs.declared.taking.Taking.{Taking}

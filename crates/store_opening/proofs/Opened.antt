@@ -25,8 +25,8 @@ use Rattle.journal_halves.specs.Beginnings.{new_of}
 use Rattle.half_journal.specs.States as half_states
 use Rattle.user_dedup.specs.declared.command.Command.{Command}
 use Rattle.cloud_areas.specs.Standing.{StandsFor}
-use Rattle.cloud_memory.specs.Memory.{Memory}
-use Rattle.cloud_memory.specs.Steps.{begun}
+use Rattle.record_checks.specs.CloudMemory.Memory.{Memory}
+use Rattle.record_checks.specs.CloudMemory.Steps.{begun}
 use Rattle.record_checks.specs.declared.ground.Ground.{Ground}
 use Rattle.record_checks.specs.declared.taking.Taking.{Taking}
 use Rattle.store_opening.specs.Exact.{Closes, Within, SharesPast, RecipesPast, number_behind, Replays, Ended, Early, Taken, Refused, Broken, ReplaysAll, Opens, Unbegun, NoStart, Other, New, Read}

@@ -3,7 +3,7 @@ use Rattle.std.proofs.Common.{◌≡◌, ℕ, Bool, List, [], take, drop, Result
 use Rattle.cd_base.specs.declared.place.Place.{Place}
 use Rattle.half_journal.specs.declared.errors.OpenErr.{OpenErr}
 use Rattle.half_journal.specs.Openings.{OnFault}
-use Rattle.cloud_memory.specs.Memory.{Memory}
+use Rattle.record_checks.specs.CloudMemory.Memory.{Memory}
 use Rattle.record_checks.specs.declared.ground.Ground.{Ground}
 use Rattle.record_checks.specs.declared.taking.Taking.{Taking}
 use Rattle.record_checks.specs.Checks.{AsksFor}

@@ -10,8 +10,8 @@ use Rattle.spent_table.specs.declared.Spent.{Spent}
 use Rattle.spent_table.specs.Spending.{nothing, spent_by, both}
 use Rattle.user_dedup.specs.Spending.{limits_of}
 use Rattle.half_journal.specs.declared.errors.OpenErr.{OpenErr}
-use Rattle.cloud_memory.specs.Memory.{Memory}
-use Rattle.cloud_memory.specs.Steps.{with_item, with_items, with_kept, with_kepts}
+use Rattle.record_checks.specs.CloudMemory.Memory.{Memory}
+use Rattle.record_checks.specs.CloudMemory.Steps.{with_item, with_items, with_kept, with_kepts}
 use Rattle.record_checks.specs.declared.ground.Ground.{Ground}
 use Rattle.record_checks.specs.declared.taking.Taking.{Taking}
 use Rattle.record_checks.specs.Checks.{spends_behind}

@@ -17,15 +17,15 @@ use Rattle.user_dedup.specs.Spending as limits
 use Rattle.user_dedup.specs.Spending.{limits_of, refusal}
 use Rattle.cd_base.specs.declared.rooms.Room.TheVariants as names
 use Rattle.cloud_areas.specs.Placing.{region_start}
-use Rattle.cloud_memory.specs.declared.rooms.New.{New}
-use Rattle.cloud_memory.specs.Memory.{Memory}
-use Rattle.cloud_memory.specs.News.{AreNewTo}
-use Rattle.cloud_memory.specs.Rooms.{full_news, full_commit, full_files}
-use Rattle.cloud_memory.specs.Steps.{with_items, with_put, with_entry, with_commit, without_entry, parts_of, spent_on, placed_len, held_len}
-use Rattle.cloud_memory.proofs.Adding.{parts_count, cost_held}
-use Rattle.cloud_memory.proofs.EndsLaw.{put_near, place_near}
-use Rattle.cloud_memory.proofs.Puts.{recipes_end_stays}
-use Rattle.cloud_memory.proofs.Taking.{fits_put, none_left, refusal_none, limit_is}
+use Rattle.record_checks.specs.CloudMemory.rooms.New.{New}
+use Rattle.record_checks.specs.CloudMemory.Memory.{Memory}
+use Rattle.record_checks.specs.CloudMemory.News.{AreNewTo}
+use Rattle.record_checks.specs.CloudMemory.Rooms.{full_news, full_commit, full_files}
+use Rattle.record_checks.specs.CloudMemory.Steps.{with_items, with_put, with_entry, with_commit, without_entry, parts_of, spent_on, placed_len, held_len}
+use Rattle.record_checks.proofs.MemoryProofs.Adding.{parts_count, cost_held}
+use Rattle.record_checks.proofs.MemoryProofs.EndsLaw.{put_near, place_near}
+use Rattle.record_checks.proofs.MemoryProofs.Puts.{recipes_end_stays}
+use Rattle.record_checks.proofs.MemoryProofs.Taking.{fits_put, none_left, refusal_none, limit_is}
 use Rattle.store_opening.specs.Roomy.{SpendWithin, IsRoomy}
 use Rattle.store_opening.proofs.Roomy.{items_spent, behind_within}
 

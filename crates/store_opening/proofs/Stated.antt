@@ -9,8 +9,8 @@ use Rattle.cd_base.specs.declared.place.Place.{Place}
 use Rattle.user_dedup.specs.declared.command.Command.{Command}
 use Rattle.user_dedup.specs.Cloud.{counted}
 use Rattle.cloud_areas.specs.Standing.{Chain, region_in, number_at, Holds, HasChainOf, StandsFor}
-use Rattle.cloud_memory.specs.Memory.{Memory}
-use Rattle.cloud_memory.specs.Steps.{begun}
+use Rattle.record_checks.specs.CloudMemory.Memory.{Memory}
+use Rattle.record_checks.specs.CloudMemory.Steps.{begun}
 use Rattle.record_checks.specs.declared.taking.Taking.{Taking}
 use Rattle.record_checks.specs.Noting.{IsNoted}
 use Rattle.record_laws.specs.Leaving.{checkpoint_records, front_left}

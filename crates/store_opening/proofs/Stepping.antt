@@ -18,7 +18,7 @@ use Rattle.half_journal.specs.declared.errors.OpenErr.TheVariants.{Fault, NotBeg
 use Rattle.half_journal.specs.declared.journal.Stage.{Stage}
 use Rattle.half_journal.specs.States.{State, IsReading, IsEnded}
 use Rattle.half_journal.specs.Outcomes.{records_place, IsDamaged}
-use Rattle.cloud_memory.specs.Memory.{Memory}
+use Rattle.record_checks.specs.CloudMemory.Memory.{Memory}
 use Rattle.record_checks.specs.declared.ground.Ground.{Ground}
 use Rattle.record_checks.specs.declared.taking.Taking.{Taking}
 use Rattle.record_checks.specs.Judging as judging

@@ -13,15 +13,15 @@ use Rattle.cd_base.specs.declared.place.Place.{Place}
 use Rattle.spent_table.specs.declared.Spent.{Spent}
 use Rattle.user_dedup.specs.Requests.{fps_of}
 use Rattle.cloud_areas.specs.Placing.{end_of}
-use Rattle.cloud_memory.specs.Memory.{Memory}
-use Rattle.cloud_memory.specs.Steps.{end_with, with_entry, with_item, with_items, with_kept, with_kepts, spent_on}
+use Rattle.record_checks.specs.CloudMemory.Memory.{Memory}
+use Rattle.record_checks.specs.CloudMemory.Steps.{end_with, with_entry, with_item, with_items, with_kept, with_kepts, spent_on}
 use Rattle.record_checks.specs.declared.damage.Damage.{Damage}
 use Rattle.record_checks.specs.declared.ground.Ground.{Ground}
 use Rattle.record_checks.specs.declared.taking.Taking.{Taking}
 use Rattle.record_checks.specs.Checks.{damaged_at, put_items, kept_items, place_at, spends_behind, PutFits, CommitFits}
 use Rattle.record_checks.specs.Judging.{put_left, JudgesBody, PutFault, PutPast, PutTaken, Unplaced, Entered, NotWhole, CommitPast, CommitTaken, NoEntry, NotNamed, Deleted, KeptDamaged, KeptPast, KeptTaken, SpentPast, SpentTaken, Judges, Outside, Unread, Damaged, Taken}
 use Rattle.record_checks.specs.Noting.{farther_field, put_field, kept_field, noted, IsNoted}
-use Rattle.cloud_memory.proofs.Fitting.{entry_fits, delete_fits, kepts_fit, spent_fits}
+use Rattle.record_checks.proofs.MemoryProofs.Fitting.{entry_fits, delete_fits, kepts_fit, spent_fits}
 use Rattle.store_opening.specs.Roomy.{SpendWithin}
 use Rattle.store_opening.specs.Steps.{IsTraced}
 use Rattle.store_opening.proofs.Fit.{behind_fits, items_fit}

@@ -19,8 +19,8 @@ use Rattle.journal_halves.specs.Beginnings.{IsUnbegun}
 use Rattle.half_journal.specs.Outcomes.{records_place}
 use Rattle.cloud_areas.specs.Placing.{region_start}
 use Rattle.cloud_areas.specs.Chains.{least_shares, least_recipes}
-use Rattle.cloud_memory.specs.Memory.{Memory}
-use Rattle.cloud_memory.specs.Steps.{begun}
+use Rattle.record_checks.specs.CloudMemory.Memory.{Memory}
+use Rattle.record_checks.specs.CloudMemory.Steps.{begun}
 use Rattle.record_checks.specs.declared.damage.Damage.{Damage}
 use Rattle.record_checks.specs.declared.ground.Ground.{Ground}
 use Rattle.record_checks.specs.declared.taking.Taking.{Taking}

@@ -1,6 +1,9 @@
-pub mod Synced
-pub mod Starts
+pub mod CloudMemory
 pub mod Exact
-pub mod Steps
-pub mod Spared
+pub mod RecordChecks
+pub mod RecordLaws
 pub mod Roomy
+pub mod Spared
+pub mod Starts
+pub mod Steps
+pub mod Synced

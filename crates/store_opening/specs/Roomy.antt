@@ -5,7 +5,7 @@ use Rattle.journal_start.specs.declared.rooms.Rooms.{Rooms}
 use Rattle.spent_table.specs.declared.Spent.{Spent}
 use Rattle.spent_table.specs.Spending.{spent_by}
 use Rattle.user_dedup.specs.Spending.{limits_of}
-use Rattle.cloud_memory.specs.Memory.{Memory}
+use Rattle.record_checks.specs.CloudMemory.Memory.{Memory}
 use Rattle.record_laws.specs.Leaving.{EndsWithinRows}
 
 -- By these rows each user has spent no more than it may.

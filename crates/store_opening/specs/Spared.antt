@@ -16,7 +16,7 @@ use Rattle.half_journal.specs.States.{State, IsEnded}
 use Rattle.user_dedup.specs.declared.command.Command.{Command}
 use Rattle.cloud_areas.specs.Standing.{Chain, region_in, StandsFor}
 use Rattle.cloud_disk.specs.Disk.{Disk, IsOn}
-use Rattle.cloud_memory.specs.Memory.{Memory, Remembers, IsPlacedBy, HasEnds, Stand}
+use Rattle.record_checks.specs.CloudMemory.Memory.{Memory, Remembers, IsPlacedBy, HasEnds, Stand}
 use Rattle.store_opening.specs.Exact.{ReplaysAll}
 use Rattle.store_opening.specs.Synced.{AreSynced, BeginsSynced}
 

@@ -15,8 +15,8 @@ use Rattle.cloud_areas.specs.Placing.{region_start}
 use Rattle.cloud_areas.specs.Standing.{Chain, region_in}
 use Rattle.cloud_disk.specs.Disk.{IsRead}
 use Rattle.record_laws.specs.Leaving.{IsLeftIn}
-use Rattle.cloud_memory.specs.Memory.{Memory}
-use Rattle.cloud_memory.specs.Fitting.{FitsRecords}
+use Rattle.record_checks.specs.CloudMemory.Memory.{Memory}
+use Rattle.record_checks.specs.CloudMemory.Fitting.{FitsRecords}
 use Rattle.record_checks.specs.declared.ground.Ground.{Ground}
 use Rattle.record_checks.specs.declared.taking.Taking.{Taking}
 use Rattle.record_checks.specs.Judging.{Judges}

@@ -4,15 +4,14 @@ ghost use Rattle.std.specs.Prelude.{◌≡◌, ◌↔◌, ◌+◌, ◌*◌, ◌�
 ghost use Rattle.cloud_areas.specs.Placing.{region_start};
 ghost use Rattle.half_journal.specs.declared.errors.OpenErr.TheVariants as answers;
 ghost use Rattle.half_journal.specs.Openings.{OnFault};
-ghost use Rattle.cloud_memory.specs.Rooms.{memory_of};
+ghost use Rattle.record_checks.specs.CloudMemory.Rooms.{memory_of};
 ghost use Rattle.record_checks.specs.declared.damage.Damage.{Damage as Field};
 ghost use Rattle.store_opening.specs.Exact.{Closes, shares_bound, recipes_bound, number_behind};
 ghost use Rattle.store_opening.specs.Steps.{IsTraced, IsOfRecords};
 
-use cloud_memory::CloudMemory;
 use half_journal::OpenErr;
 use journal_start::Start;
-use record_checks::{Damage, Ground, Taking};
+use record_checks::{CloudMemory, Damage, Ground, Taking};
 
 // The bytes of a region of an area of blobs.
 const REGION: u64 = 34_359_738_368;

@@ -11,9 +11,9 @@ ghost use Rattle.half_journal.specs.declared.journal.Stage.{Stage};
 ghost use Rattle.half_journal.specs.Openings.{OnFault};
 ghost use Rattle.half_journal.specs.Outcomes.{stage_after};
 ghost use Rattle.half_journal.specs.States.{state_of, IsReading, IsEnded};
-ghost use Rattle.cloud_memory.specs.Fitting.{FitsRecords};
-ghost use Rattle.cloud_memory.specs.Rooms.{memory_of, HasRooms};
-ghost use Rattle.cloud_memory.specs.Steps.{begun};
+ghost use Rattle.record_checks.specs.CloudMemory.Fitting.{FitsRecords};
+ghost use Rattle.record_checks.specs.CloudMemory.Rooms.{memory_of, HasRooms};
+ghost use Rattle.record_checks.specs.CloudMemory.Steps.{begun};
 ghost use Rattle.record_checks.specs.Noting.{nothing_noted};
 ghost use Rattle.store_opening.specs.Roomy.{IsRoomy};
 ghost use Rattle.store_opening.specs.Exact.{ReplaysAll, Closes, number_behind};
@@ -23,10 +23,9 @@ use crate::ends::{close, number_of};
 use crate::records::take_all;
 use cd_base::CloudNo;
 use cd_edges::{Area, Failed, Shelf};
-use cloud_memory::CloudMemory;
 use half_journal::{Journal, OpenErr};
 use journal_start::Header;
-use record_checks::{Ground, Taking};
+use record_checks::{CloudMemory, Ground, Taking};
 
 // What is known before the records, whose blobs lie in this region.
 fn survey<V: Shelf>(

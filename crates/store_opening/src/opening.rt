@@ -13,8 +13,8 @@ ghost use Rattle.half_journal.specs.Openings.{OnFault, HasBegun};
 ghost use Rattle.half_journal.specs.Outcomes.{stage_after};
 ghost use Rattle.half_journal.specs.States.{state_of};
 ghost use Rattle.cloud_disk.specs.Disk.{ended_at};
-ghost use Rattle.cloud_memory.specs.Fitting.{FitsRecords};
-ghost use Rattle.cloud_memory.specs.Rooms.{memory_of, HasRooms};
+ghost use Rattle.record_checks.specs.CloudMemory.Fitting.{FitsRecords};
+ghost use Rattle.record_checks.specs.CloudMemory.Rooms.{memory_of, HasRooms};
 ghost use Rattle.store_opening.specs.Exact.{Opens};
 ghost use Rattle.store_opening.specs.Roomy.{IsRoomy};
 ghost use Rattle.store_opening.specs.Spared.{Spares, KeepsLists, IsReadWhole, IsFor, IsLoaded, MayBegin, IsOkOrFault};
@@ -31,9 +31,9 @@ use cd_base::CloudNo;
 use cd_edges::Shelf;
 use cloud_areas::laws::{law_of_numbers, law_of_standing};
 use cloud_disk::CloudDisk;
-use cloud_memory::CloudMemory;
 use half_journal::{Journal, OpenErr};
 use journal_start::Header;
+use record_checks::CloudMemory;
 use record_laws::taking::{law_of_fronts, law_of_lawful_records};
 
 // Opens the journal of synced areas or begins it, and takes each record into the memory. After an Err the journal is shut.

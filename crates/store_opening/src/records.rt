@@ -12,16 +12,15 @@ ghost use Rattle.half_journal.specs.Outcomes.{stage_after};
 ghost use Rattle.half_journal.specs.States.{state_of, IsReading};
 ghost use Rattle.journal_start.specs.Spelling.{records_of};
 ghost use Rattle.journal_halves.specs.Journals.{Where};
-ghost use Rattle.cloud_memory.specs.Rooms.{memory_of, HasRooms};
+ghost use Rattle.record_checks.specs.CloudMemory.Rooms.{memory_of, HasRooms};
 ghost use Rattle.record_checks.specs.Judging.{Judges};
 ghost use Rattle.record_checks.specs.Noting.{IsNoted};
 ghost use Rattle.store_opening.specs.Steps.{BodyAs, OneAs, NextAs, AllAs, IsTraced, IsOfRecords, OnTrue, stage_of};
 
 use cd_base::CloudNo;
 use cd_edges::{Area, Failed, Shelf};
-use cloud_memory::CloudMemory;
 use half_journal::{Journal, JournalErr, OpenErr};
-use record_checks::{Damage, Ground, Taking, recipe_of, take};
+use record_checks::{CloudMemory, Damage, Ground, Taking, recipe_of, take};
 
 // Takes the record with this body, which begins at a place of the journal, with these bytes where its recipe lies.
 fn take_bytes(

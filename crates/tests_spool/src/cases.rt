@@ -3,10 +3,10 @@
 use cd_base::{CloudNo, Clouds, NoMemory, Shape, UserId, Version};
 use cd_edges::{Area, Failed, Shelf};
 use cd_fakes::MemShelf;
+use spool_command::{Spool, SpoolErr};
 use std::alloc::Global;
 use std::test::Fail;
 use upload_job::Job;
-use upload_spool::{Spool, SpoolErr};
 
 pub(crate) const ZERO: CloudNo = CloudNo(0);
 

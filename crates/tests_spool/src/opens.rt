@@ -4,10 +4,10 @@ use crate::cases::{ZERO, begun};
 use cd_base::{Bytes, CloudNo, Shape};
 use cd_edges::{Area, Shelf};
 use cd_fakes::MemShelf;
+use spool_command::{Spool, SpoolErr};
 use std::alloc::Global;
 use std::test::Fail;
 use upload_job::Job;
-use upload_spool::{Spool, SpoolErr};
 
 // Whether the lanes of these numbers, of four, have something to ask, as a sum of powers of two.
 fn asking(alloc: Global, job: &mut Job) -> u8 {

@@ -7,9 +7,8 @@ ghost use Rattle.open_store.specs.Store.{IsSettled};
 
 use cd_base::{CloudNo, Fp, NoMemory, Shape, Tag, UserId, Version, sha256};
 use cd_fakes::MemShelf;
-use cloud_memory::New;
 use journal_start::{Header, Rooms};
-use open_store::OpenStore;
+use open_store::{New, OpenStore};
 use recipe::RecipeView;
 use std::alloc::Global;
 

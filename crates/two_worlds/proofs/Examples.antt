@@ -17,7 +17,7 @@ use Rattle.user_dedup.specs.Cloud.{strings_in}
 use Rattle.user_dedup.specs.Exec.{Peer}
 use Rattle.user_dedup.proofs.Owned.{contains_cases, contains_nothing}
 use Rattle.upload_job.specs.Upload.{FileVersion, shares_for}
-use Rattle.lane_steps.specs.Runs.{Turn}
+use Rattle.session_model.specs.LaneSteps.Runs.{Turn}
 use Rattle.session_model.specs.LocalLink.Calls.{no_commands}
 use Rattle.session.specs.declared.event.Event.{Event}
 use Rattle.session.specs.declared.event.Event.TheVariants as events

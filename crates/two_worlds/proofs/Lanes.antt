@@ -16,7 +16,7 @@ use Rattle.upload_job.specs.Upload.{FileVersion, Work}
 use Rattle.upload_job.specs.Lane.{news_of}
 use Rattle.upload_job.specs.Lanes.{LaneView, with_state}
 use Rattle.upload_job.specs.Lanes as lanes
-use Rattle.lane_steps.specs.Runs.{Turn, Progress, LaneRun, Tell, starting, lane_at, moved, request_of}
+use Rattle.session_model.specs.LaneSteps.Runs.{Turn, Progress, LaneRun, Tell, starting, lane_at, moved, request_of}
 use Rattle.transcript.specs.declared.line.Line.{Line}
 use Rattle.transcript.specs.declared.line.Line.TheVariants as lines
 use Rattle.session_model.specs.Vault.{Setting, JobState, Vault, Executes, lanes_of, with_lanes}

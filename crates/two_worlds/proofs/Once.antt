@@ -17,7 +17,7 @@ use Rattle.user_dedup.proofs.Owned.{contains_here, contains_later}
 use Rattle.upload_job.specs.declared.news.LaneNews.{LaneNews}
 use Rattle.upload_job.specs.Lane.{news_of}
 use Rattle.upload_job.specs.Lanes.{LaneView, with_state}
-use Rattle.lane_steps.specs.Runs.{Turn, Progress, LaneRun, Tell, starting, lane_at, moved, request_of, progress_after}
+use Rattle.session_model.specs.LaneSteps.Runs.{Turn, Progress, LaneRun, Tell, starting, lane_at, moved, request_of, progress_after}
 use Rattle.restore_job.specs.declared.error.RestoreErr.{RestoreErr}
 use Rattle.restore_job.specs.declared.error.RestoreErr.TheVariants as errors
 use Rattle.restore_job.specs.Asking.{OnlyRead, is_lost}
@@ -25,8 +25,8 @@ use Rattle.restore_job.specs.Reading.{Ends}
 use Rattle.restore_job.specs.Restored
 use Rattle.restore_job.specs.Restored.{Unrestored}
 use Rattle.caont_rs.specs.declared.opening.RecoverErr.TheVariants as opening
-use Rattle.subset_restore.specs.Ends.{any_outcome}
-use Rattle.subset_restore.specs.Going.{sought}
+use Rattle.session_model.specs.SubsetRestore.Ends.{any_outcome}
+use Rattle.session_model.specs.SubsetRestore.Going.{sought}
 use Rattle.transcript.specs.declared.refusal.Refusal.{Refusal}
 use Rattle.transcript.specs.declared.refusal.Refusal.TheVariants as refusals
 use Rattle.transcript.specs.declared.line.Line.{Line}

@@ -16,7 +16,7 @@ use Rattle.user_dedup.proofs.Owned.{contains_cases, contains_nothing}
 use Rattle.user_dedup.specs.Cloud.{counted}
 use Rattle.session_model.specs.CloudServer.Serving.{ReopensAs}
 use Rattle.session_model.specs.LocalLink.Calls.{Armed}
-use Rattle.kept_files.specs.Kept.{key_of}
+use Rattle.session_model.specs.KeptFiles.Kept.{key_of}
 use Rattle.upload_job.specs.Lanes as lanes
 use Rattle.session.specs.declared.event.Event.{Event}
 use Rattle.session.specs.declared.event.Event.TheVariants as events

@@ -18,7 +18,7 @@ use Rattle.upload_job.specs.declared.news.LaneNews.{LaneNews}
 use Rattle.upload_job.specs.Upload.{Work}
 use Rattle.upload_job.specs.Lane.{LaneState, Asking, Sending, Committing, Done, Refused, lane_request, unflagged}
 use Rattle.upload_job.specs.Lanes.{LaneView}
-use Rattle.lane_steps.specs.Runs.{Turn, Progress, LaneRun, Tell, progress_after, moved}
+use Rattle.session_model.specs.LaneSteps.Runs.{Turn, Progress, LaneRun, Tell, progress_after, moved}
 use Rattle.session_model.specs.Vault.{Setting, Vault, Executes, served_at}
 use Rattle.session_model.specs.Steps.{Moment, executed, moment_of}
 use Rattle.two_worlds.specs.Worlds.{sent_strings}

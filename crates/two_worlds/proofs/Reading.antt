@@ -17,17 +17,17 @@ use Rattle.user_dedup.specs.Cloud.{strings_in}
 use Rattle.user_dedup.specs.Requests.{asker}
 use Rattle.user_dedup.specs.Exec.{Peer}
 use Rattle.user_dedup.proofs.Owned.{contains_here, contains_later, contains_nothing, contains_cases}
-use Rattle.lane_steps.specs.Runs.{Turn}
+use Rattle.session_model.specs.LaneSteps.Runs.{Turn}
 use Rattle.restore_job.specs.declared.error.RestoreErr.{RestoreErr}
 use Rattle.restore_job.specs.declared.error.RestoreErr.TheVariants as errors
 use Rattle.restore_job.specs.Asking.{Reads, OnlyRead, AreRead, StoppedAt}
 use Rattle.restore_job.specs.Reading.{Ends, ReadsBy}
 use Rattle.restore_job.specs.Refusals.{Names, Causes}
 use Rattle.restore_job.specs.Restored.{Unrestored}
-use Rattle.subset_restore.specs.Ends.{outcome_of, any_outcome}
-use Rattle.subset_restore.specs.Going.{sought}
-use Rattle.subset_restore.specs.Subsets.{subsets}
-use Rattle.kept_files.specs.Kept.{key_of}
+use Rattle.session_model.specs.SubsetRestore.Ends.{outcome_of, any_outcome}
+use Rattle.session_model.specs.SubsetRestore.Going.{sought}
+use Rattle.session_model.specs.SubsetRestore.Subsets.{subsets}
+use Rattle.session_model.specs.KeptFiles.Kept.{key_of}
 use Rattle.transcript.specs.declared.refusal.Refusal.{Refusal}
 use Rattle.transcript.specs.declared.line.Line.{Line}
 use Rattle.transcript.specs.declared.line.Line.TheVariants as lines

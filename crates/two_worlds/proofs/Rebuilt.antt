@@ -24,25 +24,25 @@ use Rattle.user_dedup.specs.Exec.{Peer, Exec, Settles}
 use Rattle.user_dedup.proofs.Owned.{contains_here, contains_later, contains_nothing, contains_cases}
 use Rattle.user_dedup.proofs.Views.{strings_among, sent_is_held, held_is}
 use Rattle.upload_job.specs.Upload.{FileVersion}
-use Rattle.lane_steps.specs.Runs.{Turn, Progress, LaneRun, progress_after}
+use Rattle.session_model.specs.LaneSteps.Runs.{Turn, Progress, LaneRun, progress_after}
 use Rattle.restore_job.specs.declared.error.RestoreErr.{RestoreErr}
 use Rattle.restore_job.specs.declared.error.RestoreErr.TheVariants as refusals
 use Rattle.restore_job.specs.Refusals.{Names}
 use Rattle.restore_job.specs.Asking.{Reads, MayRead, AreRead}
 use Rattle.restore_job.specs.Restored.{Unrestored, restored_file, given_by, missing}
-use Rattle.kept_files.specs.Kept.{Keeps, key_of}
-use Rattle.rebuild.specs.declared.error.SkipWhy.{SkipWhy}
-use Rattle.rebuild.specs.declared.error.RebuildErr.{RebuildErr}
-use Rattle.rebuild.specs.declared.error.RebuildErr.TheVariants as errors
-use Rattle.rebuild.specs.declared.skips.Skip.{Skip}
-use Rattle.rebuild.specs.declared.skips.Rebuilt.{Rebuilt}
-use Rattle.rebuild.specs.Found.{Finding, skip_of, name_opened, name_judged, version_with, version_named, unless_skipped, recipes_differ, version_under, keys_in, finding_under, findings, first_of}
-use Rattle.rebuild.specs.Rebuilding.{Progressed, nothing_yet, last_said, lane_of, BringsOne, BringsAll, ReadStopped, asked_for, EndsAs, IsFront, LeavesBut, Rebuilds, RunsTo}
-use Rattle.rebuild.specs.Over.{HandsOn, ReadCaused, is_lost}
-use Rattle.rebuild.specs.Over as rebuilding
-use Rattle.rebuild.specs.Turns.{LaneGoes, LanesGo, SaidLast}
-use Rattle.rebuild.specs.Standing.{entry_in, HasEntry, HasOther}
-use Rattle.rebuild.specs.Kept.{HasVersion, HasAnother, SkipCaused, Refills}
+use Rattle.session_model.specs.KeptFiles.Kept.{Keeps, key_of}
+use Rattle.session_model.specs.Rebuild.error.SkipWhy.{SkipWhy}
+use Rattle.session_model.specs.Rebuild.error.RebuildErr.{RebuildErr}
+use Rattle.session_model.specs.Rebuild.error.RebuildErr.TheVariants as errors
+use Rattle.session_model.specs.Rebuild.skips.Skip.{Skip}
+use Rattle.session_model.specs.Rebuild.skips.Rebuilt.{Rebuilt}
+use Rattle.session_model.specs.Rebuild.Found.{Finding, skip_of, name_opened, name_judged, version_with, version_named, unless_skipped, recipes_differ, version_under, keys_in, finding_under, findings, first_of}
+use Rattle.session_model.specs.Rebuild.Rebuilding.{Progressed, nothing_yet, last_said, lane_of, BringsOne, BringsAll, ReadStopped, asked_for, EndsAs, IsFront, LeavesBut, Rebuilds, RunsTo}
+use Rattle.session_model.specs.Rebuild.Over.{HandsOn, ReadCaused, is_lost}
+use Rattle.session_model.specs.Rebuild.Over as rebuilding
+use Rattle.session_model.specs.Rebuild.Turns.{LaneGoes, LanesGo, SaidLast}
+use Rattle.session_model.specs.Rebuild.Standing.{entry_in, HasEntry, HasOther}
+use Rattle.session_model.specs.Rebuild.Kept.{HasVersion, HasAnother, SkipCaused, Refills}
 use Rattle.transcript.specs.declared.line.Line.{Line}
 use Rattle.transcript.specs.declared.line.Line.TheVariants as lines
 use Rattle.session_model.specs.Vault.{Setting, served_at, with_peer}

@@ -17,19 +17,19 @@ use Rattle.user_dedup.specs.Cloud.{held_string}
 use Rattle.user_dedup.specs.Exec.{Peer, Exec}
 use Rattle.user_dedup.proofs.Owned.{contains_here, contains_later, contains_cases}
 use Rattle.upload_job.specs.Upload.{FileVersion}
-use Rattle.lane_steps.specs.Runs.{Turn, Progress, LaneRun, progress_after}
+use Rattle.session_model.specs.LaneSteps.Runs.{Turn, Progress, LaneRun, progress_after}
 use Rattle.restore_job.specs.declared.error.RestoreErr.{RestoreErr}
 use Rattle.restore_job.specs.declared.error.RestoreErr.TheVariants as refusals
 use Rattle.restore_job.specs.Asking.{is_loss}
 use Rattle.restore_job.specs.Restored.{Missing, no_recipe, recipe_in, given_by, missing, agreed, unless, restored_file}
-use Rattle.rebuild.specs.declared.error.SkipWhy.{SkipWhy}
-use Rattle.rebuild.specs.declared.error.RebuildErr.{RebuildErr}
-use Rattle.rebuild.specs.declared.error.RebuildErr.TheVariants as errors
-use Rattle.rebuild.specs.declared.skips.Skip.{Skip}
-use Rattle.rebuild.specs.declared.skips.Rebuilt.{Rebuilt}
-use Rattle.rebuild.specs.Found.{Finding, name_opened, name_judged, unless_skipped, recipes_differ, version_named, version_under, keys_in, finding_under, findings}
-use Rattle.rebuild.specs.Rebuilding.{Progressed, nothing_yet, last_said, lane_ended, lane_of, BringsOne, BringsAll, StopsAs, ReadStopped, EndsAs, Rebuilds, RunsTo}
-use Rattle.rebuild.specs.Over.{is_lost}
+use Rattle.session_model.specs.Rebuild.error.SkipWhy.{SkipWhy}
+use Rattle.session_model.specs.Rebuild.error.RebuildErr.{RebuildErr}
+use Rattle.session_model.specs.Rebuild.error.RebuildErr.TheVariants as errors
+use Rattle.session_model.specs.Rebuild.skips.Skip.{Skip}
+use Rattle.session_model.specs.Rebuild.skips.Rebuilt.{Rebuilt}
+use Rattle.session_model.specs.Rebuild.Found.{Finding, name_opened, name_judged, unless_skipped, recipes_differ, version_named, version_under, keys_in, finding_under, findings}
+use Rattle.session_model.specs.Rebuild.Rebuilding.{Progressed, nothing_yet, last_said, lane_ended, lane_of, BringsOne, BringsAll, StopsAs, ReadStopped, EndsAs, Rebuilds, RunsTo}
+use Rattle.session_model.specs.Rebuild.Over.{is_lost}
 use Rattle.transcript.specs.declared.refusal.Refusal.{Refusal}
 use Rattle.transcript.specs.declared.refusal.Refusal.TheVariants as why
 use Rattle.transcript.specs.declared.refusal.TargetWhy.TheVariants as target_whys

@@ -28,9 +28,9 @@ use Rattle.user_dedup.proofs.Views.{found_passes}
 use Rattle.user_dedup.proofs.Views.{held_is}
 use Rattle.two_worlds.proofs.Rules.{EntriesOwned}
 use Rattle.restore_job.specs.Restored.{Unrestored, ShareLength, Missing, Given, no_recipe, item_of, string_at, recipe_read, recipe_in, given_by, missing, differing, or_else, unless, behind, wrong_string, wrong_strings, wrong_length, secret_opened, of_secret, secrets_opened, batch_opened, batches_opened, batch_count, items_opened, agreed, restored_file}
-use Rattle.subset_restore.specs.Subsets.{subsets}
-use Rattle.subset_restore.specs.Restored.{first_given, restored_any}
-use Rattle.rebuild.specs.Found.{name_opened, name_judged, unless_skipped, recipes_differ, version_named, version_under, keys_in, finding_under, findings, first_of}
+use Rattle.session_model.specs.SubsetRestore.Subsets.{subsets}
+use Rattle.session_model.specs.SubsetRestore.Restored.{first_given, restored_any}
+use Rattle.session_model.specs.Rebuild.Found.{name_opened, name_judged, unless_skipped, recipes_differ, version_named, version_under, keys_in, finding_under, findings, first_of}
 use Rattle.two_worlds.proofs.Alone.{Apart, same_view, same_held}
 
 -- ---- what is given, alike

@@ -16,16 +16,16 @@ use Rattle.user_dedup.specs.Exec.{Peer, Exec}
 use Rattle.user_dedup.proofs.Owned.{contains_here, contains_later, contains_cases}
 use Rattle.session_model.specs.CloudServer.Serving.{ReopensAs}
 use Rattle.upload_job.specs.Lanes as lanes
-use Rattle.lane_steps.specs.Runs.{Turn, Progress, LaneRun, progress_after}
+use Rattle.session_model.specs.LaneSteps.Runs.{Turn, Progress, LaneRun, progress_after}
 use Rattle.restore_job.specs.declared.error.RestoreErr.{RestoreErr}
 use Rattle.restore_job.specs.declared.error.RestoreErr.TheVariants as refusals
 use Rattle.restore_job.specs.Refusals.{Names, Causes}
-use Rattle.rebuild.specs.declared.error.RebuildErr.{RebuildErr}
-use Rattle.rebuild.specs.declared.error.RebuildErr.TheVariants as errors
-use Rattle.rebuild.specs.declared.skips.Rebuilt.{Rebuilt}
-use Rattle.rebuild.specs.Over.{HandsOn, ReadCaused}
-use Rattle.rebuild.specs.Over as rebuilding
-use Rattle.kept_files.specs.Kept.{key_of}
+use Rattle.session_model.specs.Rebuild.error.RebuildErr.{RebuildErr}
+use Rattle.session_model.specs.Rebuild.error.RebuildErr.TheVariants as errors
+use Rattle.session_model.specs.Rebuild.skips.Rebuilt.{Rebuilt}
+use Rattle.session_model.specs.Rebuild.Over.{HandsOn, ReadCaused}
+use Rattle.session_model.specs.Rebuild.Over as rebuilding
+use Rattle.session_model.specs.KeptFiles.Kept.{key_of}
 use Rattle.session.specs.declared.event.Event.{Event}
 use Rattle.session.specs.declared.event.Event.TheVariants as events
 use Rattle.session.specs.Spelling.{Fits}

@@ -4,7 +4,7 @@ use Rattle.cd_edges.specs.Shelf.{Stays}
 use Rattle.journal_start.specs.declared.start.Header.{Header}
 use Rattle.user_dedup.specs.Exec.{Peer}
 use Rattle.cloud_areas.specs.Peers.{ImagesSince, MayBecome}
-use Rattle.cloud_memory.specs.Rooms.{memory_of}
+use Rattle.store_opening.specs.CloudMemory.Rooms.{memory_of}
 use Rattle.server_requests.specs.OpenStore.store.OpenStore.{OpenStore}
 use Rattle.server_requests.specs.OpenStore.Store.{ServesSome}
 use Rattle.server_requests.specs.ServerCommands.Leaving.{IsFound}

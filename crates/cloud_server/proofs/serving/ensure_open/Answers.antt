@@ -1,5 +1,5 @@
 use Rattle.std.proofs.Common.{◌≡◌, true, false, Ok, Err, refl, sym, ◌∙◌}
-use Rattle.cloud_memory.specs.Rooms.{memory_of}
+use Rattle.store_opening.specs.CloudMemory.Rooms.{memory_of}
 use Rattle.cloud_server.proofs.Bytes.{not_begun_is}
 use Rattle.cloud_server.proofs.Openings.{open_before, open_images, read_served, settled_peer_of, reopens, error_opens, may_come, is_unopened}
 use Rattle.cloud_server.proofs.Peers.{shut_closed}

@@ -4,9 +4,9 @@ use Rattle.record_bodies.specs.Spelling as bodies
 use Rattle.user_dedup.specs.Requests.{fps_of}
 use Rattle.user_dedup.specs.declared.command.Command.TheVariants as asked
 use Rattle.cloud_areas.specs.Adding.{with_record}
-use Rattle.cloud_memory.specs.Fitting.{FitsRecords}
-use Rattle.cloud_memory.specs.Rooms.{memory_of}
-use Rattle.cloud_memory.proofs.Fitting as fitting
+use Rattle.checkpoints.specs.CloudMemory.Fitting.{FitsRecords}
+use Rattle.checkpoints.specs.CloudMemory.Rooms.{memory_of}
+use Rattle.checkpoints.proofs.MemoryProofs.Fitting as fitting
 use Rattle.store_opening.specs.Roomy.{IsRoomy}
 use Rattle.store_opening.proofs.Spends.{delete_roomy}
 use Rattle.open_store.specs.declared.store.OpenStore.{OpenStore}

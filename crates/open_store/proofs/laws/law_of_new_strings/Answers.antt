@@ -1,4 +1,4 @@
-use Rattle.cloud_memory.specs.Rooms.{memory_of}
+use Rattle.checkpoints.specs.CloudMemory.Rooms.{memory_of}
 use Rattle.open_store.proofs.Held.{put_lays, none_held, is_put, recipe_staged}
 use Rattle.open_store.proofs.laws.law_of_new_strings.Goals as goal
 

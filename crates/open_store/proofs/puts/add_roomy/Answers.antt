@@ -5,10 +5,10 @@ use Rattle.record_bodies.specs.Spelling.{body_bytes}
 use Rattle.user_dedup.specs.declared.command.Command.TheVariants as asked
 use Rattle.cloud_areas.specs.Adding.{with_record}
 use Rattle.cloud_areas.specs.Chains.{IsRecord}
-use Rattle.cloud_memory.specs.Fitting.{FitsRecords}
-use Rattle.cloud_memory.specs.Rooms.{memory_of}
-use Rattle.cloud_memory.specs.Steps.{with_put}
-use Rattle.cloud_memory.proofs.Fitting.{news_fit}
+use Rattle.checkpoints.specs.CloudMemory.Fitting.{FitsRecords}
+use Rattle.checkpoints.specs.CloudMemory.Rooms.{memory_of}
+use Rattle.checkpoints.specs.CloudMemory.Steps.{with_put}
+use Rattle.checkpoints.proofs.MemoryProofs.Fitting.{news_fit}
 use Rattle.store_opening.specs.Roomy.{IsRoomy}
 use Rattle.store_opening.proofs.Spends.{put_roomy}
 use Rattle.open_store.specs.declared.store.OpenStore.{OpenStore}

@@ -3,8 +3,8 @@ use Rattle.checkpoints.specs.Laying.{records_len}
 use Rattle.checkpoints.specs.Records.{records_of}
 use Rattle.checkpoints.specs.declared.whole.Unsettled.{Unsettled}
 use Rattle.checkpoints.specs.Known.{IfLong}
-use Rattle.cloud_memory.specs.Rooms.{memory_of}
-use Rattle.cloud_disk.specs.Disk.{regions_end}
+use Rattle.checkpoints.specs.CloudMemory.Rooms.{memory_of}
+use Rattle.checkpoints.specs.CloudDisk.Disk.{regions_end}
 use Rattle.store_opening.proofs.Spends.{ends_far}
 use Rattle.open_store.specs.declared.store.OpenStore.{OpenStore}
 use Rattle.open_store.proofs.room.have_room.Goals as goal

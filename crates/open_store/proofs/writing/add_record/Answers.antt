@@ -1,5 +1,5 @@
 use Rattle.std.proofs.Common.{List, ℕ, sym, subst}
-use Rattle.cloud_disk.specs.Disk.{IsPrepared}
+use Rattle.checkpoints.specs.CloudDisk.Disk.{IsPrepared}
 use Rattle.open_store.proofs.writing.add_record.Goals as goal
 
 pub returns-in-Ok-clause-added : goal.returns-in-Ok-clause-added

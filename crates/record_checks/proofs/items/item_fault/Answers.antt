@@ -1,7 +1,7 @@
 use Rattle.std.proofs.Common.{ℕ, ◌∙◌, sym, subst}
 use Rattle.std.specs.Prelude.{IfSome}
 use Rattle.std.specs.FinMap.{get}
-use Rattle.cloud_areas.specs.Placing.{region_start}
+use Rattle.cloud_memory.specs.CloudAreas.Placing.{region_start}
 use Rattle.record_checks.specs.Checks.{Lies, ItemFault, Owned, Flag, Misplaced}
 use Rattle.record_checks.proofs.Faults.{not_so, flag_wrong, flag_right, same_bool, other_bool}
 use Rattle.record_checks.proofs.items.item_fault.Goals as goal

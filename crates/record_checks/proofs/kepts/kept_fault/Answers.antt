@@ -1,6 +1,6 @@
 use Rattle.std.proofs.Common.{ℕ, sym, subst}
 use Rattle.std.specs.FinMap.{get}
-use Rattle.cloud_areas.specs.Placing.{region_start}
+use Rattle.cloud_memory.specs.CloudAreas.Placing.{region_start}
 use Rattle.record_checks.specs.Checks.{Lies, KeptFault, PlacedTwice, KeptMisplaced}
 use Rattle.record_checks.proofs.Faults.{not_so, none_there}
 use Rattle.record_checks.proofs.kepts.kept_fault.Goals as goal

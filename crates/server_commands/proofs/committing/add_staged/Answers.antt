@@ -6,10 +6,10 @@ use Rattle.messages.specs.declared.reply.Reply.TheVariants as replies
 use Rattle.recipe.specs.Spelling.{spelling}
 use Rattle.user_dedup.specs.declared.command.Command.TheVariants as commands
 use Rattle.user_dedup.specs.Spending.{full_for}
-use Rattle.cloud_memory.specs.News.{seen}
+use Rattle.server_reads.specs.CloudMemory.News.{seen}
 use Rattle.open_store.specs.declared.store.OpenStore.{OpenStore}
 use Rattle.open_store.specs.declared.store.Unadded.{Unadded}
-use Rattle.cloud_areas.specs.Standing.{Chain}
+use Rattle.open_store.specs.CloudAreas.Standing.{Chain}
 use Rattle.cd_edges.specs.Disk.{Cloud}
 use Rattle.user_dedup.specs.declared.command.Command.{Command}
 use Rattle.open_store.specs.Store.{Serves}

@@ -1,6 +1,6 @@
 use Rattle.std.proofs.Common.{◌≡◌, Err, subst}
 use Rattle.file_index.specs.Files.{key_of}
-use Rattle.cloud_memory.specs.Rooms.{memory_of}
+use Rattle.server_reads.specs.CloudMemory.Rooms.{memory_of}
 use Rattle.server_reads.specs.declared.blobs.Stop.{Stop}
 use Rattle.server_reads.specs.Reading.{HasRead}
 use Rattle.server_reads.proofs.Spelled.{rotten_is}

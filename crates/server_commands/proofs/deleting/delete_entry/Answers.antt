@@ -1,7 +1,7 @@
 use Rattle.std.proofs.Common.{◌≡◌, Err, IsSome, refl, sym, subst}
 use Rattle.std.specs.FinMap.{get}
 use Rattle.file_index.specs.Files.{key_of}
-use Rattle.cloud_memory.specs.Rooms.{memory_of}
+use Rattle.server_reads.specs.CloudMemory.Rooms.{memory_of}
 use Rattle.open_store.specs.declared.store.OpenStore.{OpenStore}
 use Rattle.server_reads.specs.declared.blobs.Stop.{Stop}
 use Rattle.server_reads.specs.Reading.{HasRead}

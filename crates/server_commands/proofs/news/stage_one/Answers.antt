@@ -6,7 +6,7 @@ use Rattle.cd_base.specs.declared.place.Place.{Place}
 use Rattle.container_log.specs.States.{HasStaged}
 use Rattle.container_log.proofs.Staged.{staged_more}
 use Rattle.user_dedup.specs.Cloud.{fingerprint}
-use Rattle.cloud_memory.specs.Rooms.{memory_of}
+use Rattle.server_reads.specs.CloudMemory.Rooms.{memory_of}
 use Rattle.open_store.specs.declared.store.OpenStore.{OpenStore}
 use Rattle.server_commands.proofs.news.stage_one.Goals as goal
 

@@ -5,13 +5,13 @@ use Rattle.messages.specs.declared.reply.Reply.TheVariants as replies
 use Rattle.user_dedup.specs.declared.command.Command.{Command}
 use Rattle.user_dedup.specs.declared.command.Command.TheVariants as commands
 use Rattle.user_dedup.specs.Spending.{full_for}
-use Rattle.cloud_areas.specs.Standing.{Chain}
+use Rattle.open_store.specs.CloudAreas.Standing.{Chain}
 use Rattle.cd_edges.specs.Disk.{Cloud}
-use Rattle.cloud_memory.specs.News.{seen}
+use Rattle.server_reads.specs.CloudMemory.News.{seen}
 use Rattle.open_store.specs.declared.store.OpenStore.{OpenStore}
 use Rattle.open_store.specs.declared.store.Unadded.{Unadded}
 use Rattle.open_store.specs.Store.{Serves}
-use Rattle.cloud_memory.specs.Rooms.{memory_of, full_news}
+use Rattle.server_reads.specs.CloudMemory.Rooms.{memory_of, full_news}
 use Rattle.half_journal.specs.declared.journal.Stage.TheVariants.{AtEnd}
 use Rattle.open_store.specs.Adding.{NotLong, MatchFull, WhenLong, Unmoved, stage_after, unstaged}
 use Rattle.user_dedup.specs.Dedup.{answer_over}

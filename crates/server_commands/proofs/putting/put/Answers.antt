@@ -1,9 +1,9 @@
 use Rattle.std.proofs.Common.{◌≡◌, ℕ, List, ◌≤◌, length, take, refl, sym, ap, ◌∙◌, subst, arith, length-take}
 use Rattle.std.specs.Prelude.{All}
-use Rattle.cloud_memory.specs.declared.rooms.New.{New}
-use Rattle.cloud_memory.specs.Memory.{Memory}
-use Rattle.cloud_memory.specs.News.{AreNewTo}
-use Rattle.cloud_memory.specs.Rooms.{memory_of}
+use Rattle.server_reads.specs.CloudMemory.rooms.New.{New}
+use Rattle.server_reads.specs.CloudMemory.Memory.{Memory}
+use Rattle.server_reads.specs.CloudMemory.News.{AreNewTo}
+use Rattle.server_reads.specs.CloudMemory.Rooms.{memory_of}
 use Rattle.open_store.specs.declared.store.OpenStore.{OpenStore}
 use Rattle.open_store.specs.Adding.{IsShareNew}
 use Rattle.server_commands.specs.Picked.{Picked}

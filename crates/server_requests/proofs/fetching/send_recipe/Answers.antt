@@ -1,7 +1,7 @@
 use Rattle.std.proofs.Common.{◌≡◌, refl}
 use Rattle.file_index.specs.Files.{key_of}
 use Rattle.messages.specs.declared.request.Request.TheVariants as requests
-use Rattle.cloud_memory.specs.Rooms.{memory_of}
+use Rattle.server_reads.specs.CloudMemory.Rooms.{memory_of}
 use Rattle.server_reads.specs.Found.{IsNamed, HasNone, IsFoundRecipe}
 use Rattle.server_reads.proofs.Plain.{recipe_plain}
 use Rattle.server_reads.proofs.Rotting.{recipe_rotten}

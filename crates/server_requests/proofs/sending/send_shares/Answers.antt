@@ -1,6 +1,6 @@
 use Rattle.std.proofs.Common.{◌≡◌, refl}
 use Rattle.messages.specs.declared.request.Request.TheVariants as requests
-use Rattle.cloud_memory.specs.Rooms.{memory_of}
+use Rattle.server_reads.specs.CloudMemory.Rooms.{memory_of}
 use Rattle.server_reads.specs.Found.{IsFoundShare}
 use Rattle.server_reads.proofs.Plain.{shares_plain}
 use Rattle.server_reads.proofs.Rotting.{shares_rotten}

@@ -1,5 +1,5 @@
 use Rattle.container_log.specs.States.{State}
-use Rattle.cloud_disk.specs.Disk.{Disk}
+use Rattle.server_commands.specs.CloudDisk.Disk.{Disk}
 use Rattle.server_requests.proofs.Readings.{reads_shares, lent_back}
 use Rattle.server_requests.proofs.sending.shares_on_disk.Goals as goal
 

@@ -5,8 +5,8 @@ use Rattle.cd_edges.proofs.Calls.{called_twice}
 use Rattle.cd_edges.proofs.Moments.{told_on}
 use Rattle.journal_start.specs.declared.rooms.Rooms.{Rooms}
 use Rattle.half_journal.specs.States.{state_of, IsReading}
-use Rattle.cloud_memory.specs.Rooms.{memory_of, HasRooms}
-use Rattle.cloud_memory.specs.Steps.{begun}
+use Rattle.record_checks.specs.CloudMemory.Rooms.{memory_of, HasRooms}
+use Rattle.record_checks.specs.CloudMemory.Steps.{begun}
 use Rattle.store_opening.specs.Exact.{ReplaysAll}
 use Rattle.store_opening.specs.Roomy.{IsRoomy}
 use Rattle.store_opening.specs.Steps.{HasEnded}

@@ -2,7 +2,7 @@ use Rattle.std.proofs.Common.{refl, sym, ◌∙◌, ap, subst}
 use Rattle.cd_edges.specs.declared.area.Area.TheVariants.{Journal, Recipes}
 use Rattle.journal_start.specs.declared.start.Start.{Start}
 use Rattle.half_journal.specs.States.{State, state_of}
-use Rattle.cloud_memory.specs.Rooms.{memory_of}
+use Rattle.record_checks.specs.CloudMemory.Rooms.{memory_of}
 use Rattle.store_opening.specs.Exact.{Closes, number_behind}
 use Rattle.store_opening.specs.Steps.{HasEnded}
 use Rattle.store_opening.proofs.Ended.{traced_begun, all_closed, all_ended, all_failed, restaged_end, unfailed_counts}

@@ -6,7 +6,7 @@ use Rattle.journal_start.specs.declared.start.Start.{Start}
 use Rattle.journal_start.specs.Spelling.{region_of}
 use Rattle.half_journal.specs.Openings.{MayBecome}
 use Rattle.half_journal.specs.States.{state_of}
-use Rattle.cloud_memory.specs.Rooms.{memory_of}
+use Rattle.record_checks.specs.CloudMemory.Rooms.{memory_of}
 use Rattle.store_opening.proofs.Opened.{opens_err, opens_ok, then_stays, spares_err, spares_ok, keeps, read_whole, stands_after}
 use Rattle.store_opening.proofs.Found.{whole, found_after}
 use Rattle.store_opening.proofs.Stated.{Laws}

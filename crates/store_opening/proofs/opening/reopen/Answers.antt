@@ -2,7 +2,7 @@ use Rattle.std.proofs.Common.{ℕ, ◌≤◌, sym, ◌∙◌, ap, subst}
 use Rattle.journal_start.specs.Spelling.{region_of}
 use Rattle.half_journal.specs.States.{State, state_of}
 use Rattle.cloud_disk.specs.Disk.{Disk, AreEnds}
-use Rattle.cloud_memory.specs.Rooms.{memory_of}
+use Rattle.record_checks.specs.CloudMemory.Rooms.{memory_of}
 use Rattle.store_opening.specs.Roomy.{IsRoomy}
 use Rattle.store_opening.specs.Spared.{IsReadWhole}
 use Rattle.store_opening.proofs.Found.{ends_of, loaded_by}

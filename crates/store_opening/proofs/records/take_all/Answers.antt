@@ -4,7 +4,7 @@ use Rattle.cd_edges.specs.declared.area.Area.TheVariants.{Journal, Recipes}
 use Rattle.journal_start.specs.Spelling.{records_of}
 use Rattle.half_journal.specs.declared.errors.OpenErr.{OpenErr}
 use Rattle.half_journal.specs.States.{state_of, IsReading}
-use Rattle.cloud_memory.specs.Rooms.{memory_of}
+use Rattle.record_checks.specs.CloudMemory.Rooms.{memory_of}
 use Rattle.store_opening.specs.Steps.{IsTraced, OnTrue, AllAs, stage_of}
 use Rattle.store_opening.proofs.Along.{with_bodies, further, all_taken, not_taken, StepAs}
 use Rattle.store_opening.proofs.records.take_all.Goals as goal

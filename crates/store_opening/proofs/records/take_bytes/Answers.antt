@@ -1,6 +1,6 @@
 use Rattle.std.proofs.Common.{arith}
 use Rattle.record_bodies.proofs.BodyLaws.{body_law}
-use Rattle.cloud_memory.specs.Rooms.{memory_of}
+use Rattle.record_checks.specs.CloudMemory.Rooms.{memory_of}
 use Rattle.store_opening.proofs.Traced.{traced_next}
 use Rattle.store_opening.proofs.records.take_bytes.Goals as goal
 

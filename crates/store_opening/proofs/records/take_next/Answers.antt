@@ -9,7 +9,7 @@ use Rattle.half_journal.specs.declared.errors.OpenErr.TheVariants.{Damaged}
 use Rattle.half_journal.specs.Openings.{OnFault}
 use Rattle.half_journal.specs.States.{State, state_of}
 use Rattle.half_journal.specs.Outcomes as journals
-use Rattle.cloud_memory.specs.Rooms.{memory_of}
+use Rattle.record_checks.specs.CloudMemory.Rooms.{memory_of}
 use Rattle.store_opening.specs.Steps.{From, OneAs, NextAs}
 use Rattle.store_opening.proofs.Stepping.{as_taken, as_refused, as_ended, as_damaged}
 use Rattle.store_opening.proofs.records.take_next.Goals as goal

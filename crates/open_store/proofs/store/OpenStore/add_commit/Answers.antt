@@ -2,16 +2,16 @@ use Rattle.std.proofs.Common.{◌≡◌, ◌≤◌, ℕ, [], ◌∷◌, ◌++◌
 use Rattle.cd_edges.proofs.Moments.{started}
 use Rattle.std.specs.Prelude.{◌-◌, ◌^◌, min}
 use Rattle.open_store.specs.Adding.{IsTooLong}
-use Rattle.cloud_memory.specs.Steps.{with_commit}
+use Rattle.checkpoints.specs.CloudMemory.Steps.{with_commit}
 use Rattle.journal_start.specs.declared.start.Header.{Header}
 use Rattle.record_bodies.specs.Spelling as bodies
 use Rattle.record_bodies.specs.Spelling.{Body, body_bytes}
 use Rattle.user_dedup.specs.declared.command.Command.TheVariants as asked
 use Rattle.cloud_areas.specs.Adding.{with_record}
 use Rattle.cloud_areas.specs.Standing.{Chain}
-use Rattle.cloud_disk.specs.Disk.{IsOn, KeepsOrAdds, StandsForEither}
-use Rattle.cloud_disk.proofs.Standing.{images_on}
-use Rattle.cloud_memory.specs.Rooms.{memory_of, full_commit}
+use Rattle.checkpoints.specs.CloudDisk.Disk.{IsOn, KeepsOrAdds, StandsForEither}
+use Rattle.checkpoints.proofs.DiskProofs.Standing.{images_on}
+use Rattle.checkpoints.specs.CloudMemory.Rooms.{memory_of, full_commit}
 use Rattle.checkpoints.specs.declared.whole.Unsettled.{Unsettled}
 use Rattle.checkpoints.specs.Known.{IfLong}
 use Rattle.open_store.specs.declared.store.OpenStore.{OpenStore}
@@ -22,7 +22,7 @@ use Rattle.container_log.specs.Laying.{Placed}
 use Rattle.container_log.specs.Places.{container_len, place_of}
 use Rattle.record_body.proofs.Spelled.{length-commit}
 use Rattle.user_dedup.specs.Owning.{fps_in}
-use Rattle.cloud_memory.proofs.FullRooms.{full_commit_is}
+use Rattle.checkpoints.proofs.MemoryProofs.FullRooms.{full_commit_is}
 use Rattle.open_store.specs.Adding.{commit_body}
 use Rattle.open_store.proofs.Fields.{sample, sample_fits, sample_long, commit_fits}
 use Rattle.open_store.proofs.Moving.{commit_moved}
@@ -31,10 +31,10 @@ use Rattle.open_store.proofs.Stepping.{staged_small}
 use Rattle.cd_edges.specs.Disk.{moment}
 use Rattle.cd_edges.proofs.Moments.{told_on}
 use Rattle.container_log.specs.States as logs
-use Rattle.cloud_disk.specs.Held.{flush_moments}
-use Rattle.cloud_disk.specs.Disk.{KeepsOrGrows as GrowsBy}
+use Rattle.checkpoints.specs.CloudDisk.Held.{flush_moments}
+use Rattle.checkpoints.specs.CloudDisk.Disk.{KeepsOrGrows as GrowsBy}
 use Rattle.open_store.proofs.Growing.{grows_both, grows_sums, grows_still}
-use Rattle.cloud_disk.specs.Disk.{Disk}
+use Rattle.checkpoints.specs.CloudDisk.Disk.{Disk}
 use Rattle.open_store.proofs.Keeping.{serves_on}
 use Rattle.open_store.proofs.store.OpenStore.add_commit.Goals as goal
 

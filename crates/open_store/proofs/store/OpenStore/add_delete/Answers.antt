@@ -1,8 +1,8 @@
 use Rattle.std.proofs.Common.{◌≡◌, ℕ, [], ◌∷◌, ◌++◌, Err, sym, ap, subst, arith, ◌+◌, ◌∙◌, IsTrue, refl}
 use Rattle.std.specs.Prelude.{◌-◌, ◌^◌, min}
 use Rattle.open_store.specs.Adding.{IsTooLong}
-use Rattle.cloud_memory.specs.Steps.{without_entry}
-use Rattle.cloud_memory.specs.Rooms.{memory_of}
+use Rattle.checkpoints.specs.CloudMemory.Steps.{without_entry}
+use Rattle.checkpoints.specs.CloudMemory.Rooms.{memory_of}
 use Rattle.file_index.specs.Files.{key_of}
 use Rattle.user_dedup.specs.Requests.{fps_of}
 use Rattle.journal_start.specs.declared.start.Header.{Header}
@@ -11,7 +11,7 @@ use Rattle.record_bodies.specs.Spelling.{Body, body_bytes}
 use Rattle.user_dedup.specs.declared.command.Command.TheVariants as asked
 use Rattle.cloud_areas.specs.Adding.{with_record}
 use Rattle.cloud_areas.specs.Standing.{Chain}
-use Rattle.cloud_disk.specs.Disk.{IsOn, KeepsOrAdds}
+use Rattle.checkpoints.specs.CloudDisk.Disk.{IsOn, KeepsOrAdds}
 use Rattle.checkpoints.specs.declared.whole.Unsettled.{Unsettled}
 use Rattle.checkpoints.specs.Known.{IfLong}
 use Rattle.open_store.specs.declared.store.OpenStore.{OpenStore}
@@ -24,8 +24,8 @@ use Rattle.open_store.proofs.Moving.{delete_moved}
 use Rattle.cd_edges.specs.Disk.{moment}
 use Rattle.cd_edges.proofs.Moments.{told_on}
 use Rattle.container_log.specs.States as logs
-use Rattle.cloud_disk.specs.Held.{flush_moments}
-use Rattle.cloud_disk.specs.Disk.{KeepsOrGrows as GrowsBy}
+use Rattle.checkpoints.specs.CloudDisk.Held.{flush_moments}
+use Rattle.checkpoints.specs.CloudDisk.Disk.{KeepsOrGrows as GrowsBy}
 use Rattle.open_store.proofs.Growing.{grows_both, grows_sums}
 use Rattle.open_store.proofs.store.OpenStore.add_delete.Goals as goal
 

@@ -2,21 +2,21 @@ use Rattle.std.proofs.Common.{◌≡◌, ℕ, [], ◌∷◌, ◌++◌, inl, Err,
 use Rattle.cd_edges.proofs.Moments.{started}
 use Rattle.std.specs.Prelude.{◌-◌, ◌^◌, min}
 use Rattle.open_store.specs.Adding.{IsTooLong}
-use Rattle.cloud_memory.specs.Steps.{parts_of, with_put}
+use Rattle.checkpoints.specs.CloudMemory.Steps.{parts_of, with_put}
 use Rattle.journal_start.specs.declared.start.Header.{Header}
 use Rattle.user_dedup.specs.declared.command.Command.TheVariants as asked
 use Rattle.cloud_areas.specs.Adding.{with_record}
 use Rattle.cloud_areas.specs.Standing.{Chain}
-use Rattle.cloud_disk.specs.Disk.{IsOn, KeepsOrAdds, StandsForEither}
-use Rattle.cloud_disk.proofs.Standing.{images_on}
-use Rattle.cloud_memory.specs.Rooms.{memory_of}
+use Rattle.checkpoints.specs.CloudDisk.Disk.{IsOn, KeepsOrAdds, StandsForEither}
+use Rattle.checkpoints.proofs.DiskProofs.Standing.{images_on}
+use Rattle.checkpoints.specs.CloudMemory.Rooms.{memory_of}
 use Rattle.checkpoints.specs.declared.whole.Unsettled.{Unsettled}
 use Rattle.checkpoints.specs.Known.{IfLong}
 use Rattle.open_store.specs.declared.store.OpenStore.{OpenStore}
 use Rattle.open_store.specs.Store.{Serves, Fits, chain_with_room}
 use Rattle.open_store.proofs.Rooming.{chain_next}
 use Rattle.open_store.proofs.Next.{images_both, images_kept}
-use Rattle.cloud_memory.proofs.FullRooms.{full_put_is}
+use Rattle.checkpoints.proofs.MemoryProofs.FullRooms.{full_put_is}
 use Rattle.open_store.specs.Adding.{put_record}
 use Rattle.open_store.proofs.Fields.{user_fits, are_long}
 use Rattle.open_store.proofs.Moving.{put_moved}
@@ -27,10 +27,10 @@ use Rattle.cd_edges.specs.Shelf.{IsCall}
 use Rattle.cd_edges.proofs.Calls.{called_twice}
 use Rattle.cd_edges.proofs.Moments.{told_on}
 use Rattle.container_log.specs.States as logs
-use Rattle.cloud_disk.specs.Held.{flush_moments}
-use Rattle.cloud_disk.specs.Disk.{KeepsOrGrows as GrowsBy}
+use Rattle.checkpoints.specs.CloudDisk.Held.{flush_moments}
+use Rattle.checkpoints.specs.CloudDisk.Disk.{KeepsOrGrows as GrowsBy}
 use Rattle.open_store.proofs.Growing.{grows_both, grows_sums, grows_still}
-use Rattle.cloud_disk.specs.Disk.{Disk}
+use Rattle.checkpoints.specs.CloudDisk.Disk.{Disk}
 use Rattle.open_store.proofs.Keeping.{serves_on}
 use Rattle.record_bodies.specs.Spelling.{body_bytes}
 use Rattle.open_store.proofs.store.OpenStore.add_put.Goals as goal

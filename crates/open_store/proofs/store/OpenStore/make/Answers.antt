@@ -1,8 +1,8 @@
 use Rattle.std.proofs.Common.{◌≡◌, sym, ◌∙◌, ap, subst, arith}
 use Rattle.half_journal.specs.declared.journal.Stage.{Stage}
 use Rattle.half_journal.specs.declared.journal.Stage.TheVariants.{AtEnd, Shut}
-use Rattle.cloud_memory.specs.Fitting.{FitsRecords}
-use Rattle.cloud_memory.proofs.Fitting.{begun_fits}
+use Rattle.checkpoints.specs.CloudMemory.Fitting.{FitsRecords}
+use Rattle.checkpoints.proofs.MemoryProofs.Fitting.{begun_fits}
 use Rattle.open_store.proofs.store.OpenStore.make.Goals as goal
 
 pub returns-clause-settled : goal.returns-clause-settled

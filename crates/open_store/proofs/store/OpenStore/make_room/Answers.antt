@@ -3,7 +3,7 @@ use Rattle.cd_edges.specs.declared.area.Area.TheVariants.{Journal}
 use Rattle.cd_edges.specs.Disk.{IsAtArea}
 use Rattle.cd_edges.proofs.Moments.{started}
 use Rattle.cloud_areas.specs.Standing.{Chain, StandsFor}
-use Rattle.cloud_disk.proofs.Standing.{images_on}
+use Rattle.checkpoints.proofs.DiskProofs.Standing.{images_on}
 use Rattle.open_store.specs.Store.{ServesBy}
 use Rattle.open_store.proofs.Carrying.{serves_summed}
 use Rattle.open_store.proofs.Rooming.{both_ways, chain_there, chain_next}

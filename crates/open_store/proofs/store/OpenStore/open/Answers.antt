@@ -6,9 +6,9 @@ use Rattle.half_journal.specs.States as journals
 use Rattle.journal_start.specs.declared.start.Start.{Start}
 use Rattle.journal_start.specs.Spelling.{region_of}
 use Rattle.cloud_areas.specs.Standing.{region_in}
-use Rattle.cloud_disk.proofs.Standing.{start_on}
-use Rattle.cloud_memory.specs.Memory.{HasEnds}
-use Rattle.cloud_memory.specs.Rooms.{memory_of}
+use Rattle.checkpoints.proofs.DiskProofs.Standing.{start_on}
+use Rattle.checkpoints.specs.CloudMemory.Memory.{HasEnds}
+use Rattle.checkpoints.specs.CloudMemory.Rooms.{memory_of}
 use Rattle.store_opening.specs.Roomy.{IsRoomy}
 use Rattle.open_store.proofs.store.OpenStore.open.Goals as goal
 

@@ -1,7 +1,7 @@
 use Rattle.std.proofs.Common.{◌≡◌, sym, ap, ◌∙◌, subst}
 use Rattle.half_journal.specs.declared.journal.Stage.{Stage}
 use Rattle.half_journal.specs.declared.journal.Stage.TheVariants.{AtEnd, Shut}
-use Rattle.cloud_disk.specs.Disk.{Disk}
+use Rattle.checkpoints.specs.CloudDisk.Disk.{Disk}
 use Rattle.open_store.proofs.store.OpenStore.shut.Goals as goal
 
 pub returns-clause-same : goal.returns-clause-same

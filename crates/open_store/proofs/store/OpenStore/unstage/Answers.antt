@@ -1,5 +1,5 @@
 use Rattle.std.proofs.Common.{refl, ap, sym, ◌∙◌, subst}
-use Rattle.cloud_disk.specs.Disk.{Disk}
+use Rattle.checkpoints.specs.CloudDisk.Disk.{Disk}
 use Rattle.open_store.specs.declared.store.OpenStore.{OpenStore}
 use Rattle.open_store.specs.Store.{IsSettled, Serves, EndsMeet}
 use Rattle.open_store.proofs.Keeping.{serves_on, settled_on}

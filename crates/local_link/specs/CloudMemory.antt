@@ -1,0 +1,2 @@
+-- What cloud_memory says, for callers.
+pub use Rattle.cloud_server.specs.CloudMemory.Rooms

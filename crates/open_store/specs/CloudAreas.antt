@@ -1,0 +1,3 @@
+-- What cloud_areas says, for callers.
+pub use Rattle.cloud_areas.specs.Peers
+pub use Rattle.cloud_areas.specs.Standing

@@ -1,0 +1,3 @@
+-- What kept_files has proved, for callers.
+pub use Rattle.kept_files.proofs.Giving
+pub use Rattle.kept_files.proofs.Keeping

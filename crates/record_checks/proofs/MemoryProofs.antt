@@ -1,0 +1,17 @@
+-- What cloud_memory has proved, for callers.
+pub use Rattle.cloud_memory.proofs.Adding
+pub use Rattle.cloud_memory.proofs.Beginning
+pub use Rattle.cloud_memory.proofs.CommitLaw
+pub use Rattle.cloud_memory.proofs.DeleteLaw
+pub use Rattle.cloud_memory.proofs.EndsLaw
+pub use Rattle.cloud_memory.proofs.Few
+pub use Rattle.cloud_memory.proofs.Fitting
+pub use Rattle.cloud_memory.proofs.FullRooms
+pub use Rattle.cloud_memory.proofs.KeyCounts
+pub use Rattle.cloud_memory.proofs.Keys
+pub use Rattle.cloud_memory.proofs.Lists
+pub use Rattle.cloud_memory.proofs.Naming
+pub use Rattle.cloud_memory.proofs.PlacingLaw
+pub use Rattle.cloud_memory.proofs.PutLaw
+pub use Rattle.cloud_memory.proofs.Puts
+pub use Rattle.cloud_memory.proofs.Taking

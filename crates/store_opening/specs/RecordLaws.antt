@@ -1,0 +1,2 @@
+-- What record_laws says, for callers.
+pub use Rattle.record_laws.specs.Leaving
