@@ -13,6 +13,7 @@ mod Holding
 pub mod KeyCounts
 pub mod Keys
 pub mod Lists
+mod LiveSlots
 pub mod Naming
 mod Next
 pub mod PlacingLaw

@@ -2,6 +2,7 @@ pub mod CloudAreas
 pub mod Fitting
 pub mod Greatest
 pub mod Inner
+pub mod Live
 pub mod Memory
 pub mod Moving
 pub mod News

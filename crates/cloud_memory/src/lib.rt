@@ -7,6 +7,7 @@
 mod asking;
 mod cloud;
 pub mod laws;
+mod live;
 mod moving;
 mod owning;
 mod places;

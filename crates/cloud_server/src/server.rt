@@ -49,7 +49,7 @@ impl Server {
     ghost use Rattle.store_opening.specs.Exact.{Opens};
     ghost use Rattle.store_opening.specs.Spared.{IsOkOrFault, MayBegin, Spares};
     ghost use Rattle.store_opening.specs.Synced.{BeginsSynced};
-    ghost use Rattle.server_requests.specs.OpenStore.Store.{IsOpen, ServesSome, closed};
+    ghost use Rattle.server_requests.specs.OpenStore.Store.{IsOpen, IsSettled, ServesSome, closed};
     ghost use Rattle.server_requests.specs.ServerCommands.Leaving.{IsFound, LeavesAll};
     ghost use Rattle.server_requests.specs.Asking.{IsForMemory};
     ghost use Rattle.cloud_server.specs.Names.{header_of};
@@ -86,6 +86,14 @@ impl Server {
         ensures { result ≡ self.now.store.header }
     {
         self.store.header
+    }
+
+    /// The store that it works on, to be looked at: its header, and what it remembers of the list of commands.
+    pub fn store(&self) -> &OpenStore
+        ensures same { result.now ≡ self.now.store }
+        ensures settled { IsSettled result.now }
+    {
+        &self.store
     }
 
     /// Whether the cloud is open.
