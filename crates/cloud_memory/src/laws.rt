@@ -2,6 +2,7 @@
 
 ghost use Rattle.std.specs.Prelude.{◌≡◌, ◌<◌, ◌≤◌, ℕ, List, [], ◌∷◌, ◌++◌, length, All, Some, None};
 ghost use Rattle.std.specs.FinMap.{get};
+ghost use Rattle.cd_base.specs.Limits.{recipe_limit};
 ghost use Rattle.cd_base.specs.declared.ids.Tag.{Tag};
 ghost use Rattle.cd_base.specs.declared.ids.UserId.{UserId};
 ghost use Rattle.cd_base.specs.declared.ids.Version.{Version};
@@ -35,7 +36,7 @@ ghost use Rattle.cloud_areas.specs.Laid.{AreLaid};
 ghost use Rattle.cloud_areas.specs.Placing.{places_given, places_of};
 ghost use Rattle.cloud_memory.specs.Rooms.{full_news, full_commit};
 ghost use Rattle.cloud_memory.specs.Sharing.{AreOwned};
-ghost use Rattle.cloud_memory.specs.Fitting.{FitsPart, FitsRecords};
+ghost use Rattle.cloud_memory.specs.Fitting.{FitsPart, FitsRecords, AreItemsPlaced};
 ghost use Rattle.cloud_memory.specs.Steps.{begun, with_put, parts_of, with_commit, without_entry};
 ghost use Rattle.cloud_memory.specs.Steps.{with_items, with_kepts, with_entry, spends, with_spent};
 
@@ -138,25 +139,26 @@ pub fn law_of_records()
 {}
 
 /// A memory that fits records fits them after a command more: a Put whose shares have from 1 to 8,208 bytes, by its shares or
-/// by its record's items, a Commit of a recipe that has a byte, and any Delete. So it does after a record more.
+/// by its record's items, of which each has a place by then; a Commit of a recipe that has from 1 to 1,180,190 bytes and
+/// names what its user owns; and any Delete. So it does after a record more.
 pub fn law_of_fitting()
     ensures begun { (users region : ℕ) → FitsRecords (begun users region) }
     ensures puts { (user : UserId) (news : List New) (m : Memory)
         → All (λ (n : New). (1 ≤ n.len) × (n.len ≤ share_limit)) news
         → FitsRecords m → FitsRecords (with_put user (parts_of user m news) m) }
     ensures items { (user : UserId) (items : List PutItem) (m : Memory) → All FitsPart items
-        → FitsRecords m → FitsRecords (with_put user items m) }
-    ensures commits { (names : List Fp) (c : CommitBody) (m : Memory) → 1 ≤ c.len
-        → FitsRecords m → FitsRecords (with_commit names c m) }
+        → AreItemsPlaced m.places items → FitsRecords m → FitsRecords (with_put user items m) }
+    ensures commits { (names : List Fp) (c : CommitBody) (m : Memory) → 1 ≤ c.len → c.len ≤ recipe_limit
+        → AreOwned m.owners c.user names → FitsRecords m → FitsRecords (with_commit names c m) }
     ensures deletes { (names : List Fp) (user : UserId) (key : FileKey) (m : Memory)
         → FitsRecords m → FitsRecords (without_entry names user key m) }
     // what a record leaves
     ensures parts { (user : UserId) (items : List PutItem) (m : Memory) → All FitsPart items
-        → FitsRecords m → FitsRecords (with_items user m items) }
+        → AreItemsPlaced m.places items → FitsRecords m → FitsRecords (with_items user m items) }
     ensures kepts { (items : List KeptItem) (m : Memory) → All FitsKept items
         → FitsRecords m → FitsRecords (with_kepts m items) }
-    ensures entries { (names : List Fp) (c : CommitBody) (m : Memory) → 1 ≤ c.len
-        → FitsRecords m → FitsRecords (with_entry names c m) }
+    ensures entries { (names : List Fp) (c : CommitBody) (m : Memory) → 1 ≤ c.len → c.len ≤ recipe_limit
+        → AreOwned m.owners c.user names → FitsRecords m → FitsRecords (with_entry names c m) }
     ensures spends { (user : UserId) (more : Spent) (m : Memory) → FitsRecords m → FitsRecords (spends user more m) }
     ensures spent { (user : UserId) (spent : Spent) (m : Memory) → FitsRecords m
         → FitsRecords (with_spent user spent m) }

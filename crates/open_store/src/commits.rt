@@ -2,6 +2,7 @@
 
 ghost use Rattle.std.specs.Prelude.{◌+◌, ◌-◌, ◌^◌, min};
 ghost use Rattle.std.specs.Prelude.{◌≡◌, ◌≤◌, ℕ, List, [], ◌∷◌, ◌++◌, length, Some, None, IsTrue, OnOk, OnErr};
+ghost use Rattle.cd_base.specs.Limits.{recipe_limit};
 ghost use Rattle.cd_edges.specs.Disk.{Cloud, moment};
 ghost use Rattle.checkpoints.specs.CloudDisk.Held.{flush_moments};
 ghost use Rattle.checkpoints.specs.CloudDisk.Disk.{KeepsOrGrows as GrowsBy};
@@ -55,6 +56,7 @@ fn add_roomy<V: Shelf>(
     requires settled { IsSettled store.old }
     requires open { IsOpen store.old }
     requires some { 1 ≤ len }
+    requires short { len ≤ recipe_limit }
     requires new { get (memory_of store.old.memory).files (key_of user.0 tag.0 version.0) ≡ None }
     requires owned { AreOwned (memory_of store.old.memory).owners user (fps_in recipe.now.items) }
     requires room { full_commit store.old.header.rooms user (memory_of store.old.memory) len ≡ None }
@@ -108,8 +110,8 @@ fn add_roomy<V: Shelf>(
 
 impl OpenStore {
     /// Adds a Commit of a version that the user doesn't have as the list's next command, where the user's rooms are wide
-    /// enough. The user owns the fingerprints of the recipe's items; the recipe has this fingerprint and so many bytes, and
-    /// is to be staged before.
+    /// enough. The user owns the fingerprints of the recipe's items; the recipe has this fingerprint and so many bytes, no more
+    /// than 1,180,190, and is to be staged before.
     ///
     /// Where the Commit's record doesn't fit the journal, and only there, a checkpoint is made first, before any other area
     /// is written. Then the recipe is written and synced, and then the record. Whenever a crash comes, and after `Failed`
@@ -130,6 +132,7 @@ impl OpenStore {
         requires settled { IsSettled self.old }
         requires open { IsOpen self.old }
         requires some { 1 ≤ len }
+        requires short { len ≤ recipe_limit }
         requires new { get (memory_of self.old.memory).files (key_of user.0 tag.0 version.0) ≡ None }
         requires owned { AreOwned (memory_of self.old.memory).owners user (fps_in recipe.now.items) }
 

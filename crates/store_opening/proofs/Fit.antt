@@ -8,11 +8,12 @@ use Rattle.record_body.specs.declared.body.PutItem.{PutItem}
 use Rattle.record_body.specs.Spelling.{FitsPlaced, FitsItem}
 use Rattle.cd_base.specs.declared.place.Place.{Place}
 use Rattle.spent_table.specs.declared.Spent.{Spent}
-use Rattle.record_checks.specs.CloudMemory.Fitting.{FitsPart, FitsRecords}
+use Rattle.record_checks.specs.CloudMemory.Fitting.{FitsPart, FitsRecords, AreItemsPlaced}
 use Rattle.record_checks.specs.CloudMemory.Memory.{Memory}
-use Rattle.record_checks.specs.CloudMemory.Steps.{with_items}
-use Rattle.record_checks.proofs.MemoryProofs.Fitting.{filled_fits, spends_fits}
-use Rattle.record_checks.specs.Checks.{spends_behind}
+use Rattle.record_checks.specs.CloudMemory.Steps.{with_item, with_items}
+use Rattle.record_checks.proofs.MemoryProofs.Fitting.{filled_fits, spends_fits, has_place}
+use Rattle.record_checks.specs.declared.ground.Ground.{Ground}
+use Rattle.record_checks.specs.Checks.{spends_behind, AreRight}
 
 abbrev place_or : Place → Option Place → Place
 place_or other None = other
@@ -35,5 +36,12 @@ pub behind_fits : (inside : Bool) (user : UserId) (more : Spent) (m : Memory) �
 behind_fits true user more m fit = fit
 behind_fits false user more m fit = spends_fits user more m fit
 
-pub items_fit : (user : UserId) (items : List PutItem) (m : Memory) → All FitsItem items → FitsRecords m → FitsRecords (with_items user m items)
-items_fit user items m fits fit = filled_fits user items m (parts_fit items fits) fit
+-- a share whose flag is right has a place, its own or one from before
+right_placed : (g : Ground) (inside : Bool) (user : UserId) (items : List PutItem) (m : Memory) → AreRight g inside user m items → AreItemsPlaced m.places items
+right_placed g inside user [] m right = tt
+right_placed g inside user (item ∷ items) m right =
+    (has_place m.places item.fp item.place right.0.flagged.1, right_placed g inside user items (with_item user m item) right.1)
+
+pub items_fit : (g : Ground) (inside : Bool) (user : UserId) (items : List PutItem) (m : Memory) → All FitsItem items → AreRight g inside user m items → FitsRecords m
+    → FitsRecords (with_items user m items)
+items_fit g inside user items m fits right fit = filled_fits user items m (parts_fit items fits) (right_placed g inside user items m right) fit

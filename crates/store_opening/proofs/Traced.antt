@@ -18,7 +18,7 @@ use Rattle.record_checks.specs.CloudMemory.Steps.{end_with, with_entry, with_ite
 use Rattle.record_checks.specs.declared.damage.Damage.{Damage}
 use Rattle.record_checks.specs.declared.ground.Ground.{Ground}
 use Rattle.record_checks.specs.declared.taking.Taking.{Taking}
-use Rattle.record_checks.specs.Checks.{damaged_at, put_items, kept_items, place_at, spends_behind, PutFits, CommitFits}
+use Rattle.record_checks.specs.Checks.{damaged_at, put_items, kept_items, place_at, spends_behind, AreRight, PutFits, CommitFits}
 use Rattle.record_checks.specs.Judging.{put_left, JudgesBody, PutFault, PutPast, PutTaken, Unplaced, Entered, NotWhole, CommitPast, CommitTaken, NoEntry, NotNamed, Deleted, KeptDamaged, KeptPast, KeptTaken, SpentPast, SpentTaken, Judges, Outside, Unread, Damaged, Taken}
 use Rattle.record_checks.specs.Noting.{farther_field, put_field, kept_field, noted, IsNoted}
 use Rattle.record_checks.proofs.MemoryProofs.Fitting.{entry_fits, delete_fits, kepts_fit, spent_fits}
@@ -92,13 +92,13 @@ no_answer damage m e = cc
 
 module _ (g : Ground) (inside : Bool) (read : List ℕ) (marks : List Bool) (old : Memory) (at : ℕ) (body : List ℕ) (t : Taking) (traced : IsTraced g old t)
     (fits_body : (b : Body) → body_at body ≡ Ok b → FitsBody b) where
-  put_traced : (user : UserId) (items : List PutItem) (more : Spent) → All FitsItem items
+  put_traced : (user : UserId) (items : List PutItem) (more : Spent) → All FitsItem items → AreRight g inside user old items
       → SpendWithin g.rooms (spends_behind inside user more (with_items user old items)).spent → IsTraced g (spends_behind inside user more (with_items user old items))
       (record { spent = t.spent; shares_field = put_field at body old.shares_end put_items t.shares_field items; recipes_field = t.recipes_field })
-  put_traced user items more all within = record {
+  put_traced user items more all right within = record {
     shares = λ none. let f = put_none user at body put_items t.shares_field old items none in spends_shares inside user more (with_items user old items) ∙ f.1 ∙ traced.shares f.0;
     recipes = λ none. spends_recipes inside user more (with_items user old items) ∙ put_recipes user old items ∙ traced.recipes none;
-    fit = behind_fits inside user more (with_items user old items) (items_fit user items old all traced.fit);
+    fit = behind_fits inside user more (with_items user old items) (items_fit g inside user items old all right traced.fit);
     spent = within;
   }
 
@@ -120,7 +120,7 @@ module _ (g : Ground) (inside : Bool) (read : List ℕ) (marks : List Bool) (old
   body_traced : (b : Body) → FitsBody b → (answer : Result Memory ℕ) → JudgesBody g inside read marks old b answer → (new : Memory) → answer ≡ Ok new → IsTraced g new (noted at body old t b)
   body_traced b said answer (PutFault user items place fault) new e = absurd (no_ok _ new e)
   body_traced b said answer (PutPast user items right past) new e = absurd (no_ok _ new e)
-  body_traced b said answer (PutTaken user items right fits) new e = subst (λ (m : Memory). IsTraced g m (noted at body old t b)) (ap (memory_or old) e) (put_traced user items _ said.1.1 (put_within user items fits))
+  body_traced b said answer (PutTaken user items right fits) new e = subst (λ (m : Memory). IsTraced g m (noted at body old t b)) (ap (memory_or old) e) (put_traced user items _ said.1.1 right (put_within user items fits))
   body_traced b said answer (Unplaced c none) new e = absurd (no_ok _ new e)
   body_traced b said answer (Entered c lies there) new e = absurd (no_ok _ new e)
   body_traced b said answer (NotWhole c lies none unlike) new e = absurd (no_ok _ new e)
@@ -129,7 +129,7 @@ module _ (g : Ground) (inside : Bool) (read : List ℕ) (marks : List Bool) (old
     shares = λ none. spends_shares inside c.user _ _ ∙ traced.shares none;
     recipes = λ none. let f = field_none old.recipes_end t.recipes_field (Some (record { at = c.at; len = c.len })) (damaged_at at body place_at) none in spends_recipes inside c.user _ _ ∙ f.1 ∙ traced.recipes f.0;
     fit = behind_fits inside c.user (record { owners = 0; shares = 0; recipes = c.len }) (with_entry (fps_of g.shape read) c old)
-        (entry_fits (fps_of g.shape read) c old said.some traced.fit);
+        (entry_fits (fps_of g.shape read) c old said.some lies.0 whole.1 traced.fit);
     spent = commit_within c (fps_of g.shape read) fits;
   })
   body_traced b said answer (NoEntry d none) new e = absurd (no_ok _ new e)

@@ -1,6 +1,10 @@
 //! Commands, each in the memory and as a record behind the chain.
 
-ghost use Rattle.std.specs.Prelude.{◌≡◌, ◌≤◌, length};
+ghost use Rattle.std.specs.Prelude.{◌≡◌, ◌<◌, ◌≤◌, ◌^◌, length, IsSome, None};
+ghost use Rattle.std.specs.FinMap.{get};
+ghost use Rattle.file_index.specs.Files.{key_of};
+ghost use Rattle.user_dedup.specs.Owning.{fps_in};
+ghost use Rattle.cloud_memory.specs.Sharing.{AreOwned};
 ghost use Rattle.journal_start.specs.Ranges.{IsHeader, AreRooms};
 ghost use Rattle.cloud_memory.specs.Rooms.{HasRooms, memory_of};
 ghost use Rattle.cloud_memory.specs.Fitting.{FitsRecords};
@@ -13,7 +17,7 @@ use cloud_memory::laws::law_of_fitting;
 use cloud_memory::{CloudMemory, New};
 use journal_start::{Header, Rooms};
 use recipe::RecipeView;
-use record_bodies::{BodyBuf, DeleteBody, PutItem};
+use record_bodies::{BodyBuf, CommitBody, DeleteBody, PutItem};
 
 /// A Put of a share, which has 11 bytes; a Commit of a recipe that names one, and a Delete of it.
 #[derive(Clone, Copy)]
@@ -84,6 +88,51 @@ fn put(
     }
 }
 
+// Enters a version that the user doesn't have, whose recipe of 61 bytes names what the user owns, where the rooms are wide
+// enough.
+fn enter(
+    memory: &mut CloudMemory,
+    rooms: &Rooms,
+    user: UserId,
+    version: Version,
+    fp: Fp,
+    recipe: &RecipeView<'_>,
+) -> Option<CommitBody>
+    requires allowed { AreRooms rooms.now }
+    requires rooms { HasRooms rooms.now memory.old }
+    requires fit { FitsRecords (memory_of memory.old) }
+    requires end { memory.old.recipes_end < 2 ^ 62 }
+    requires new { get memory.old.files.files (key_of user.0 TAG.0 version.0) ≡ None }
+    requires owned { AreOwned memory.old.shares.owners user (fps_in recipe.now.items) }
+    ensures rooms { HasRooms rooms.now memory.new }
+    ensures fit { FitsRecords (memory_of memory.new) }
+{
+    law_of_fitting();
+    match memory.add_commit(rooms, user, TAG, version, fp, 61, recipe) {
+        Ok(commit) => Some(commit),
+        Err(_) => None,
+    }
+}
+
+// Takes a version out that the user has.
+fn forget(
+    memory: &mut CloudMemory,
+    rooms: &Rooms,
+    user: UserId,
+    tag: Tag,
+    version: Version,
+    recipe: &RecipeView<'_>,
+)
+    requires rooms { HasRooms rooms.now memory.old }
+    requires fit { FitsRecords (memory_of memory.old) }
+    requires there { IsSome (get memory.old.files.files (key_of user.0 tag.0 version.0)) }
+    ensures rooms { HasRooms rooms.now memory.new }
+    ensures fit { FitsRecords (memory_of memory.new) }
+{
+    law_of_fitting();
+    memory.delete(user, &tag, version, recipe);
+}
+
 // Commits a recipe as a version that the user doesn't have, and writes the recipe and the record. Says whether it did.
 fn commit(
     memory: &mut CloudMemory,
@@ -100,7 +149,6 @@ fn commit(
     ensures rooms { HasRooms rooms.now memory.new }
     ensures fit { FitsRecords (memory_of memory.new) }
 {
-    law_of_fitting();
     let Ok(view) = RecipeView::check(Shape { n: 4, k: 3 }, recipe) else {
         return false;
     };
@@ -110,12 +158,12 @@ fn commit(
     if !memory.owns_all(user, &view) {
         return false;
     }
-    match memory.add_commit(rooms, user, TAG, version, sha256(recipe), 61, &view) {
-        Ok(commit) => {
+    match enter(memory, rooms, user, version, sha256(recipe), &view) {
+        Some(commit) => {
             body.write_commit(&commit);
             shelf.write(ZERO, Area::Recipes, commit.at, recipe).is_ok()
         }
-        Err(_) => false,
+        None => false,
     }
 }
 
@@ -134,14 +182,13 @@ fn delete(
     ensures rooms { HasRooms rooms.now memory.new }
     ensures fit { FitsRecords (memory_of memory.new) }
 {
-    law_of_fitting();
     let Ok(view) = RecipeView::check(Shape { n: 4, k: 3 }, recipe) else {
         return false;
     };
     if memory.entry(user, &tag, version).is_none() {
         return false;
     }
-    memory.delete(user, &tag, version, &view);
+    forget(memory, rooms, user, tag, version, &view);
     body.write_delete(&DeleteBody { user, tag, version });
     true
 }

@@ -1,4 +1,4 @@
-use Rattle.std.proofs.Common.{rules, ◌≡◌, List, Some, None, Err, sym, ap, subst}
+use Rattle.std.proofs.Common.{rules, ◌≡◌, List, Some, None, Err, refl, sym, ap, subst, arith}
 use Rattle.cd_edges.specs.Shelf.{Stays}
 use Rattle.messages.specs.Requests.{FitsRequest}
 use Rattle.messages.specs.declared.request.Request.TheVariants as requests
@@ -15,10 +15,16 @@ use Rattle.user_dedup.specs.declared.command.Command.{Command}
 use Rattle.open_store.specs.Store.{Serves}
 use Rattle.open_store.specs.Adding.{NotLong, MatchFull, unstaged}
 use Rattle.server_commands.proofs.Calls.{ok_result, failed_result, stays_still}
-use Rattle.server_commands.proofs.Commits.{only_journal}
+use Rattle.server_commands.proofs.Commits.{few_bytes, only_journal}
 use Rattle.server_commands.proofs.Doing.{adds_does, stays_does, served_added, served_full, full_reply}
 use Rattle.server_commands.proofs.Entered.{is_commit}
 use Rattle.server_commands.proofs.committing.add_staged.Goals as goal
+
+pub add_commit-requires-clause-short : goal.add_commit-requires-clause-short
+add_commit-requires-clause-short g c =
+    let few = few_bytes c.args.store.now.header.shape c.args.recipe.now (spelling c.args.recipe.now) c.requires.recipe refl in
+    let len = c.requires.len in
+    omega (arith, few, len)
 
 pub returns-in-Ok-clause-does : goal.returns-in-Ok-clause-does
 returns-in-Ok-clause-does g c = λ list chain serves answered.
