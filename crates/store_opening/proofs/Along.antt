@@ -20,6 +20,8 @@ use Rattle.record_checks.specs.declared.ground.Ground.{Ground}
 use Rattle.record_checks.specs.declared.taking.Taking.{Taking}
 use Rattle.store_opening.specs.Exact.{Closes, number_behind}
 use Rattle.store_opening.specs.Steps.{IsTraced, From, NextAs, AllAs}
+use Rattle.store_opening.specs.declared.window.Window.{Window}
+use Rattle.store_opening.specs.Windows.{Shows}
 use Rattle.store_opening.proofs.Synced.{still, counts_still, counted_behind}
 
 -- the chain with these records
@@ -124,3 +126,8 @@ module _ (c0 c d : ℕ → Cloud) (number before mid now : ℕ) (g : Ground) (st
   pub counted_on : {T : Type 0} (result : Result T OpenErr) → IsCall c d number mid now → OnFault result (HasFailed (c number) (d number) mid now) (KeepsCounts (c number) (d number) mid now)
       → OnFault result (HasFailed (c0 number) (d number) before now) (KeepsCounts (c0 number) (d number) before now)
   counted_on result call counts = counted_behind result c0 c d number before mid now along.call along.counts counts
+
+-- The steps so far, and what the buffer has of the area of recipes.
+pub record Looking (c0 c : ℕ → Cloud) (number before now : ℕ) (g : Ground) (start journal : State) (first memory : CloudMemory) (t0 t : Taking) (records : ℕ) (given buffer : List ℕ) (window : Window) : Type 0 where
+  pub along : Along c0 c number before now g start journal first memory t0 t records (length given) (length buffer)
+  pub shows : Shows (c number) window buffer

@@ -7,6 +7,7 @@ pub mod Fit
 pub mod Found
 pub mod Lawful
 pub mod Loaded
+pub mod Looking
 pub mod OneOpening
 pub mod OneStart
 pub mod Opened

@@ -12,13 +12,13 @@ use Rattle.store_opening.specs.Steps.{BodyAs, OneAs}
 use Rattle.store_opening.proofs.Synced.{of_all, on_answer}
 
 module _ (g : Ground) (inside : Bool) (recipes : List ℕ) (old : Memory) (before : Taking) (at : ℕ) (body : List ℕ) (new : Memory) (after : Taking) (result : Result (Unit {0}) OpenErr) where
-  pub by_recipe : (place : Place) (len : ℕ) (b : List ℕ) → b ≡ body → len ≡ place.len → AsksFor g inside old b place
-      → OnFault result (Unit {0}) (BodyAs g inside (take len (drop place.at recipes)) old before at body new after result)
+  pub by_recipe : (place : Place) (b : List ℕ) → b ≡ body → AsksFor g inside old b place
+      → OnFault result (Unit {0}) (BodyAs g inside (take place.len (drop place.at recipes)) old before at body new after result)
       → OnFault result (Unit {0}) (OneAs g inside recipes old before at body new after result)
-  by_recipe place len b same long asks judged = on_answer result _ _ (λ is. record {
+  by_recipe place b same asks judged = on_answer result _ _ (λ is. record {
     read = take place.len (drop place.at recipes);
     reads_for = Recipe place (subst (λ (l : List ℕ). AsksFor g inside old l place) same asks);
-    judged = subst (λ (n : ℕ). BodyAs g inside (take n (drop place.at recipes)) old before at body new after result) long is;
+    judged = is;
   }) judged
 
   pub by_nothing : (b : List ℕ) → b ≡ body → ((place : Place) → ¬ (AsksFor g inside old b place)) → BodyAs g inside [] old before at body new after result

@@ -7,3 +7,4 @@ pub mod Spared
 pub mod Starts
 pub mod Steps
 pub mod Synced
+pub mod Windows

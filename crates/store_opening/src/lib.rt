@@ -11,6 +11,7 @@ mod loading;
 mod opening;
 mod records;
 mod syncs;
+mod window;
 
 pub use opening::reopen;
 pub use syncs::sync_all;

@@ -99,7 +99,7 @@ fn open_all<V: Shelf>(
 /// half 0 where no half is begun and `begin` is true, and takes each record of its chain into the memory, which forgets
 /// what it had. Answers how many commands there are: those before the checkpoint that the chain begins with, and one
 /// for each record behind it, as far as 64 bits reach. `recipe` is a buffer of at least 1,180,190 bytes: what lies
-/// where a record's recipe is to lie is read into it.
+/// where a record's recipe is to lie is read into it, and with it some of what lies behind.
 ///
 /// Whatever the areas hold, damaged or another store's: a crash at any moment leaves what it might have left before,
 /// and the areas read as that too, but where a journal is begun: there it may leave no half begun, or half 0 with this

@@ -16,8 +16,10 @@ ghost use Rattle.record_checks.specs.CloudMemory.Rooms.{memory_of, HasRooms};
 ghost use Rattle.record_checks.specs.Judging.{Judges};
 ghost use Rattle.record_checks.specs.Noting.{IsNoted};
 ghost use Rattle.store_opening.specs.Steps.{BodyAs, OneAs, NextAs, AllAs, IsTraced, IsOfRecords, OnTrue, stage_of};
+ghost use Rattle.store_opening.specs.Windows.{Shows};
 
-use cd_base::CloudNo;
+use crate::window::Window;
+use cd_base::{CloudNo, Place};
 use cd_edges::{Area, Failed, Shelf};
 use half_journal::{Journal, JournalErr, OpenErr};
 use record_checks::{CloudMemory, Damage, Ground, Taking, recipe_of, take};
@@ -96,8 +98,7 @@ fn take_body(
     }
 }
 
-// Reads what lies at a place of the area of recipes, as much as `out` holds, and takes the record that was read last with it.
-// After an Err the journal is shut.
+// Takes the record that was read last with what lies at this place of the area of recipes. After an Err the journal is shut.
 fn take_read<V: Shelf>(
     journal: &mut Journal,
     memory: &mut CloudMemory,
@@ -106,17 +107,19 @@ fn take_read<V: Shelf>(
     inside: bool,
     shelf: &mut V,
     cloud: CloudNo,
-    place: u64,
-    out: &mut [u8],
+    place: Place,
+    window: &mut Window,
+    buffer: &mut [u8],
 ) -> Result<(), OpenErr>
     requires rooms { HasRooms ground.now.rooms memory.old }
     requires body { IsBody (state_of journal.old).current.body }
     requires place { 5 ≤ (state_of journal.old).current.body_at }
     requires end { (state_of journal.old).current.body_at + length (state_of journal.old).current.body < 2 ^ 64 }
-    requires out { length out.old < 2 ^ 32 }
+    requires shows { Shows (V.cloud_at shelf.old cloud.0) window.old buffer.old }
+    requires room { place.len ≤ length buffer.old }
     ensures judged { IsTrue (V.cloud_at shelf.old cloud.0).told → OnFault result (Unit {0})
         (BodyAs ground.now inside
-        (take (length out.old) (drop place ((V.cloud_at shelf.old cloud.0).now Area.Recipes).read))
+        (take place.len (drop place.at ((V.cloud_at shelf.old cloud.0).now Area.Recipes).read))
         (memory_of memory.old) taking.old (state_of journal.old).current.body_at (state_of journal.old).current.body
         (memory_of memory.new) taking.new result) }
     ensures traced { IsTraced ground.now (memory_of memory.old) taking.old
@@ -125,6 +128,7 @@ fn take_read<V: Shelf>(
     ensures journal { state_of journal.new ≡ record
         (state_of journal.old) { stage = (if is_ok result then (state_of journal.old).stage else Stage.Shut) } }
     ensures kind { IsOfRecords result }
+    ensures shows { Shows (V.cloud_at shelf.new cloud.0) window.new buffer.new }
     ensures stays { Stays (V.cloud_at shelf.old cloud.0) (V.cloud_at shelf.new cloud.0) }
     ensures call { IsCall (V.cloud_at shelf.old) (V.cloud_at shelf.new) cloud.0 (V.faults shelf.old)
         (V.faults shelf.new) }
@@ -134,11 +138,8 @@ fn take_read<V: Shelf>(
         (KeepsCounts (V.cloud_at shelf.old cloud.0) (V.cloud_at shelf.new cloud.0) (V.faults shelf.old)
         (V.faults shelf.new)) }
 {
-    match shelf.read(cloud, Area::Recipes, place, out) {
-        Ok(count) => {
-            let (read, _) = out.split_at(count);
-            take_body(journal, memory, taking, ground, inside, read)
-        }
+    match window.look(shelf, cloud, &place, buffer) {
+        Ok(part) => take_body(journal, memory, taking, ground, inside, part.of(buffer)),
         Err(Failed) => {
             journal.shut();
             Err(OpenErr::Fault)
@@ -156,6 +157,7 @@ fn take_record<V: Shelf>(
     inside: bool,
     shelf: &mut V,
     cloud: CloudNo,
+    window: &mut Window,
     buffer: &mut [u8],
 ) -> Result<(), OpenErr>
     requires rooms { HasRooms ground.now.rooms memory.old }
@@ -163,6 +165,7 @@ fn take_record<V: Shelf>(
     requires place { 5 ≤ (state_of journal.old).current.body_at }
     requires end { (state_of journal.old).current.body_at + length (state_of journal.old).current.body < 2 ^ 64 }
     requires buffer { recipe_limit ≤ length buffer.old }
+    requires shows { Shows (V.cloud_at shelf.old cloud.0) window.old buffer.old }
     ensures judged { IsTrue (V.cloud_at shelf.old cloud.0).told → OnFault result (Unit {0})
         (OneAs ground.now inside ((V.cloud_at shelf.old cloud.0).now Area.Recipes).read
         (memory_of memory.old) taking.old (state_of journal.old).current.body_at (state_of journal.old).current.body
@@ -174,6 +177,7 @@ fn take_record<V: Shelf>(
         (state_of journal.old) { stage = (if is_ok result then (state_of journal.old).stage else Stage.Shut) } }
     ensures kind { IsOfRecords result }
     ensures buffer { length buffer.new ≡ length buffer.old }
+    ensures shows { Shows (V.cloud_at shelf.new cloud.0) window.new buffer.new }
     ensures stays { Stays (V.cloud_at shelf.old cloud.0) (V.cloud_at shelf.new cloud.0) }
     ensures call { IsCall (V.cloud_at shelf.old) (V.cloud_at shelf.new) cloud.0 (V.faults shelf.old)
         (V.faults shelf.new) }
@@ -184,15 +188,12 @@ fn take_record<V: Shelf>(
         (V.faults shelf.new)) }
 {
     match recipe_of(memory, ground, inside, journal.body()) {
-        Some(place) => {
-            let (out, _) = buffer.split_at_mut(place.len as usize);
-            match take_read(
-                journal, memory, taking, ground, inside, shelf, cloud, place.at, out,
-            ) {
-                Ok(()) => Ok(()),
-                Err(error) => Err(error),
-            }
-        }
+        Some(place) => match take_read(
+            journal, memory, taking, ground, inside, shelf, cloud, place, window, buffer,
+        ) {
+            Ok(()) => Ok(()),
+            Err(error) => Err(error),
+        },
         None => take_body(journal, memory, taking, ground, inside, &[]),
     }
 }
@@ -207,11 +208,13 @@ fn take_next<V: Shelf>(
     inside: bool,
     shelf: &mut V,
     cloud: CloudNo,
+    window: &mut Window,
     buffer: &mut [u8],
 ) -> Result<bool, OpenErr>
     requires reading { (state_of journal.old).stage ≡ Stage.Reading }
     requires rooms { HasRooms ground.now.rooms memory.old }
     requires buffer { recipe_limit ≤ length buffer.old }
+    requires shows { Shows (V.cloud_at shelf.old cloud.0) window.old buffer.old }
     ensures exact { IsTrue (V.cloud_at shelf.old cloud.0).told → (w : Where)
         → IsReading (state_of journal.old) ((V.cloud_at shelf.old cloud.0).now Area.Journal) w
         → inside ≡ nat_lt (length w.bodies) (records_of w.start.checkpoint)
@@ -227,6 +230,7 @@ fn take_next<V: Shelf>(
     ensures limit { (state_of journal.new).limit ≡ (state_of journal.old).limit }
     ensures kind { IsOfRecords result }
     ensures buffer { length buffer.new ≡ length buffer.old }
+    ensures shows { Shows (V.cloud_at shelf.new cloud.0) window.new buffer.new }
     ensures stays { Stays (V.cloud_at shelf.old cloud.0) (V.cloud_at shelf.new cloud.0) }
     ensures call { IsCall (V.cloud_at shelf.old) (V.cloud_at shelf.new) cloud.0 (V.faults shelf.old)
         (V.faults shelf.new) }
@@ -238,7 +242,7 @@ fn take_next<V: Shelf>(
 {
     match journal.next(shelf, cloud) {
         Ok(true) => match take_record(
-            journal, memory, taking, ground, inside, shelf, cloud, buffer,
+            journal, memory, taking, ground, inside, shelf, cloud, window, buffer,
         ) {
             Ok(()) => Ok(true),
             Err(error) => Err(error),
@@ -284,6 +288,7 @@ pub(crate) fn take_all<V: Shelf>(
         (V.faults shelf.new)) }
 {
     let of_checkpoint = u64::from(journal.records());
+    let mut window = Window::new();
     let mut records: u64 = 0;
     while take_next(
         journal,
@@ -293,6 +298,7 @@ pub(crate) fn take_all<V: Shelf>(
         records < of_checkpoint,
         shelf,
         cloud,
+        &mut window,
         buffer,
     )? {
         records += 1;

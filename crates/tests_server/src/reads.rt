@@ -13,6 +13,9 @@ const SECOND: &[u8] = b"other share";
 
 const THIRD: &[u8] = b"third share";
 
+// Room for seven records in the journal.
+const ROOM: u64 = 5_000;
+
 const ONE_NEW: &[u8] = &[0x83, 0, 1];
 
 const THREE_NEW: &[u8] = &[0x83, 0, 3];
@@ -87,6 +90,35 @@ fn is_read_once(alloc: Global, cloud: &mut Cloud) -> Result<bool, NoMemory> {
 fn a_recipe_is_read_once(rt: HostRuntime) -> Result<(), Fail> {
     let mut cloud = Cloud::make(rt.alloc(), SMALL, WIDE)?;
     let well = is_read_once(rt.alloc(), &mut cloud);
+    drop(cloud);
+    assert!(rt; well?);
+    Ok(())
+}
+
+// Whether the versions 1 to 6 of a file are stored, by recipes of one length.
+fn has_six(alloc: Global, cloud: &mut Cloud) -> Result<bool, NoMemory> {
+    let recipe = recipe_of(alloc, 5, &[sha256(FIRST)])?;
+    let put = put_of(alloc, 7, &[FIRST])?;
+    let mut well = cloud.answers(&[(put.as_slice(), ONE_NEW)]);
+    for version in 1..7 {
+        let commit = commit_of(alloc, 7, 1, version, recipe.as_slice())?;
+        well = cloud.answers(&[(commit.as_slice(), COMMITTED)]) && well;
+    }
+    Ok(well)
+}
+
+// Whether an opening reads the six recipes by two calls: the first one alone, and with the second the four behind it.
+fn are_read_ahead(alloc: Global, cloud: &mut Cloud) -> Result<bool, NoMemory> {
+    let well = has_six(alloc, cloud)?;
+    let before = cloud.shelf.reads(TWO, Area::Recipes);
+    let opened = cloud.reopen(false) == Ok(7);
+    Ok(well && opened && cloud.shelf.reads(TWO, Area::Recipes).saturating_sub(before) == 2)
+}
+
+#[test]
+fn an_opening_reads_recipes_ahead(rt: HostRuntime) -> Result<(), Fail> {
+    let mut cloud = Cloud::make(rt.alloc(), ROOM, WIDE)?;
+    let well = are_read_ahead(rt.alloc(), &mut cloud);
     drop(cloud);
     assert!(rt; well?);
     Ok(())

@@ -11,6 +11,7 @@ use Rattle.half_journal.specs.States.{State, state_of}
 use Rattle.half_journal.specs.Outcomes as journals
 use Rattle.record_checks.specs.CloudMemory.Rooms.{memory_of}
 use Rattle.store_opening.specs.Steps.{From, OneAs, NextAs}
+use Rattle.store_opening.proofs.Looking.{shows_still}
 use Rattle.store_opening.proofs.Stepping.{as_taken, as_refused, as_ended, as_damaged}
 use Rattle.store_opening.proofs.records.take_next.Goals as goal
 
@@ -57,3 +58,19 @@ returns-in-Err-Damaged-clause-exact g c told w reading is new =
     let from : From ground recipes store new old (length w.bodies) before t (Err (Damaged c.in-Err-Damaged.at c.in-Err-Damaged.byte)) =
     as_damaged ground recipes store old mid w before t reading c.in-Err-Damaged.at c.in-Err-Damaged.byte damage new in
     subst (λ (e : OpenErr). From ground recipes store new old (length w.bodies) before t (Err e)) (λ i. Damaged (sym c.in-Err-Damaged.at-is i) (sym c.in-Err-Damaged.byte-is i)) from
+
+pub take_record-requires-clause-shows : goal.take_record-requires-clause-shows
+take_record-requires-clause-shows g c =
+    shows_still (g.V.Shelf.cloud_at c.args.shelf.now c.args.cloud.0) (g.V.Shelf.cloud_at c.next.new.shelf c.args.cloud.0) c.args.window.now c.args.buffer.now c.next.ensures.stays c.next.ensures.call.told c.requires.shows
+
+pub returns-in-Ok-false-clause-shows : goal.returns-in-Ok-false-clause-shows
+returns-in-Ok-false-clause-shows g c =
+    shows_still (g.V.Shelf.cloud_at c.args.shelf.now c.args.cloud.0) (g.V.Shelf.cloud_at c.next.new.shelf c.args.cloud.0) c.args.window.now c.args.buffer.now c.next.ensures.stays c.next.ensures.call.told c.requires.shows
+
+pub returns-in-Err-Damaged-clause-shows : goal.returns-in-Err-Damaged-clause-shows
+returns-in-Err-Damaged-clause-shows g c =
+    shows_still (g.V.Shelf.cloud_at c.args.shelf.now c.args.cloud.0) (g.V.Shelf.cloud_at c.next.new.shelf c.args.cloud.0) c.args.window.now c.args.buffer.now c.next.ensures.stays c.next.ensures.call.told c.requires.shows
+
+pub returns-in-Err-Failed-clause-shows : goal.returns-in-Err-Failed-clause-shows
+returns-in-Err-Failed-clause-shows g c =
+    shows_still (g.V.Shelf.cloud_at c.args.shelf.now c.args.cloud.0) (g.V.Shelf.cloud_at c.next.new.shelf c.args.cloud.0) c.args.window.now c.args.buffer.now c.next.ensures.stays c.next.ensures.call.told c.requires.shows
