@@ -1,2 +1,3 @@
 -- What server_commands says, for callers.
+pub use Rattle.server_requests.specs.ServerCommands.Entering
 pub use Rattle.server_requests.specs.ServerCommands.Leaving

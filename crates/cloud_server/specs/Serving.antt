@@ -26,6 +26,7 @@ use Rattle.store_opening.specs.Exact.{Opens}
 use Rattle.store_opening.specs.Spared.{IsOkOrFault, Spares}
 use Rattle.server_requests.specs.OpenStore.store.OpenStore.{OpenStore}
 use Rattle.server_requests.specs.OpenStore.Store.{IsOpen, ServesSome}
+use Rattle.server_requests.specs.ServerCommands.Entering.{Enters}
 use Rattle.server_requests.specs.ServerCommands.Executing.{GrowsBehind, LeavesBoth}
 use Rattle.server_requests.specs.ServerCommands.Leaving.{IsSteady}
 use Rattle.server_requests.specs.ServerCommands.Serving.{serves}
@@ -117,9 +118,14 @@ pub record ChangesBehind (old new : OpenStore) (before after : Cloud) (request :
   pub behind : StaysIn before after ⊎ GrowsBehind old before after
   pub steady : IsSteady (memory_of old.memory) request → LeavesBoth old new before after
 
+-- The content is a reply that says of the memory before and behind the request just what is so; of Fault nothing is said.
+abbrev pub EntersBy : OpenStore → OpenStore → Request → List ℕ → Type 0
+EntersBy old new request content =
+    (answer : Reply) × IsReply content answer × (answer ≢ replies.Fault → Enters old.header (memory_of old.memory) (memory_of new.memory) request answer)
+
 -- A closed store was opened first: what the areas come to, record by record, is its memory then, and they were spared. The request changed them
--- behind that.
-pub record OpensFirst (old new : OpenStore) (before after : Cloud) (request : Request) : Type 0 where
+-- behind that, and the reply speaks of that memory.
+pub record OpensFirst (old new : OpenStore) (before after : Cloud) (request : Request) (content : List ℕ) : Type 0 where
   pub opened : OpenStore
   pub between : Cloud
   pub commands : ℕ
@@ -128,3 +134,4 @@ pub record OpensFirst (old new : OpenStore) (before after : Cloud) (request : Re
   pub exact : Opens old.header true (reads before.now) (memory_of opened.memory) (Ok commands)
   pub spares : Spares old.header true before between (some_commands commands)
   pub changes : ChangesBehind opened new between after request
+  pub enters : EntersBy opened new request content

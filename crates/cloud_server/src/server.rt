@@ -55,7 +55,8 @@ impl Server {
     ghost use Rattle.cloud_server.specs.Names.{header_of};
     ghost use Rattle.cloud_server.specs.Openings.{NotBegunIs, OtherStoreIs};
     ghost use Rattle.cloud_server.specs.Serving.{number_of, IsServing, server_serves, settled_with, ReopensAs};
-    ghost use Rattle.cloud_server.specs.Serving.{ExecutesAs, Answered, Refused, CanOpen, ChangesBehind, OpensFirst};
+    ghost use Rattle.cloud_server.specs.Serving.{ExecutesAs, Answered, Refused, CanOpen};
+    ghost use Rattle.cloud_server.specs.Serving.{ChangesBehind, EntersBy, OpensFirst};
 
     /// A closed server of this cloud of a store of this shape, in these rooms. It takes all its memory here; the only
     /// error is want of memory.
@@ -197,6 +198,9 @@ impl Server {
     /// added lies behind the ends of both logs and of the journal, or in its other half. Rotten names what lies then where
     /// the memory has the share or the recipe, and what lies there is another or shorter. An open server never answers
     /// Damaged.
+    ///
+    /// Whatever the cloud has, what a reply but Fault says of a Put, a Commit or a Delete is so by the memory, and behind it the
+    /// memory is what the reply says (`enters`); of a closed server that is the memory that its opening read.
     pub fn execute<V: Shelf>(&mut self, shelf: &mut V, request: &[u8], reply: &mut ReplyBuf)
         requires { length request.now < 2 ^ 32 }
         ensures same { self.new.store.header ≡ self.old.store.header }
@@ -233,6 +237,9 @@ impl Server {
             → asked_at self.old.store.header.shape request.now ≡ Ok r
             → ChangesBehind self.old.store self.new.store (V.cloud_at shelf.old (number_of self.old))
             (V.cloud_at shelf.new (number_of self.old)) r }
+        ensures enters { (r : Request) → IsOpen self.old.store
+            → asked_at self.old.store.header.shape request.now ≡ Ok r
+            → EntersBy self.old.store self.new.store r reply.new }
         ensures untouched { (r : Request) (answer : Reply) → IsOpen self.old.store
             → asked_at self.old.store.header.shape request.now ≡ Ok r
             → LeavesAll r answer → IsReply reply.new answer
@@ -252,7 +259,7 @@ impl Server {
         ensures first { (r : Request) → IsTrue (V.cloud_at shelf.old (number_of self.old)).told
             → ¬ (IsOpen self.old.store) → asked_at self.old.store.header.shape request.now ≡ Ok r
             → OpensFirst self.old.store self.new.store (V.cloud_at shelf.old (number_of self.old))
-            (V.cloud_at shelf.new (number_of self.old)) r
+            (V.cloud_at shelf.new (number_of self.old)) r reply.new
             ⊎ Refused self.old.store (V.cloud_at shelf.old (number_of self.old))
             (V.cloud_at shelf.new (number_of self.old)) reply.new }
         ensures call { IsCall (V.cloud_at shelf.old) (V.cloud_at shelf.new) (number_of self.old) (V.faults shelf.old)

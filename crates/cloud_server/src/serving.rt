@@ -20,7 +20,7 @@ ghost use Rattle.server_requests.specs.Asking.{request_of, IsOfShape, IsForMemor
 ghost use Rattle.cloud_server.specs.Keeping.{IsKept};
 ghost use Rattle.cloud_server.specs.Refusals.{MayCome};
 ghost use Rattle.cloud_server.specs.Serving.{ServesAs, ExecutesAs, Answered, IsUnopened, Refused, CanOpen};
-ghost use Rattle.cloud_server.specs.Serving.{ChangesBehind, OpensFirst};
+ghost use Rattle.cloud_server.specs.Serving.{ChangesBehind, EntersBy, OpensFirst};
 ghost use Rattle.cloud_server.specs.Steps.{OpensAs, Does, IsOpenedBy};
 
 use crate::damage::put_refusal;
@@ -69,6 +69,7 @@ fn serve<V: Shelf>(
         × (store.new.memory ≡ store.old.memory) }
     ensures behind { ChangesBehind store.old store.new (V.cloud_at shelf.old store.old.header.cloud.0)
         (V.cloud_at shelf.new store.old.header.cloud.0) (request_of asked.now) }
+    ensures enters { EntersBy store.old store.new (request_of asked.now) reply.new }
     ensures untouched { (answer : Reply) → LeavesAll (request_of asked.now) answer → IsReply reply.new answer
         → (shelf.new ≡ shelf.old) × (store.new ≡ store.old) }
     ensures no_call { IsForMemory (request_of asked.now) → (shelf.new ≡ shelf.old) × (store.new ≡ store.old) }
@@ -165,6 +166,7 @@ pub(crate) fn answer<V: Shelf>(
     ensures behind { IsOpen store.old
         → ChangesBehind store.old store.new (V.cloud_at shelf.old store.old.header.cloud.0)
         (V.cloud_at shelf.new store.old.header.cloud.0) (request_of asked.now) }
+    ensures enters { IsOpen store.old → EntersBy store.old store.new (request_of asked.now) reply.new }
     ensures untouched { (answer : Reply) → IsOpen store.old → LeavesAll (request_of asked.now) answer
         → IsReply reply.new answer → (shelf.new ≡ shelf.old) × (store.new ≡ store.old) }
     ensures no_call { IsOpen store.old → IsForMemory (request_of asked.now)
@@ -179,7 +181,7 @@ pub(crate) fn answer<V: Shelf>(
         (V.cloud_at shelf.new store.old.header.cloud.0) reply.new }
     ensures first { IsTrue (V.cloud_at shelf.old store.old.header.cloud.0).told → ¬ (IsOpen store.old)
         → OpensFirst store.old store.new (V.cloud_at shelf.old store.old.header.cloud.0)
-        (V.cloud_at shelf.new store.old.header.cloud.0) (request_of asked.now)
+        (V.cloud_at shelf.new store.old.header.cloud.0) (request_of asked.now) reply.new
         ⊎ Refused store.old (V.cloud_at shelf.old store.old.header.cloud.0)
         (V.cloud_at shelf.new store.old.header.cloud.0) reply.new }
     ensures call { IsCall (V.cloud_at shelf.old) (V.cloud_at shelf.new) store.old.header.cloud.0 (V.faults shelf.old)

@@ -99,15 +99,15 @@ module _ (old_servers new_servers : Servers) (cloud : ℕ) (before after : Serve
 
   pub first_here : (r : Request) → IsTrue (old cloud).told → asked_at old_servers.shape content ≡ Ok r
       → IsSomeAnd (server_at old_servers cloud) (λ (s : Server). ¬ (IsOpen s.store)
-      → IsSomeAnd (server_at new_servers cloud) (λ (t : Server). OpensFirst s.store t.store (old cloud) (new cloud) r ⊎ Refused s.store (old cloud) (new cloud) reply))
+      → IsSomeAnd (server_at new_servers cloud) (λ (t : Server). OpensFirst s.store t.store (old cloud) (new cloud) r reply ⊎ Refused s.store (old cloud) (new cloud) reply))
   first_here r told asked =
       said_of (server_at old_servers cloud) before (λ (s : Server). ¬ (IsOpen s.store)
-      → IsSomeAnd (server_at new_servers cloud) (λ (t : Server). OpensFirst s.store t.store (old cloud) (new cloud) r ⊎ Refused s.store (old cloud) (new cloud) reply)) put.here
+      → IsSomeAnd (server_at new_servers cloud) (λ (t : Server). OpensFirst s.store t.store (old cloud) (new cloud) r reply ⊎ Refused s.store (old cloud) (new cloud) reply)) put.here
       (λ shut.
       let at_cloud =
       subst (λ (d : Header). IsTrue (old d.cloud.0).told → ¬ (IsOpen before.store) → asked_at d.shape content ≡ Ok r
-      → OpensFirst before.store after.store (old d.cloud.0) (new d.cloud.0) r ⊎ Refused before.store (old d.cloud.0) (new d.cloud.0) reply) h (x.first r) in
-      said_of (server_at new_servers cloud) after (λ (t : Server). OpensFirst before.store t.store (old cloud) (new cloud) r ⊎ Refused before.store (old cloud) (new cloud) reply) here
+      → OpensFirst before.store after.store (old d.cloud.0) (new d.cloud.0) r reply ⊎ Refused before.store (old d.cloud.0) (new d.cloud.0) reply) h (x.first r) in
+      said_of (server_at new_servers cloud) after (λ (t : Server). OpensFirst before.store t.store (old cloud) (new cloud) r reply ⊎ Refused before.store (old cloud) (new cloud) reply) here
       (at_cloud told shut asked))
 
   told_goes : (p : Peer) (r : Request) → AreBytes content → (old cloud).told ≡ true → IsPeer old_servers.shape cloud (old cloud) (server_at old_servers cloud) p → asked_at old_servers.shape content ≡ Ok r
@@ -270,9 +270,9 @@ behind_counted {V} clouds a b cloud server old r e is =
 
 pub first_counted : {V : Type 0} (clouds : V → ℕ → Cloud) (a b : LocalLink V) (cloud : ℕ) (server : Option Server) (old : Cloud) (r : Request) (reply : List ℕ) → b ≡ a
     → IsSomeAnd server (λ (s : Server). ¬ (IsOpen s.store) → IsSomeAnd (server_at a.servers cloud) (λ (t : Server).
-    OpensFirst s.store t.store old (clouds a.shelf.now cloud) r ⊎ Refused s.store old (clouds a.shelf.now cloud) reply))
+    OpensFirst s.store t.store old (clouds a.shelf.now cloud) r reply ⊎ Refused s.store old (clouds a.shelf.now cloud) reply))
     → IsSomeAnd server (λ (s : Server). ¬ (IsOpen s.store) → IsSomeAnd (server_at b.servers cloud) (λ (t : Server).
-    OpensFirst s.store t.store old (clouds b.shelf.now cloud) r ⊎ Refused s.store old (clouds b.shelf.now cloud) reply))
+    OpensFirst s.store t.store old (clouds b.shelf.now cloud) r reply ⊎ Refused s.store old (clouds b.shelf.now cloud) reply))
 first_counted {V} clouds a b cloud server old r reply e is =
     subst (λ (l : LocalLink V). IsSomeAnd server (λ (s : Server). ¬ (IsOpen s.store) → IsSomeAnd (server_at l.servers cloud) (λ (t : Server).
-    OpensFirst s.store t.store old (clouds l.shelf.now cloud) r ⊎ Refused s.store old (clouds l.shelf.now cloud) reply))) (sym e) is
+    OpensFirst s.store t.store old (clouds l.shelf.now cloud) r reply ⊎ Refused s.store old (clouds l.shelf.now cloud) reply))) (sym e) is

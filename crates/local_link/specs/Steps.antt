@@ -88,7 +88,7 @@ pub record Executes (before after : Server) (old new : ℕ → Cloud) (faults_be
   pub closed : (request : Request) → IsTrue (old (number_of before)).told → ¬ IsOpen before.store → asked_at before.store.header.shape content ≡ Ok request
       → CanOpen before.store (old (number_of before)) ⊎ Refused before.store (old (number_of before)) (new (number_of before)) reply
   pub first : (request : Request) → IsTrue (old (number_of before)).told → ¬ (IsOpen before.store) → asked_at before.store.header.shape content ≡ Ok request
-      → OpensFirst before.store after.store (old (number_of before)) (new (number_of before)) request
+      → OpensFirst before.store after.store (old (number_of before)) (new (number_of before)) request reply
       ⊎ Refused before.store (old (number_of before)) (new (number_of before)) reply
   pub behind : (request : Request) → IsOpen before.store → asked_at before.store.header.shape content ≡ Ok request
       → ChangesBehind before.store after.store (old (number_of before)) (new (number_of before)) request

@@ -457,7 +457,7 @@ impl<'a, V: Shelf> LocalLink<'a, V> {
             → (content : List ℕ) × OnOk result (reply.new ≡ content)
             × IsSomeAnd (server_at self.old.servers cloud.0) (λ before. ¬ (IsOpen before.store)
             → IsSomeAnd (server_at self.new.servers cloud.0) (λ after. OpensFirst before.store after.store
-            (V.cloud_at self.old.shelf.now cloud.0) (V.cloud_at self.new.shelf.now cloud.0) r
+            (V.cloud_at self.old.shelf.now cloud.0) (V.cloud_at self.new.shelf.now cloud.0) r content
             ⊎ Refused before.store (V.cloud_at self.old.shelf.now cloud.0)
             (V.cloud_at self.new.shelf.now cloud.0) content)) }
 

@@ -5,6 +5,7 @@ pub mod Deleted
 pub mod Deletions
 pub mod Doing
 pub mod Entered
+pub mod Enterings
 pub mod Entries
 pub mod OfOpenStore
 pub mod Picking

@@ -1,5 +1,5 @@
 -- What a Put does, by what its exits leave.
-use Rattle.std.proofs.Common.{◌≡◌, ◌≢◌, ℕ, ◌<◌, ◌≤◌, ◌^◌, List, [], ◌∷◌, ◌++◌, length, drop, Result, Ok, Err, refl, sym, ap, ◌∙◌, subst, arith}
+use Rattle.std.proofs.Common.{◌≡◌, ◌≢◌, ℕ, ◌<◌, ◌≤◌, ◌^◌, List, [], ◌∷◌, ◌++◌, length, drop, map, Result, Ok, Err, refl, sym, ap, ◌∙◌, subst, arith}
 use Rattle.std.specs.Prelude.{OnOk}
 use Rattle.std.specs.Int.{w16, to_be_bytes, from_be_bytes}
 use Rattle.std.proofs.lemmas.List.{nil_from_length}
@@ -37,7 +37,7 @@ use Rattle.open_store.specs.Adding.{NoneStaged, Unmoved, IsPut, unplaced, unstag
 use Rattle.open_store.proofs.Held.{is_put}
 use Rattle.open_store.proofs.Keeping.{serves_on}
 use Rattle.server_reads.specs.Allowed.{Replies}
-use Rattle.server_commands.specs.Entering.{Stores}
+use Rattle.server_commands.specs.Entering.{Stores, new_of, news_of}
 use Rattle.server_commands.specs.Executing.{IsReady, GrowsBehind, Executes}
 use Rattle.server_commands.specs.Leaving.{StoresNothing}
 use Rattle.server_commands.specs.Picked.{Picked, with_shares}
@@ -251,3 +251,21 @@ unmoved_meets old new meet u = record {
 pub long_stores : (rooms : Rooms) (m new : Memory) (user : UserId) (news : List New) (content : List ℕ) (used need limit : ℕ) → 1 ≤ length news → new ≡ m
     → IsReply content (replies.Full names.Journal used need limit) → Replies content (Stores rooms m new user news)
 long_stores rooms m new user news content used need limit some same is = record { reply = replies.Full names.Journal used need limit; is = is; said = (some, same, λ other. absurd (other refl)) }
+
+-- ---- what a Put says by the memory
+
+pub none_stores : (rooms : Rooms) (old new : OpenStore) (user : UserId) (sent : List (List ℕ)) (news : List New) (content : List ℕ) → NoneStaged old → Picked old new user sent news → length news ≡ 0
+    → IsReply content (replies.Stored 0) → Replies content (Stores rooms (memory_of old.memory) (memory_of new.memory) user (news_of (memory_of old.memory) user sent))
+none_stores rooms old new user sent news content none p few is =
+    let m = memory_of old.memory in
+    let nil = nil_from_length p.strings (sym (as_many news p.strings p.are_of) ∙ few) in
+    let no_news : news_of m user sent ≡ [] = ap (map new_of) (sym p.by_memory ∙ nil) in
+    subst (λ (l : List New). Replies content (Stores rooms m (memory_of new.memory) user l)) (sym no_news)
+    (record { reply = replies.Stored 0; is = is; said = (refl, ap (λ (s : OpenStore). memory_of s.memory) (nothing_staged old new user sent news none p few), λ some. absurd (omega (arith, some))) })
+
+pub some_store : {T E : Type 0} (r : Result T E) (old x : OpenStore) (new : Memory) (user : UserId) (sent : List (List ℕ)) (news : List New) (content : List ℕ) → Picked old x user sent news
+    → OnOk r (Replies content (Stores x.header.rooms (memory_of x.memory) new user news))
+    → OnOk r (Replies content (Stores old.header.rooms (memory_of old.memory) new user (news_of (memory_of old.memory) user sent)))
+some_store r old x new user sent news content p stores =
+    subst (λ (l : List New). OnOk r (Replies content (Stores old.header.rooms (memory_of old.memory) new user l))) (p.lens ∙ ap (map new_of) p.by_memory)
+    (subst (λ (s : OpenStore). OnOk r (Replies content (Stores s.header.rooms (memory_of s.memory) new user news))) p.same stores)

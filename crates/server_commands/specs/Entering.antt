@@ -1,19 +1,31 @@
 -- What a reply says of the server's memory, whatever the cloud has.
-use Rattle.std.specs.Prelude.{◌≡◌, ◌≢◌, ℕ, ◌≤◌, ◌||◌, List, [], ◌∷◌, ◌++◌, length, map, Some, None, is_some, if◌then◌else◌}
+use Rattle.std.specs.Prelude.{◌≡◌, ◌≢◌, ℕ, ◌≤◌, ◌||◌, List, [], ◌∷◌, ◌++◌, length, map, Option, Some, None, IsSome, is_some, if◌then◌else◌}
 use Rattle.std.specs.FinMap.{FinMap, get}
 use Rattle.cd_base.specs.declared.ids.Fp.{Fp}
+use Rattle.cd_base.specs.declared.ids.Tag.{Tag}
 use Rattle.cd_base.specs.declared.ids.UserId.{UserId}
+use Rattle.cd_base.specs.declared.ids.Version.{Version}
 use Rattle.cd_base.specs.declared.rooms.Room.TheVariants as names
+use Rattle.cd_base.specs.declared.shape.Shape.{Shape}
+use Rattle.container_log.specs.Places.{place_of}
+use Rattle.file_index.specs.declared.key.Entry.{Entry}
+use Rattle.file_index.specs.declared.key.FileKey.{FileKey}
+use Rattle.file_index.specs.Files.{key_of}
 use Rattle.journal_start.specs.declared.rooms.Rooms.{Rooms}
+use Rattle.journal_start.specs.declared.start.Header.{Header}
+use Rattle.messages.specs.declared.request.Request.{Request}
+use Rattle.messages.specs.declared.request.Request.TheVariants as requests
 use Rattle.messages.specs.declared.reply.Reply.{Reply}
 use Rattle.messages.specs.declared.reply.Reply.TheVariants as replies
 use Rattle.share_index.specs.Order.{owner_cmp, owner_of}
 use Rattle.user_dedup.specs.Cloud.{fingerprint}
 use Rattle.user_dedup.specs.Owning.{is_among}
+use Rattle.user_dedup.specs.Requests.{fps_of}
 use Rattle.server_reads.specs.CloudMemory.rooms.New.{New}
 use Rattle.server_reads.specs.CloudMemory.Memory.{Memory}
-use Rattle.server_reads.specs.CloudMemory.Rooms.{full_news}
-use Rattle.server_reads.specs.CloudMemory.Steps.{parts_of, with_put}
+use Rattle.server_reads.specs.CloudMemory.Rooms.{full_news, full_commit}
+use Rattle.server_reads.specs.CloudMemory.Sharing.{AreOwned, IsFirstUnowned}
+use Rattle.server_reads.specs.CloudMemory.Steps.{parts_of, with_put, with_commit, without_entry}
 
 -- ---- a Put
 
@@ -50,3 +62,71 @@ Stores rooms m new user news (replies.Full room used need limit) =
     (1 ≤ length news) × (new ≡ m)
     × (room ≢ names.Journal → full_news rooms user m news ≡ Some (record { room = room; used = used; need = need; limit = limit }))
 Stores rooms m new user news reply = ⊥
+
+-- ---- a Commit
+
+-- the memory with the record of the Commit of this recipe, whose items name these fingerprints
+abbrev pub entering : Memory → UserId → Tag → Version → List Fp → List ℕ → Memory
+entering m user tag version fps recipe =
+    with_commit fps (record {
+      user = user;
+      tag = tag;
+      version = version;
+      at = place_of m.recipes_end (length recipe);
+      len = length recipe;
+      fp = fingerprint recipe;
+    }) m
+
+-- the version stands, where there is an entry, or is entered, and passes no room
+abbrev pub Committed : Rooms → Memory → Memory → UserId → Tag → Version → List Fp → List ℕ → Option Entry → Type 0
+Committed rooms m new user tag version fps recipe (Some entry) = new ≡ m
+Committed rooms m new user tag version fps recipe None =
+    (new ≡ entering m user tag version fps recipe) × (full_commit rooms user m (length recipe) ≡ None)
+
+-- To a Commit of a recipe that names these fingerprints: Lacking names the place of the first one that isn't the user's. Else, where there is
+-- an entry, nothing changes. Where there is none, Committed enters the version, or Full names the first room that it passes, or the journal.
+abbrev pub Commits : Rooms → Memory → Memory → UserId → Tag → Version → List Fp → List ℕ → Reply → Type 0
+Commits rooms m new user tag version fps recipe (replies.Lacking place) = IsFirstUnowned m.owners user fps place × (new ≡ m)
+Commits rooms m new user tag version fps recipe replies.Committed =
+    AreOwned m.owners user fps × Committed rooms m new user tag version fps recipe (get m.files (key_of user.0 tag.0 version.0))
+Commits rooms m new user tag version fps recipe replies.Exists =
+    AreOwned m.owners user fps × IsSome (get m.files (key_of user.0 tag.0 version.0)) × (new ≡ m)
+Commits rooms m new user tag version fps recipe (replies.Rotten named found) =
+    AreOwned m.owners user fps × IsSome (get m.files (key_of user.0 tag.0 version.0)) × (new ≡ m)
+Commits rooms m new user tag version fps recipe (replies.Full room used need limit) =
+    AreOwned m.owners user fps × (get m.files (key_of user.0 tag.0 version.0) ≡ None) × (new ≡ m)
+    × (room ≢ names.Journal → full_commit rooms user m (length recipe) ≡ Some (record { room = room; used = used; need = need; limit = limit }))
+Commits rooms m new user tag version fps recipe reply = ⊥
+
+-- ---- a Delete
+
+-- The memory without the entry, and with a use less of what a recipe of its length and fingerprint names.
+pub record WithoutEntry (shape : Shape) (m new : Memory) (user : UserId) (key : FileKey) : Type 0 where
+  pub entry : Entry
+  pub there : get m.files key ≡ Some entry
+  pub recipe : List ℕ
+  pub long : length recipe ≡ entry.len
+  pub named : fingerprint recipe ≡ entry.fp
+  pub taken : new ≡ without_entry (fps_of shape recipe) user key m
+
+-- To a Delete: Missing where there is no entry; else the entry is gone behind Deleted, and nothing changes behind any other reply.
+abbrev pub Deletes : Shape → Memory → Memory → UserId → FileKey → Reply → Type 0
+Deletes shape m new user key replies.Missing = (get m.files key ≡ None) × (new ≡ m)
+Deletes shape m new user key replies.Deleted = WithoutEntry shape m new user key
+Deletes shape m new user key (replies.Rotten named found) = IsSome (get m.files key) × (new ≡ m)
+Deletes shape m new user key (replies.Full room used need limit) = (room ≡ names.Journal) × IsSome (get m.files key) × (new ≡ m)
+Deletes shape m new user key reply = ⊥
+
+-- ---- all of them
+
+-- What the reply says of the memory before and behind a request.
+abbrev pub Enters : Header → Memory → Memory → Request → Reply → Type 0
+Enters header m new requests.Hello reply = new ≡ m
+Enters header m new (requests.Query user fps) reply = new ≡ m
+Enters header m new (requests.Put user shares) reply = Stores header.rooms m new user (news_of m user shares) reply
+Enters header m new (requests.Commit user tag version recipe) reply =
+    Commits header.rooms m new user tag version (fps_of header.shape recipe) recipe reply
+Enters header m new (requests.GetRecipe user tag version) reply = new ≡ m
+Enters header m new (requests.GetShares user fps) reply = new ≡ m
+Enters header m new (requests.List user after) reply = new ≡ m
+Enters header m new (requests.Delete user tag version) reply = Deletes header.shape m new user (key_of user.0 tag.0 version.0) reply

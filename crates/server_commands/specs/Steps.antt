@@ -4,9 +4,11 @@ use Rattle.cd_base.specs.declared.ids.Tag.{Tag}
 use Rattle.cd_base.specs.declared.ids.UserId.{UserId}
 use Rattle.cd_base.specs.declared.ids.Version.{Version}
 use Rattle.cd_base.specs.declared.rooms.Room.TheVariants as rooms
+use Rattle.cd_base.specs.declared.shape.Shape.{Shape}
 use Rattle.cd_edges.specs.Disk.{Cloud}
 use Rattle.cd_edges.specs.Shelf.{IsCall, HasFailed, KeepsCounts}
 use Rattle.container_log.specs.States.{HasStaged, with_blob}
+use Rattle.file_index.specs.declared.key.FileKey.{FileKey}
 use Rattle.journal_start.specs.declared.start.Header.{Header}
 use Rattle.messages.specs.declared.request.Request.{Request}
 use Rattle.messages.specs.declared.request.Request.TheVariants as requests
@@ -15,7 +17,7 @@ use Rattle.messages.specs.declared.reply.Reply.TheVariants as replies
 use Rattle.user_dedup.specs.declared.command.Command.{Command}
 use Rattle.user_dedup.specs.declared.command.Command.TheVariants as commands
 use Rattle.user_dedup.specs.Dedup.{answer_over}
-use Rattle.user_dedup.specs.Requests.{HasRecipe}
+use Rattle.user_dedup.specs.Requests.{HasRecipe, fps_of}
 use Rattle.user_dedup.specs.declared.file_list.FileEntry.{FileEntry}
 use Rattle.user_dedup.specs.Pages.{entry_at}
 use Rattle.open_store.specs.CloudAreas.Peers.{ImagesSince}
@@ -23,7 +25,9 @@ use Rattle.open_store.specs.CloudAreas.Standing.{Chain}
 use Rattle.open_store.specs.declared.store.OpenStore.{OpenStore}
 use Rattle.open_store.specs.Store.{IsOpen, IsSettled, EndsMeet, Serves}
 use Rattle.server_reads.specs.CloudMemory.rooms.New.{New}
+use Rattle.server_reads.specs.CloudMemory.Memory.{Memory}
 use Rattle.server_reads.specs.CloudMemory.News.{AreOf}
+use Rattle.server_reads.specs.CloudMemory.Steps.{without_entry}
 use Rattle.server_reads.specs.CloudMemory.Rooms.{memory_of}
 use Rattle.open_store.specs.Adding.{NoneStaged, unplaced}
 use Rattle.server_reads.specs.declared.blobs.Stop.{Stop}
@@ -76,6 +80,12 @@ abbrev pub IsOfDelete : Reply → Type 0
 IsOfDelete replies.Deleted = Unit {0}
 IsOfDelete (replies.Full room used need limit) = room ≡ rooms.Journal
 IsOfDelete reply = ⊥
+
+-- to a Delete of a version that is there and has this recipe: the entry is gone, or nothing has changed
+abbrev pub Forgets : Shape → Memory → Memory → UserId → FileKey → List ℕ → Reply → Type 0
+Forgets shape m new user key recipe replies.Deleted = new ≡ without_entry (fps_of shape recipe) user key m
+Forgets shape m new user key recipe (replies.Full room used need limit) = (room ≡ rooms.Journal) × (new ≡ m)
+Forgets shape m new user key recipe reply = ⊥
 
 -- to a Commit of a version that has no entry
 abbrev pub IsOfNew : Reply → Type 0

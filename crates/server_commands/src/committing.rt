@@ -22,6 +22,7 @@ ghost use Rattle.server_reads.specs.CloudMemory.Sharing.{AreOwned};
 ghost use Rattle.open_store.specs.Store.{Serves};
 ghost use Rattle.open_store.specs.Adding.{unstaged};
 ghost use Rattle.server_reads.specs.Allowed.{Replies};
+ghost use Rattle.server_commands.specs.Entering.{Commits, Enters};
 ghost use Rattle.server_commands.specs.Executing.{IsReady, GrowsBehind, Executes};
 ghost use Rattle.server_commands.specs.Steps.{Calls, Leaves, Does, HasRecipeStaged, IsOfNew, by_recipe, staging, IsAnsweredNew};
 
@@ -67,9 +68,12 @@ fn repeat<V: Shelf>(
     requires owned { (list : List Command) → Remembers store.old.header.shape list (memory_of store.old.memory)
         → first_lacking (user_view store.old.header.shape list user).own
         (fps_of store.old.header.shape recipe.now) ≡ None }
+    requires owns { AreOwned (memory_of store.old.memory).owners user (fps_of store.old.header.shape recipe.now) }
     requires buffer { recipe_limit ≤ length buffer.old }
-    ensures { Executes (shelf.new ≡ shelf.old) store.old store.new (V.cloud_at shelf.old) (V.cloud_at shelf.new)
+    ensures does { Executes (shelf.new ≡ shelf.old) store.old store.new (V.cloud_at shelf.old) (V.cloud_at shelf.new)
         (V.faults shelf.old) (V.faults shelf.new) (requests.Commit user tag version recipe.now) reply.new result }
+    ensures enters { OnOk result (Replies reply.new (Enters store.old.header (memory_of store.old.memory)
+        (memory_of store.new.memory) (requests.Commit user tag version recipe.now))) }
 {
     match read_entry(store, shelf, entry, buffer) {
         Ok(()) => {
@@ -132,6 +136,8 @@ fn add_staged<V: Shelf>(
     ensures behind { GrowsBehind store.old (V.cloud_at shelf.old store.old.header.cloud.0)
         (V.cloud_at shelf.new store.old.header.cloud.0) }
     ensures some { OnOk result (Replies reply.new IsOfNew) }
+    ensures commits { OnOk result (Replies reply.new (Commits store.old.header.rooms (memory_of store.old.memory)
+        (memory_of store.new.memory) user tag version (fps_in recipe.now.items) (spelling recipe.now))) }
     ensures full { (room : Room) (used need limit : ℕ) → room ≢ rooms.Journal
         → OnOk result (IsReply reply.new (replies.Full room used need limit)
         → (shelf.new ≡ shelf.old) × (store.new ≡ unstaged store.old)) }
@@ -171,9 +177,11 @@ fn enter<V: Shelf>(
     requires owned { AreOwned (memory_of store.old.memory).owners user (fps_in recipe.now.items) }
     requires lacks { (list : List Command) → Remembers store.old.header.shape list (memory_of store.old.memory)
         → first_lacking (user_view store.old.header.shape list user).own (fps_in recipe.now.items) ≡ None }
-    ensures { Executes (shelf.new ≡ shelf.old) store.old store.new (V.cloud_at shelf.old) (V.cloud_at shelf.new)
+    ensures does { Executes (shelf.new ≡ shelf.old) store.old store.new (V.cloud_at shelf.old) (V.cloud_at shelf.new)
         (V.faults shelf.old) (V.faults shelf.new) (requests.Commit user tag version (spelling recipe.now)) reply.new
         result }
+    ensures enters { OnOk result (Replies reply.new (Enters store.old.header (memory_of store.old.memory)
+        (memory_of store.new.memory) (requests.Commit user tag version (spelling recipe.now)))) }
 {
     let bytes = recipe.bytes();
     let fp = sha256(bytes);
@@ -194,6 +202,9 @@ fn enter<V: Shelf>(
 /// - Else the recipe is written and synced, and then the command's record, with a checkpoint before both where the journal has
 ///   no room: Committed, and the list has one command more.
 ///
+/// Whatever the cloud has, the memory decides on Lacking, on Full of a room and on whether the version has an entry; behind
+/// Committed of one that had none it is the one before with the command's record taken.
+///
 /// Full of the journal comes only over a cloud of which the store serves no list. Failed comes only where the cloud's count
 /// of faults rose. The store is shut then, the cloud stands for the list without the command or with it, and nothing is known
 /// of the content.
@@ -213,9 +224,11 @@ pub fn commit<V: Shelf>(
     requires ready { IsReady store.old }
     requires recipe { IsRecipe store.old.header.shape (spelling recipe.now) recipe.now }
     requires buffer { recipe_limit ≤ length buffer.old }
-    ensures { Executes (shelf.new ≡ shelf.old) store.old store.new (V.cloud_at shelf.old) (V.cloud_at shelf.new)
+    ensures does { Executes (shelf.new ≡ shelf.old) store.old store.new (V.cloud_at shelf.old) (V.cloud_at shelf.new)
         (V.faults shelf.old) (V.faults shelf.new) (requests.Commit user tag.now version (spelling recipe.now)) reply.new
         result }
+    ensures enters { OnOk result (Replies reply.new (Enters store.old.header (memory_of store.old.memory)
+        (memory_of store.new.memory) (requests.Commit user tag.now version (spelling recipe.now)))) }
 {
     match store.memory.first_unowned(user, recipe) {
         Some(place) => {

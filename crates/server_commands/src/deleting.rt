@@ -13,8 +13,9 @@ ghost use Rattle.open_store.specs.CloudAreas.Standing.{Chain};
 ghost use Rattle.server_reads.specs.CloudMemory.Rooms.{memory_of};
 ghost use Rattle.open_store.specs.Store.{Serves};
 ghost use Rattle.server_reads.specs.Allowed.{Replies};
+ghost use Rattle.server_commands.specs.Entering.{Enters};
 ghost use Rattle.server_commands.specs.Executing.{IsReady, GrowsBehind, Executes};
-ghost use Rattle.server_commands.specs.Steps.{Calls, Leaves, Does, IsOfDelete};
+ghost use Rattle.server_commands.specs.Steps.{Calls, Leaves, Does, IsOfDelete, Forgets};
 
 use crate::reading::read_entry;
 use crate::refusing::refuse_long;
@@ -52,6 +53,8 @@ fn forget<V: Shelf>(
     ensures behind { GrowsBehind store.old (V.cloud_at shelf.old store.old.header.cloud.0)
         (V.cloud_at shelf.new store.old.header.cloud.0) }
     ensures some { OnOk result (Replies reply.new IsOfDelete) }
+    ensures forgets { OnOk result (Replies reply.new (Forgets store.old.header.shape (memory_of store.old.memory)
+        (memory_of store.new.memory) user (key_of user.0 tag.0 version.0) recipe.now)) }
     ensures calls { Calls (V.cloud_at shelf.old) (V.cloud_at shelf.new) store.old.header.cloud.0 (V.faults shelf.old)
         (V.faults shelf.new) result }
 {
@@ -83,8 +86,10 @@ fn delete_entry<V: Shelf>(
     requires ready { IsReady store.old }
     requires there { get (memory_of store.old.memory).files (key_of user.0 tag.0 version.0) ≡ Some entry.now }
     requires buffer { recipe_limit ≤ length buffer.old }
-    ensures { Executes (shelf.new ≡ shelf.old) store.old store.new (V.cloud_at shelf.old) (V.cloud_at shelf.new)
+    ensures does { Executes (shelf.new ≡ shelf.old) store.old store.new (V.cloud_at shelf.old) (V.cloud_at shelf.new)
         (V.faults shelf.old) (V.faults shelf.new) (requests.Delete user tag version) reply.new result }
+    ensures enters { OnOk result (Replies reply.new (Enters store.old.header (memory_of store.old.memory)
+        (memory_of store.new.memory) (requests.Delete user tag version))) }
 {
     match read_entry(store, shelf, entry, buffer) {
         Ok(()) => {
@@ -110,6 +115,9 @@ fn delete_entry<V: Shelf>(
 /// - Else the command's record is written and synced, with a checkpoint before it where the journal has no room: Deleted, and
 ///   the list has one command more. The user owns each fingerprint no more that the recipe names and no entry left names.
 ///
+/// Whatever the cloud has, Missing comes exactly where the memory has no such entry, and behind Deleted the memory is the one
+/// before without it, and with a use less of what the recipe that was read names.
+///
 /// Full of the journal comes only over a cloud of which the store serves no list. Failed comes only where the cloud's count
 /// of faults rose. The store is shut then, the cloud stands for the list without the command or with it, and nothing is known
 /// of the content.
@@ -127,8 +135,10 @@ pub fn delete<V: Shelf>(
 ) -> Result<(), Failed>
     requires ready { IsReady store.old }
     requires buffer { recipe_limit ≤ length buffer.old }
-    ensures { Executes (shelf.new ≡ shelf.old) store.old store.new (V.cloud_at shelf.old) (V.cloud_at shelf.new)
+    ensures does { Executes (shelf.new ≡ shelf.old) store.old store.new (V.cloud_at shelf.old) (V.cloud_at shelf.new)
         (V.faults shelf.old) (V.faults shelf.new) (requests.Delete user tag.now version) reply.new result }
+    ensures enters { OnOk result (Replies reply.new (Enters store.old.header (memory_of store.old.memory)
+        (memory_of store.new.memory) (requests.Delete user tag.now version))) }
 {
     match store.memory.entry(user, tag, version) {
         Some(entry) => delete_entry(store, shelf, user, *tag, version, &entry, buffer, reply),

@@ -15,7 +15,7 @@ ghost use Rattle.server_reads.specs.CloudMemory.News.{AreNewTo};
 ghost use Rattle.server_reads.specs.CloudMemory.Rooms.{memory_of};
 ghost use Rattle.open_store.specs.Adding.{IsPut, IsShareNew, unstaged};
 ghost use Rattle.server_reads.specs.Allowed.{Replies};
-ghost use Rattle.server_commands.specs.Entering.{Stores};
+ghost use Rattle.server_commands.specs.Entering.{Stores, Enters};
 ghost use Rattle.server_commands.specs.Executing.{IsReady, GrowsBehind, Executes};
 ghost use Rattle.server_commands.specs.Steps.{Calls, Leaves, Does, HasNewsStaged};
 
@@ -86,6 +86,9 @@ fn add_news<V: Shelf>(
 ///   command's record, with a checkpoint before both where the journal has no room: Stored with the number of new shares, and
 ///   the list has one command more.
 ///
+/// Whatever the cloud has, Stored counts the shares that the memory doesn't give to the user, and behind it the memory is the
+/// one before with the command's record taken.
+///
 /// Full of the journal comes only over a cloud of which the store serves no list. Failed comes only where the cloud's count
 /// of faults rose. The store is shut then, the cloud stands for the list without the command or with it, and nothing is known
 /// of the content.
@@ -100,8 +103,10 @@ pub fn put<V: Shelf>(
 ) -> Result<(), Failed>
     requires ready { IsReady store.old }
     requires batch { AreShares shares.now }
-    ensures { Executes (shelf.new ≡ shelf.old) store.old store.new (V.cloud_at shelf.old) (V.cloud_at shelf.new)
+    ensures does { Executes (shelf.new ≡ shelf.old) store.old store.new (V.cloud_at shelf.old) (V.cloud_at shelf.new)
         (V.faults shelf.old) (V.faults shelf.new) (requests.Put user shares.now) reply.new result }
+    ensures enters { OnOk result (Replies reply.new (Enters store.old.header (memory_of store.old.memory)
+        (memory_of store.new.memory) (requests.Put user shares.now))) }
 {
     let mut news = [New {
         fp: Fp([0; 32]),

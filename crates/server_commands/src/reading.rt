@@ -36,6 +36,7 @@ fn read_on_disk<V: Shelf>(
 ) -> Result<(), Stop>
     requires { recipe_limit ≤ length buffer.old }
     ensures fits { OnOk result ((1 ≤ entry.now.len) × (entry.now.len ≤ recipe_limit)) }
+    ensures hashed { OnOk result (fingerprint (take entry.now.len buffer.new) ≡ entry.now.fp) }
     ensures named { IfRotten result (λ named found. named ≡ entry.now.fp) }
     ensures found { IsTrue (V.cloud_at shelf.old cloud.0).told → 1 ≤ entry.now.len → entry.now.len ≤ recipe_limit
         → IfRotten result (λ named found. IsOther
@@ -71,6 +72,7 @@ pub(crate) fn read_entry<V: Shelf>(
     requires settled { IsSettled store.old }
     requires buffer { recipe_limit ≤ length buffer.old }
     ensures fits { OnOk result ((1 ≤ entry.now.len) × (entry.now.len ≤ recipe_limit)) }
+    ensures hashed { OnOk result (fingerprint (take entry.now.len buffer.new) ≡ entry.now.fp) }
     ensures rotten { (m : Memory) (key : FileKey) → get m.files key ≡ Some entry.now
         → IfRotten result (IsFoundRecipe (V.cloud_at shelf.old store.old.header.cloud.0) m key) }
     ensures there { (list : List Command) (c : Chain) (user : UserId) (tag : Tag) (version : Version)

@@ -1,5 +1,6 @@
 -- What is said of contents.
-use Rattle.std.proofs.Common.{◌≡◌, ℕ, List, map, refl, arith}
+use Rattle.std.proofs.Common.{◌≡◌, ℕ, List, map, Result, Ok, Err, refl, arith}
+use Rattle.std.specs.Prelude.{OnOk}
 use Rattle.cd_base.specs.declared.ids.Fp.{Fp}
 use Rattle.cd_base.specs.declared.shape.Shape.{Shape}
 use Rattle.file_index.specs.declared.key.FileKey.{FileKey}
@@ -41,6 +42,15 @@ greets header content is_header is = record {
   };
   given = record { kind = tt; memory = λ e. cc; fault = λ e. cc; damaged = λ at byte e. cc };
 }
+
+-- what is said of each reply is said of the one that is given
+pub says : (shape : Shape) (request : Request) (content : List ℕ) (P : Reply → Type 0) → Gives shape request content → ((reply : Reply) → P reply) → Replies content P
+says shape request content P gives said = record { reply = gives.reply; is = gives.is; said = said gives.reply }
+
+pub says_on : {T E : Type 0} (r : Result T E) (shape : Shape) (request : Request) (content : List ℕ) (P : Reply → Type 0) → OnOk r (Gives shape request content) → ((reply : Reply) → P reply)
+    → OnOk r (Replies content P)
+says_on (Ok v) shape request content P gives said = says shape request content P gives said
+says_on (Err e) shape request content P gives said = tt
 
 -- ---- replies that leave all
 

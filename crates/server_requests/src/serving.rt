@@ -6,6 +6,8 @@ ghost use Rattle.messages.specs.declared.reply.Reply.{Reply};
 ghost use Rattle.messages.specs.Requests.{FitsRequest};
 ghost use Rattle.messages.specs.Replies.{IsReply};
 ghost use Rattle.server_reads.specs.CloudMemory.Rooms.{memory_of};
+ghost use Rattle.server_reads.specs.Allowed.{Replies};
+ghost use Rattle.server_commands.specs.Entering.{Enters};
 ghost use Rattle.server_commands.specs.Executing.{IsReady, Executes};
 ghost use Rattle.server_requests.specs.Asking.{IsOfShape, request_of, IsForMemory};
 ghost use Rattle.server_requests.specs.Hashed.{IsHashed};
@@ -28,7 +30,8 @@ use server_reads::{entries, hello, known};
 /// Whatever the cloud has, the reply is one for the request, and neither Fault nor Damaged nor NoMemory. Shares have the
 /// SHA-256 that was asked for, and a recipe has that of the memory's entry. A reply that says that nothing is stored,
 /// entered, taken out or read (Stored with 0, Lacking, Missing, NotYours, Full of a room of the user's) comes with no call of
-/// a device, and nothing has changed; one that says Rotten names what lies there then.
+/// a device, and nothing has changed; one that says Rotten names what lies there then. What a reply to a Put, a Commit or a Delete
+/// says is so by the memory, which has behind it just what it says; behind the others the memory is what it was.
 ///
 /// Failed comes only where the cloud's count of faults rose. The store is shut then, nothing is known of the content, and the
 /// cloud stands for the list without the command or with it.
@@ -51,6 +54,8 @@ pub fn dispatch<V: Shelf>(
         (V.faults shelf.old) (V.faults shelf.new) (request_of asked.now) reply.new result }
     ensures hashed { (answer : Reply) → OnOk result (IsReply reply.new answer
         → IsHashed (memory_of store.old.memory) (request_of asked.now) answer) }
+    ensures enters { OnOk result (Replies reply.new (Enters store.old.header (memory_of store.old.memory)
+        (memory_of store.new.memory) (request_of asked.now))) }
     ensures no_call { IsForMemory (request_of asked.now)
         → (shelf.new ≡ shelf.old) × (store.new ≡ store.old) × IsOk result }
 {

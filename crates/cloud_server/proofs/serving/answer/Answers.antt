@@ -10,7 +10,7 @@ use Rattle.server_requests.specs.OpenStore.Store.{ServesSome}
 use Rattle.server_requests.specs.ServerCommands.Leaving.{IsFound}
 use Rattle.server_requests.specs.ServerCommands.Serving.{serves}
 use Rattle.server_requests.specs.Asking.{request_of}
-use Rattle.cloud_server.specs.Serving.{ServesAs, Answered, ChangesBehind}
+use Rattle.cloud_server.specs.Serving.{ServesAs, Answered, ChangesBehind, EntersBy}
 use Rattle.cloud_server.specs.Steps.{Does}
 use Rattle.cloud_server.proofs.Executed.{opened_executes, opened_images, shut_images, refused_executes}
 use Rattle.cloud_server.proofs.Refusing.{not_rotten, refused_answered, answered_behind}
@@ -105,6 +105,11 @@ returns-in-Ok-clause-behind g c is_open =
     let Q : OpenStore → (ℕ → Cloud) → Type 0 = λ s k. ChangesBehind s new (k s.header.cloud.0) (at after s.header.cloud.0) r in
     subst (Q old) (ap at alone.2) (subst (λ (s : OpenStore). Q s (at c.ensure_open.new.shelf)) alone.1 c.serve.ensures.behind)
 
+pub returns-in-Ok-clause-enters : goal.returns-in-Ok-clause-enters
+returns-in-Ok-clause-enters g c is_open =
+    let alone = c.in-Ok.ensures.alone is_open in
+    subst (λ (s : OpenStore). EntersBy s c.serve.new.store (request_of c.args.asked.now) c.serve.new.reply) alone.1 c.serve.ensures.enters
+
 pub returns-in-Ok-clause-closed : goal.returns-in-Ok-clause-closed
 returns-in-Ok-clause-closed g c told shut = (let h = c.in-Ok.ensures.opened told shut in inl (h.commands, (memory_of c.ensure_open.new.store.memory, h.exact)))
 
@@ -123,6 +128,7 @@ returns-in-Ok-clause-first g c told shut =
       exact = h.exact;
       spares = h.spares;
       changes = subst (λ (x : Header). ChangesBehind mid new (at between x.cloud.0) (at after x.cloud.0) r) d.header c.serve.ensures.behind;
+      enters = c.serve.ensures.enters;
     })
 
 pub returns-in-Err-clause-refusals : goal.returns-in-Err-clause-refusals

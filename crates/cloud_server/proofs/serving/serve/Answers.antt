@@ -1,4 +1,5 @@
-use Rattle.std.proofs.Common.{arith}
+use Rattle.std.proofs.Common.{refl, arith}
+use Rattle.messages.specs.declared.reply.Reply.TheVariants as replies
 use Rattle.server_requests.specs.Asking.{request_of}
 use Rattle.cloud_server.proofs.Bounds.{reply_fits}
 use Rattle.cloud_server.proofs.Executed.{served_does, cut_does, served_images}
@@ -74,3 +75,9 @@ returns-in-Ok-clause-behind g c = (let d = c.in-Ok.ensures.does in record { behi
 
 pub returns-in-Err-clause-behind : goal.returns-in-Err-clause-behind
 returns-in-Err-clause-behind g c = (let d = c.in-Err.ensures.does in record { behind = d.behind; steady = d.steady })
+
+pub returns-in-Ok-clause-enters : goal.returns-in-Ok-clause-enters
+returns-in-Ok-clause-enters g c = (let e = c.in-Ok.ensures.enters in (e.reply, e.is, λ other. e.said))
+
+pub returns-in-Err-clause-enters : goal.returns-in-Err-clause-enters
+returns-in-Err-clause-enters g c = (replies.Fault, c.write_fault.ensures.is, λ other. absurd (other refl))

@@ -13,10 +13,13 @@ use Rattle.open_store.specs.CloudAreas.Standing.{Chain}
 use Rattle.cd_edges.specs.Disk.{Cloud}
 use Rattle.user_dedup.specs.declared.command.Command.{Command}
 use Rattle.open_store.specs.Store.{Serves}
-use Rattle.open_store.specs.Adding.{NotLong, MatchFull, unstaged}
+use Rattle.user_dedup.specs.Owning.{fps_in}
+use Rattle.server_reads.specs.CloudMemory.Rooms.{memory_of, full_commit}
+use Rattle.open_store.specs.Adding.{NotLong, MatchFull, WhenLong, Unmoved, unstaged}
 use Rattle.server_commands.proofs.Calls.{ok_result, failed_result, stays_still}
 use Rattle.server_commands.proofs.Commits.{few_bytes, only_journal}
 use Rattle.server_commands.proofs.Doing.{adds_does, stays_does, served_added, served_full, full_reply}
+use Rattle.server_commands.proofs.Enterings.{new_commits, full_commits, long_commits}
 use Rattle.server_commands.proofs.Entered.{is_commit}
 use Rattle.server_commands.proofs.committing.add_staged.Goals as goal
 
@@ -80,3 +83,26 @@ returns-in-Err-Failed-clause-does g c = λ list chain serves answered.
     adds_does old _ before after list (requests.Commit user tag version recipe) replies.Committed (commands.Commit user tag version recipe)
     (served_added (full_for old.header.shape old.header.rooms list) _ replies.Committed (commands.Commit user tag version recipe) answered.answer none)
     c.args.reply.now failed_result tt (c.add_commit.ensures.any_moment list chain recipe is) tt
+
+pub returns-in-Ok-clause-commits : goal.returns-in-Ok-clause-commits
+returns-in-Ok-clause-commits g c =
+    let old = c.args.store.now in
+    new_commits old.header.rooms (memory_of old.memory) (memory_of c.add_commit.new.self.memory) c.args.user c.args.tag c.args.version (fps_in c.args.recipe.now.items) (spelling c.args.recipe.now)
+    c.args.fp c.args.len c.requires.fp c.requires.len c.requires.new c.requires.owned c.write_committed.new.out c.in-Ok.ensures.taken c.in-Ok.ensures.full c.write_committed.ensures
+
+pub returns-in-Err-Full-clause-commits : goal.returns-in-Err-Full-clause-commits
+returns-in-Err-Full-clause-commits g c =
+    let old = c.args.store.now in let new = c.add_commit.new.self in
+    let un = subst (λ (why : Unadded). MatchFull (Err why) (Unit {0}) (λ f. (new ≡ unstaged old) × (c.add_commit.new.shelf ≡ c.args.shelf.now))) c.in-Err-Full.field-0-is c.in-Err-Full.ensures.unadded in
+    let room = full_commit old.header.rooms c.args.user (memory_of old.memory) c.args.len in
+    let full : room ≡ Some (seen c.in-Err-Full.full) =
+    subst (λ (why : Unadded). MatchFull (Err why) (room ≡ None) (λ f. room ≡ Some (seen f))) c.in-Err-Full.field-0-is c.in-Err-Full.ensures.full in
+    full_commits old.header.rooms (memory_of old.memory) (memory_of new.memory) c.args.user c.args.tag c.args.version (fps_in c.args.recipe.now.items) (spelling c.args.recipe.now)
+    c.args.fp c.args.len c.requires.fp c.requires.len c.requires.new c.requires.owned c.write_full.new.out (seen c.in-Err-Full.full) (ap (λ (s : OpenStore). memory_of s.memory) un.0) full c.write_full.ensures
+
+pub returns-in-Err-Long-clause-commits : goal.returns-in-Err-Long-clause-commits
+returns-in-Err-Long-clause-commits g c =
+    let old = c.args.store.now in let new = c.add_commit.new.self in
+    let u = subst (λ (why : Unadded). WhenLong (Err why) (Unmoved old new)) c.in-Err-Long.field-0-is c.in-Err-Long.ensures.unmoved in
+    long_commits old.header.rooms (memory_of old.memory) (memory_of new.memory) c.args.user c.args.tag c.args.version (fps_in c.args.recipe.now.items) (spelling c.args.recipe.now)
+    c.args.fp c.args.len c.requires.fp c.requires.len c.requires.new c.requires.owned c.refuse_long.new.reply _ _ _ (ap memory_of u.memory) c.refuse_long.ensures

@@ -1,4 +1,7 @@
-use Rattle.std.proofs.Common.{◌≡◌, Err, IsSome, refl, sym, subst}
+use Rattle.std.proofs.Common.{◌≡◌, ◌≤◌, length, Err, IsSome, refl, sym, ap, ◌∙◌, subst, arith, length-take}
+use Rattle.cd_base.specs.Limits.{recipe_limit}
+use Rattle.messages.specs.declared.reply.Reply.TheVariants as replies
+use Rattle.user_dedup.specs.Cloud.{fingerprint}
 use Rattle.std.specs.FinMap.{get}
 use Rattle.file_index.specs.Files.{key_of}
 use Rattle.server_reads.specs.CloudMemory.Rooms.{memory_of}
@@ -8,6 +11,7 @@ use Rattle.server_reads.specs.Reading.{HasRead}
 use Rattle.server_reads.proofs.Spelled.{rotten_is}
 use Rattle.server_commands.proofs.Reread.{ready_read}
 use Rattle.server_commands.proofs.Deleted.{deleted, failed, rotten}
+use Rattle.server_commands.proofs.Enterings.{forgotten}
 use Rattle.server_commands.proofs.deleting.delete_entry.Goals as goal
 
 pub forget-requires-clause-ready : goal.forget-requires-clause-ready
@@ -18,8 +22,8 @@ forget-requires-clause-there g c =
     subst (λ (x : OpenStore). IsSome (get (memory_of x.memory).files (key_of c.args.user.0 c.args.tag.0 c.args.version.0))) (sym c.in-Ok.ensures.store.same)
     (subst (λ o. IsSome o) (sym c.requires.there) refl)
 
-pub returns-in-Ok : goal.returns-in-Ok
-returns-in-Ok g c =
+pub returns-in-Ok-clause-does : goal.returns-in-Ok-clause-does
+returns-in-Ok-clause-does g c =
     let old = c.args.store.now in let at = g.V.Shelf.cloud_at in let faults = g.V.Shelf.faults in
     deleted c.args.user c.args.tag c.args.version (c.forget.new.shelf ≡ c.args.shelf.now) old c.read_entry.new.store c.forget.new.store
     (at c.args.shelf.now) (at c.read_entry.new.shelf) (at c.forget.new.shelf) (faults c.args.shelf.now) (faults c.read_entry.new.shelf) (faults c.forget.new.shelf) _ c.forget.new.reply
@@ -28,8 +32,8 @@ returns-in-Ok g c =
     c.split_at.ensures.front
     (record { leaves = c.forget.ensures.leaves; does = c.forget.ensures.does; behind = c.forget.ensures.behind; some = c.forget.ensures.some; calls = c.forget.ensures.calls })
 
-pub returns-in-Err-Failed : goal.returns-in-Err-Failed
-returns-in-Err-Failed g c =
+pub returns-in-Err-Failed-clause-does : goal.returns-in-Err-Failed-clause-does
+returns-in-Err-Failed-clause-does g c =
     let old = c.args.store.now in let at = g.V.Shelf.cloud_at in let faults = g.V.Shelf.faults in
     failed c.args.user c.args.tag c.args.version (c.read_entry.new.shelf ≡ c.args.shelf.now) old c.read_entry.new.store
     (at c.args.shelf.now) (at c.read_entry.new.shelf) (faults c.args.shelf.now) (faults c.read_entry.new.shelf) c.args.reply.now c.in-Err-Failed.ensures.store c.requires.ready
@@ -37,8 +41,8 @@ returns-in-Err-Failed g c =
     (subst (λ (stop : Stop). HasRead {A = Unit {0}} (at c.args.shelf.now) (at c.read_entry.new.shelf) old.header.cloud.0 (faults c.args.shelf.now) (faults c.read_entry.new.shelf) (Err stop)) c.in-Err-Failed.field-0-is c.in-Err-Failed.ensures.reads)
     c.shut.ensures.same c.shut.ensures.settled c.shut.ensures.shut
 
-pub returns-in-Err-Rotten : goal.returns-in-Err-Rotten
-returns-in-Err-Rotten g c =
+pub returns-in-Err-Rotten-clause-does : goal.returns-in-Err-Rotten-clause-does
+returns-in-Err-Rotten-clause-does g c =
     let old = c.args.store.now in let at = g.V.Shelf.cloud_at in let faults = g.V.Shelf.faults in
     rotten c.args.user c.args.tag c.args.version (c.read_entry.new.shelf ≡ c.args.shelf.now) old c.read_entry.new.store
     (at c.args.shelf.now) (at c.read_entry.new.shelf) (faults c.args.shelf.now) (faults c.read_entry.new.shelf) c.write_rotten.new.out c.in-Err-Rotten.ensures.store c.requires.ready
@@ -46,3 +50,20 @@ returns-in-Err-Rotten g c =
     (λ list chain serves. c.in-Err-Rotten.ensures.there list chain c.args.user c.args.tag c.args.version serves c.requires.there)
     (c.in-Err-Rotten.ensures.rotten (memory_of old.memory) (key_of c.args.user.0 c.args.tag.0 c.args.version.0) c.requires.there)
     (rotten_is c.write_rotten.new.out _ _ c.in-Err-Rotten.named c.in-Err-Rotten.found c.write_rotten.ensures c.in-Err-Rotten.named-is c.in-Err-Rotten.found-is)
+
+pub returns-in-Ok-clause-enters : goal.returns-in-Ok-clause-enters
+returns-in-Ok-clause-enters g c =
+    let old = c.args.store.now in let mid = c.read_entry.new.store in let recipe = c.split_at.result.0.now in
+    let front = c.split_at.ensures.front in
+    let long = ap length front in
+    let fits : c.args.entry.now.len ≤ recipe_limit = c.in-Ok.ensures.fits.1 in
+    forgotten c.forget.result old mid (memory_of c.forget.new.store.memory) c.args.user (key_of c.args.user.0 c.args.tag.0 c.args.version.0) recipe c.forget.new.reply c.args.entry.now
+    (ap (λ (s : OpenStore). s.header) c.in-Ok.ensures.store.same) (ap (λ (s : OpenStore). memory_of s.memory) c.in-Ok.ensures.store.same) c.requires.there
+    (omega (arith, long, fits, length-take c.args.entry.now.len c.read_entry.new.buffer)) (ap fingerprint front ∙ c.in-Ok.ensures.hashed) c.forget.ensures.forgets
+
+pub returns-in-Err-Rotten-clause-enters : goal.returns-in-Err-Rotten-clause-enters
+returns-in-Err-Rotten-clause-enters g c = record {
+  reply = replies.Rotten c.in-Err-Rotten.named c.in-Err-Rotten.found;
+  is = rotten_is c.write_rotten.new.out _ _ c.in-Err-Rotten.named c.in-Err-Rotten.found c.write_rotten.ensures c.in-Err-Rotten.named-is c.in-Err-Rotten.found-is;
+  said = (subst (λ o. IsSome o) (sym c.requires.there) refl, ap (λ (s : OpenStore). memory_of s.memory) c.in-Err-Rotten.ensures.store.same);
+}

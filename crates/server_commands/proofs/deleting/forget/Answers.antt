@@ -1,13 +1,16 @@
-use Rattle.std.proofs.Common.{rules, Err, subst}
+use Rattle.std.proofs.Common.{rules, Err, ap, subst}
+use Rattle.file_index.specs.Files.{key_of}
 use Rattle.messages.specs.Requests.{FitsRequest}
 use Rattle.messages.specs.declared.request.Request.TheVariants as requests
 use Rattle.messages.specs.declared.reply.Reply.TheVariants as replies
 use Rattle.user_dedup.specs.declared.command.Command.TheVariants as commands
 use Rattle.open_store.specs.declared.store.Unadded.{Unadded}
-use Rattle.open_store.specs.Adding.{NotLong}
+use Rattle.server_reads.specs.CloudMemory.Rooms.{memory_of}
+use Rattle.open_store.specs.Adding.{NotLong, WhenLong, Unmoved}
 use Rattle.server_commands.proofs.Calls.{ok_result, failed_result}
 use Rattle.server_commands.proofs.Doing.{adds_does}
 use Rattle.server_commands.proofs.Deletions.{deleted_served, is_delete}
+use Rattle.server_commands.proofs.Enterings.{full_forgets}
 use Rattle.server_commands.proofs.deleting.forget.Goals as goal
 
 pub returns-in-Ok-clause-does : goal.returns-in-Ok-clause-does
@@ -36,3 +39,13 @@ returns-in-Err-Failed-clause-does g c = λ list chain file serves at same.
     let is = is_delete old list user tag version chain before file c.args.recipe.now serves fits at same c.requires.ready.none in
     adds_does old _ before after list (requests.Delete user tag version) replies.Deleted (commands.Delete user tag version) (deleted_served old list user tag version file at)
     c.args.reply.now failed_result tt (c.add_delete.ensures.any_moment list chain file is) tt
+
+pub returns-in-Ok-clause-forgets : goal.returns-in-Ok-clause-forgets
+returns-in-Ok-clause-forgets g c = record { reply = replies.Deleted; is = c.write_deleted.ensures; said = c.in-Ok.ensures.taken }
+
+pub returns-in-Err-Long-clause-forgets : goal.returns-in-Err-Long-clause-forgets
+returns-in-Err-Long-clause-forgets g c =
+    let old = c.args.store.now in let new = c.add_delete.new.self in
+    let u = subst (λ (why : Unadded). WhenLong (Err why) (Unmoved old new)) c.in-Err-Long.field-0-is c.in-Err-Long.ensures.unmoved in
+    full_forgets old.header.shape (memory_of old.memory) (memory_of new.memory) c.args.user (key_of c.args.user.0 c.args.tag.0 c.args.version.0) c.args.recipe.now c.refuse_long.new.reply _ _ _
+    (ap memory_of u.memory) c.refuse_long.ensures

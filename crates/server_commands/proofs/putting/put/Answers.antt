@@ -8,12 +8,12 @@ use Rattle.open_store.specs.declared.store.OpenStore.{OpenStore}
 use Rattle.open_store.specs.Adding.{IsShareNew}
 use Rattle.server_commands.specs.Picked.{Picked}
 use Rattle.server_commands.specs.Steps.{HasNewsStaged}
-use Rattle.server_commands.proofs.Puts.{none_new, news_staged, added}
+use Rattle.server_commands.proofs.Puts.{none_new, none_stores, news_staged, added, some_store}
 use Rattle.server_commands.proofs.Storing.{share_lens}
 use Rattle.server_commands.proofs.putting.put.Goals as goal
 
-pub returns-then-count-eq0 : goal.returns-then-count-eq0
-returns-then-count-eq0 g c =
+pub returns-then-count-eq0-clause-does : goal.returns-then-count-eq0-clause-does
+returns-then-count-eq0-clause-does g c =
     let few : length (take c.collect-count.result c.collect-count.new.news) ≡ 0 = ap (λ (n : ℕ). length (take n c.collect-count.new.news)) c.if-count-eq0.true in
     none_new (c.args.shelf.now ≡ c.args.shelf.now) c.args.store.now c.collect-count.new.store (g.V.Shelf.cloud_at c.args.shelf.now) (g.V.Shelf.faults c.args.shelf.now) c.args.user c.args.shares.now _ c.write_stored.new.out
     refl c.requires.ready c.collect-count.ensures.picked few c.write_stored.ensures
@@ -41,8 +41,8 @@ add_news-requires-clause-new g c =
     subst (AreNewTo (memory_of c.collect-count.new.store.memory) c.args.user) (sym c.split_at.ensures.front)
     (subst (λ (m : Memory). AreNewTo m c.args.user (take c.collect-count.result c.collect-count.new.news)) (sym (ap (λ (s : OpenStore). memory_of s.memory) p.same)) p.fresh)
 
-pub returns : goal.returns
-returns g c =
+pub returns-clause-does : goal.returns-clause-does
+returns-clause-does g c =
     let old = c.args.store.now in let mid = c.collect-count.new.store in let at = g.V.Shelf.cloud_at in let faults = g.V.Shelf.faults in let e = c.add_news.ensures in
     let front = c.split_at.result.0.now in
     let long = ap length c.split_at.ensures.front in
@@ -51,3 +51,14 @@ returns g c =
     (faults c.args.shelf.now) (faults c.add_news.new.shelf) c.add_news.new.reply c.requires.ready c.requires.batch (omega arith)
     (subst (λ (l : List New). Picked old mid c.args.user c.args.shares.now l) (sym c.split_at.ensures.front) c.collect-count.ensures.picked) some
     (record { leaves = e.leaves; does = λ list chain strings put new. e.does list chain c.args.shares.now strings put new; behind = e.behind; stores = e.stores; full = e.full; calls = e.calls })
+
+pub returns-then-count-eq0-clause-enters : goal.returns-then-count-eq0-clause-enters
+returns-then-count-eq0-clause-enters g c =
+    let few : length (take c.collect-count.result c.collect-count.new.news) ≡ 0 = ap (λ (n : ℕ). length (take n c.collect-count.new.news)) c.if-count-eq0.true in
+    none_stores c.args.store.now.header.rooms c.args.store.now c.collect-count.new.store c.args.user c.args.shares.now _ c.write_stored.new.out c.requires.ready.none c.collect-count.ensures.picked few c.write_stored.ensures
+
+pub returns-clause-enters : goal.returns-clause-enters
+returns-clause-enters g c =
+    let old = c.args.store.now in let mid = c.collect-count.new.store in
+    some_store c.add_news.result old mid (memory_of c.add_news.new.store.memory) c.args.user c.args.shares.now c.split_at.result.0.now c.add_news.new.reply
+    (subst (λ (l : List New). Picked old mid c.args.user c.args.shares.now l) (sym c.split_at.ensures.front) c.collect-count.ensures.picked) c.add_news.ensures.stores

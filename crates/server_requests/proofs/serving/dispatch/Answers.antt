@@ -1,12 +1,16 @@
 use Rattle.std.proofs.Common.{◌≡◌, [], refl, sym, ap, subst}
+use Rattle.std.specs.Prelude.{OnOk}
 use Rattle.messages.specs.declared.request.Request.{Request}
 use Rattle.messages.specs.declared.request.Request.TheVariants as requests
+use Rattle.server_reads.specs.CloudMemory.Rooms.{memory_of}
+use Rattle.server_reads.specs.Allowed.{Replies}
 use Rattle.server_reads.proofs.Plain.{known_plain, entries_plain}
+use Rattle.server_commands.specs.Entering.{Enters}
 use Rattle.server_commands.specs.Executing.{Executes}
 use Rattle.server_commands.proofs.Calls.{ok_result}
 use Rattle.server_requests.specs.Asking.{request_of}
 use Rattle.server_requests.proofs.Alone.{was_told}
-use Rattle.server_requests.proofs.Contents.{gives_plain, greets}
+use Rattle.server_requests.proofs.Contents.{gives_plain, greets, says, says_on}
 use Rattle.server_requests.proofs.serving.dispatch.Goals as goal
 
 -- ---- by the memory alone
@@ -43,4 +47,54 @@ pub returns-in-Commit-clause-does : goal.returns-in-Commit-clause-does
 returns-in-Commit-clause-does g c =
     let s = c.args.store.now in let at = g.V.Shelf.cloud_at in let faults = g.V.Shelf.faults in let new = c.commit.new in
     subst (λ (r : Request). Executes (new.shelf ≡ c.args.shelf.now) s new.store (at c.args.shelf.now) (at new.shelf) (faults c.args.shelf.now) (faults new.shelf) r new.reply c.commit.result)
-    (ap request_of (sym c.in-Commit.is)) c.commit.ensures
+    (ap request_of (sym c.in-Commit.is)) c.commit.ensures.does
+
+-- ---- what the replies say of the memory
+
+pub returns-in-Hello-clause-enters : goal.returns-in-Hello-clause-enters
+returns-in-Hello-clause-enters g c =
+    let s = c.args.store.now in let m = memory_of s.memory in let content = c.hello.new.reply in
+    subst (λ (r : Request). Replies content (Enters s.header m m r)) (ap request_of (sym c.in-Hello.is))
+    (says s.header.shape requests.Hello content (Enters s.header m m requests.Hello) (greets s.header content c.requires.ready.settled.header (c.hello.ensures [])) (λ reply. refl))
+
+pub returns-in-Query-clause-enters : goal.returns-in-Query-clause-enters
+returns-in-Query-clause-enters g c =
+    let s = c.args.store.now in let m = memory_of s.memory in let content = c.known.new.reply in
+    let user = c.in-Query.user in let fps = c.in-Query.fps in let request = requests.Query user fps in
+    subst (λ (r : Request). Replies content (Enters s.header m m r)) (ap request_of (sym c.in-Query.is))
+    (says s.header.shape request content (Enters s.header m m request) (gives_plain s.header.shape request content _ c.known.ensures.kind (known_plain user fps)) (λ reply. refl))
+
+pub returns-in-List-clause-enters : goal.returns-in-List-clause-enters
+returns-in-List-clause-enters g c =
+    let s = c.args.store.now in let m = memory_of s.memory in let content = c.entries.new.reply in
+    let user = c.in-List.user in let after = c.in-List.after in let request = requests.List user after in
+    subst (λ (r : Request). Replies content (Enters s.header m m r)) (ap request_of (sym c.in-List.is))
+    (says s.header.shape request content (Enters s.header m m request) (gives_plain s.header.shape request content _ c.entries.ensures.kind (entries_plain user after)) (λ reply. refl))
+
+pub returns-in-GetRecipe-clause-enters : goal.returns-in-GetRecipe-clause-enters
+returns-in-GetRecipe-clause-enters g c =
+    let s = c.args.store.now in let new = c.send_recipe.new in let d = c.send_recipe.ensures.does in
+    let request = requests.GetRecipe c.in-GetRecipe.user c.in-GetRecipe.tag c.in-GetRecipe.version in
+    let E : Request → Type 0 = λ r. OnOk c.send_recipe.result (Replies new.reply (Enters s.header (memory_of s.memory) (memory_of new.store.memory) r)) in
+    subst E (ap request_of (sym c.in-GetRecipe.is))
+    (says_on c.send_recipe.result s.header.shape request new.reply (Enters s.header (memory_of s.memory) (memory_of new.store.memory) request) d.kind (λ reply. ap memory_of (d.steady tt).memory))
+
+pub returns-in-GetShares-clause-enters : goal.returns-in-GetShares-clause-enters
+returns-in-GetShares-clause-enters g c =
+    let s = c.args.store.now in let new = c.send_shares.new in let d = c.send_shares.ensures.does in
+    let request = requests.GetShares c.in-GetShares.user c.in-GetShares.fps in
+    let E : Request → Type 0 = λ r. OnOk c.send_shares.result (Replies new.reply (Enters s.header (memory_of s.memory) (memory_of new.store.memory) r)) in
+    subst E (ap request_of (sym c.in-GetShares.is))
+    (says_on c.send_shares.result s.header.shape request new.reply (Enters s.header (memory_of s.memory) (memory_of new.store.memory) request) d.kind (λ reply. ap memory_of (d.steady tt).memory))
+
+pub returns-in-Commit-clause-enters : goal.returns-in-Commit-clause-enters
+returns-in-Commit-clause-enters g c =
+    let s = c.args.store.now in let new = c.commit.new in
+    let E : Request → Type 0 = λ r. OnOk c.commit.result (Replies new.reply (Enters s.header (memory_of s.memory) (memory_of new.store.memory) r)) in
+    subst E (ap request_of (sym c.in-Commit.is)) c.commit.ensures.enters
+
+pub returns-in-Put-clause-enters : goal.returns-in-Put-clause-enters
+returns-in-Put-clause-enters g c =
+    let s = c.args.store.now in let new = c.put.new in
+    let E : Request → Type 0 = λ r. OnOk c.put.result (Replies new.reply (Enters s.header (memory_of s.memory) (memory_of new.store.memory) r)) in
+    subst E (ap request_of (sym c.in-Put.is)) c.put.ensures.enters
