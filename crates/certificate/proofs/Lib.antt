@@ -1,0 +1,5 @@
+pub mod Words
+pub mod FieldLaws
+pub mod Texts
+pub mod Turns
+pub mod LineTexts

@@ -1,0 +1,141 @@
+//! Tests of certificate.
+
+use cd_base::{Bytes, CloudNo, Fp, NoMemory, Shape, Tag, UserId, Version};
+use certificate::{
+    CertificateLine, FileLine, Heading, ShareLine, WrongLine, read_certificate, write_line,
+};
+use std::alloc::Global;
+use std::test::Fail;
+
+// The lines of a cloud with one file of one byte.
+const FIRST: &[u8] = b"audit 1 4 3 0\n";
+
+const SHARE: &[u8] =
+    b"share 7306196382e41a397efac21e4f4613ec42dbce6fc69dc13a71972b7d5afc5010 0 11\n";
+
+const FILE: &[u8] =
+    b"file 7 5d68886a3c18c6681152c8912b098df2772886cc297ca017f379493ac7b5822e 1 0 61 f2c65081ae3999c365702446b19476230ccb9e2a85c5794f56ddf42d8aff7486\n";
+
+const END: &[u8] = b"end 2\n";
+
+type Pieces = [&'static [u8]; 4];
+
+// The pieces one after another.
+fn joined(alloc: Global, pieces: &Pieces) -> Result<Bytes, NoMemory> {
+    let mut text = Bytes::new(alloc);
+    for piece in pieces {
+        text.extend(piece)?;
+    }
+    Ok(text)
+}
+
+// Texts that are no certificates, with the first wrong line and place.
+static WRONG: [(Pieces, u64, u64); 16] = [
+    ([b"audit 2 4 3 0\n", SHARE, FILE, END], 1, 6),
+    ([b"audit 1 4 4 0\n", SHARE, FILE, END], 1, 10),
+    ([b"audit 1 4 3 4\n", SHARE, FILE, END], 1, 12),
+    ([b"audit 1 4 3\n", SHARE, FILE, END], 1, 11),
+    ([b"", b"", b"", b""], 1, 0),
+    (
+        [
+            FIRST,
+            b"share 7306196382e41a397efac21e4f4613ec42dbce6fc69dc13a71972b7d5afc5010 00 11\n",
+            FILE,
+            END,
+        ],
+        2,
+        71,
+    ),
+    (
+        [
+            FIRST,
+            b"share 7306196382e41a397efac21e4f4613ec42dbce6fc69dc13a71972b7d5afc5010 0 4294967296\n",
+            FILE,
+            END,
+        ],
+        2,
+        73,
+    ),
+    (
+        [
+            FIRST,
+            b"share 7306196382E41A397EFAC21E4F4613EC42DBCE6FC69DC13A71972B7D5AFC5010 0 11\n",
+            FILE,
+            END,
+        ],
+        2,
+        6,
+    ),
+    (
+        [
+            FIRST,
+            b"share 7306196382e41a397efac21e4f4613ec42dbce6fc69dc13a71972b7d5afc50 0 11\n",
+            FILE,
+            END,
+        ],
+        2,
+        6,
+    ),
+    ([FIRST, FILE, SHARE, END], 3, 0),
+    ([FIRST, SHARE, FILE, b""], 4, 0),
+    ([FIRST, SHARE, FILE, b"end 2"], 4, 5),
+    ([FIRST, SHARE, FILE, b"end 2 1\n"], 4, 5),
+    ([FIRST, SHARE, FILE, b"end 4294967296\n"], 4, 4),
+    ([FIRST, SHARE, FILE, b"end 2\n\n"], 5, 0),
+    ([FIRST, SHARE, FILE, b"end 2\nend 2\n"], 5, 0),
+];
+
+#[test]
+fn wrong_lines(rt: HostRuntime) -> Result<(), Fail> {
+    for (pieces, line, at) in &WRONG {
+        let text = joined(rt.alloc(), pieces)?;
+        let wrong = WrongLine {
+            line: *line,
+            at: *at,
+        };
+        assert!(rt; read_certificate(text.as_slice()) == Err(wrong));
+    }
+    Ok(())
+}
+
+#[test]
+fn a_certificate(rt: HostRuntime) -> Result<(), Fail> {
+    let heading = Heading {
+        shape: Shape { n: 4, k: 3 },
+        cloud: CloudNo(0),
+    };
+    let share = ShareLine {
+        fp: Fp([
+            0x73, 0x06, 0x19, 0x63, 0x82, 0xe4, 0x1a, 0x39, 0x7e, 0xfa, 0xc2, 0x1e, 0x4f, 0x46,
+            0x13, 0xec, 0x42, 0xdb, 0xce, 0x6f, 0xc6, 0x9d, 0xc1, 0x3a, 0x71, 0x97, 0x2b, 0x7d,
+            0x5a, 0xfc, 0x50, 0x10,
+        ]),
+        at: 0,
+        len: 11,
+    };
+    let file = FileLine {
+        user: UserId(7),
+        tag: Tag([
+            0x5d, 0x68, 0x88, 0x6a, 0x3c, 0x18, 0xc6, 0x68, 0x11, 0x52, 0xc8, 0x91, 0x2b, 0x09,
+            0x8d, 0xf2, 0x77, 0x28, 0x86, 0xcc, 0x29, 0x7c, 0xa0, 0x17, 0xf3, 0x79, 0x49, 0x3a,
+            0xc7, 0xb5, 0x82, 0x2e,
+        ]),
+        version: Version(1),
+        at: 0,
+        len: 61,
+        fp: Fp([
+            0xf2, 0xc6, 0x50, 0x81, 0xae, 0x39, 0x99, 0xc3, 0x65, 0x70, 0x24, 0x46, 0xb1, 0x94,
+            0x76, 0x23, 0x0c, 0xcb, 0x9e, 0x2a, 0x85, 0xc5, 0x79, 0x4f, 0x56, 0xdd, 0xf4, 0x2d,
+            0x8a, 0xff, 0x74, 0x86,
+        ]),
+    };
+    let mut text = Bytes::new(rt.alloc());
+    write_line(&CertificateLine::Heading(heading), &mut text)?;
+    write_line(&CertificateLine::Share(share), &mut text)?;
+    write_line(&CertificateLine::File(file), &mut text)?;
+    write_line(&CertificateLine::End { count: 2 }, &mut text)?;
+    let wanted = joined(rt.alloc(), &[FIRST, SHARE, FILE, END])?;
+    assert!(rt; text.as_slice() == wanted.as_slice());
+    assert!(rt; read_certificate(text.as_slice()) == Ok(heading));
+    Ok(())
+}
