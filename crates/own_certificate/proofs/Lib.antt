@@ -1,0 +1,4 @@
+mod Tables
+mod Listed
+mod Indexing
+mod Parting
