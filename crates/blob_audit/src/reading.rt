@@ -1,0 +1,101 @@
+//! Reading all blobs.
+
+ghost use Rattle.std.specs.Prelude.{◌≡◌, false, length, Err, IsTrue, IfOk};
+ghost use Rattle.cd_edges.specs.Disk.{reads};
+ghost use Rattle.cd_edges.specs.Shelf.{IsCall, HasFailed, KeepsCounts, Stays};
+ghost use Rattle.audit_base.specs.Whole.{tables_of};
+ghost use Rattle.pool_map.specs.Slots.{IsListed};
+ghost use Rattle.cloud_memory.specs.Live.{IsEachLive};
+ghost use Rattle.blob_audit.specs.declared.errors.ReadErr.TheVariants as answers;
+ghost use Rattle.blob_audit.specs.Reading.{StoredIs, GoodIs, OnReadFault};
+ghost use Rattle.blob_audit.specs.Steps.{lacks_memory, IsRead, BothRead};
+
+use crate::ReadErr;
+use crate::pieces::WINDOW;
+use crate::slots::{file_slots, read_files, read_shares, share_slots};
+use cd_base::{CloudNo, NoMemory, Shape};
+use cd_edges::Shelf;
+use cloud_memory::CloudMemory;
+use std::alloc::Global;
+
+// Reads all shares, and then all recipes.
+fn read_both<V: Shelf>(
+    shelf: &mut V,
+    cloud: CloudNo,
+    shape: Option<Shape>,
+    memory: &CloudMemory,
+    window: &mut [u8],
+) -> Result<(), ReadErr>
+    requires { length window.old ≡ 4194304 }
+    ensures read { IsRead (BothRead shape memory.now)
+        (V.cloud_at shelf.old) (V.cloud_at shelf.new) cloud.0 (V.faults shelf.old) (V.faults shelf.new) result }
+    ensures memory { lacks_memory result ≡ false }
+    ensures shares { IsEachLive memory.now.shares }
+    ensures files { IsListed memory.now.files.files memory.now.files.slots }
+{
+    let shares = share_slots(memory);
+    let files = file_slots(memory);
+    match read_shares(shelf, cloud, memory, shares, window) {
+        Ok(()) => read_files(shelf, cloud, memory, shape, files, window),
+        Err(error) => Err(error),
+    }
+}
+
+// The memory of a window.
+fn window(alloc: Global) -> Result<Vec<u8>, NoMemory>
+    ensures { IfOk result (λ window. length window.items ≡ 4194304) }
+{
+    Ok(vec![in alloc; 0u8; WINDOW]?)
+}
+
+/// Reads each share that some user owns and each entry's recipe from the device, and hashes it.
+pub fn read_stored<V: Shelf>(
+    alloc: Global,
+    shelf: &mut V,
+    cloud: CloudNo,
+    memory: &CloudMemory,
+) -> Result<(), ReadErr>
+    ensures judged { IsTrue (V.cloud_at shelf.old cloud.0).told
+        → StoredIs (reads (V.cloud_at shelf.new cloud.0).now) (tables_of memory.now) result }
+    ensures stays { Stays (V.cloud_at shelf.old cloud.0) (V.cloud_at shelf.new cloud.0) }
+    ensures call { IsCall (V.cloud_at shelf.old) (V.cloud_at shelf.new) cloud.0 (V.faults shelf.old)
+        (V.faults shelf.new) }
+    ensures counts { OnReadFault result
+        (HasFailed (V.cloud_at shelf.old cloud.0) (V.cloud_at shelf.new cloud.0)
+        (V.faults shelf.old) (V.faults shelf.new))
+        (KeepsCounts (V.cloud_at shelf.old cloud.0) (V.cloud_at shelf.new cloud.0)
+        (V.faults shelf.old) (V.faults shelf.new)) }
+    ensures unread { result ≡ Err answers.NoMemory → shelf.new ≡ shelf.old }
+{
+    match window(alloc) {
+        Ok(mut window) => read_both(shelf, cloud, None, memory, window.as_mut_slice()),
+        Err(NoMemory) => Err(ReadErr::NoMemory),
+    }
+}
+
+/// Reads each share that some user owns and each entry's recipe from the device, hashes it, and looks at the recipe:
+/// whether it is one of this shape, and names only what its user owns.
+pub fn read_good<V: Shelf>(
+    alloc: Global,
+    shelf: &mut V,
+    cloud: CloudNo,
+    shape: Shape,
+    memory: &CloudMemory,
+) -> Result<(), ReadErr>
+    ensures judged { IsTrue (V.cloud_at shelf.old cloud.0).told
+        → GoodIs shape (reads (V.cloud_at shelf.new cloud.0).now) (tables_of memory.now) result }
+    ensures stays { Stays (V.cloud_at shelf.old cloud.0) (V.cloud_at shelf.new cloud.0) }
+    ensures call { IsCall (V.cloud_at shelf.old) (V.cloud_at shelf.new) cloud.0 (V.faults shelf.old)
+        (V.faults shelf.new) }
+    ensures counts { OnReadFault result
+        (HasFailed (V.cloud_at shelf.old cloud.0) (V.cloud_at shelf.new cloud.0)
+        (V.faults shelf.old) (V.faults shelf.new))
+        (KeepsCounts (V.cloud_at shelf.old cloud.0) (V.cloud_at shelf.new cloud.0)
+        (V.faults shelf.old) (V.faults shelf.new)) }
+    ensures unread { result ≡ Err answers.NoMemory → shelf.new ≡ shelf.old }
+{
+    match window(alloc) {
+        Ok(mut window) => read_both(shelf, cloud, Some(shape), memory, window.as_mut_slice()),
+        Err(NoMemory) => Err(ReadErr::NoMemory),
+    }
+}
