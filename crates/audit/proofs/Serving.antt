@@ -1,0 +1,119 @@
+-- What an open store that serves a list knows of its blobs.
+use Rattle.std.proofs.Common.{◌≡◌, ℕ, List, [], length, map, take, drop, Option, Some, None, refl, sym, ap, ◌∙◌, subst}
+use Rattle.std.specs.Prelude.{All, IsSome, option_map, unwrap_or}
+use Rattle.std.specs.List.{Contains}
+use Rattle.std.specs.FinMap.{get}
+use Rattle.cd_base.specs.declared.ids.Fp.{Fp}
+use Rattle.cd_base.specs.declared.ids.Tag.{Tag}
+use Rattle.cd_base.specs.declared.ids.UserId.{UserId}
+use Rattle.cd_base.specs.declared.ids.Version.{Version}
+use Rattle.cd_base.specs.declared.shape.Shape.{Shape}
+use Rattle.cd_edges.specs.declared.area.Area.TheVariants.{Shares, Recipes}
+use Rattle.cd_edges.specs.Disk.{Cloud, reads}
+use Rattle.file_index.specs.declared.key.Entry.{Entry}
+use Rattle.file_index.specs.Files.{key_of}
+use Rattle.recipe.specs.declared.recipe.Recipe.{Recipe}
+use Rattle.recipe.specs.Spelling.{IsRecipe}
+use Rattle.recipe.proofs.Written.{again}
+use Rattle.user_dedup.specs.declared.file_list.FileEntry.{FileEntry}
+use Rattle.user_dedup.specs.Cloud.{fingerprint, user_view, strings_in, held_bytes}
+use Rattle.user_dedup.specs.Owning.{fps_in}
+use Rattle.user_dedup.specs.Pages.{entry_at}
+use Rattle.user_dedup.specs.Requests.{fps_of, fps_read}
+use Rattle.user_dedup.proofs.Entries.{found_entry}
+use Rattle.user_dedup.proofs.Sound.{entries_owned}
+use Rattle.user_dedup.specs.declared.command.Command.{Command}
+use Rattle.user_dedup.proofs.CompactSound.{files_fit}
+use Rattle.user_dedup.proofs.Views.{held_is, owned_is_held}
+use Rattle.cloud_areas.specs.Standing.{Chain}
+use Rattle.cloud_disk.specs.Disk.{Disk}
+use Rattle.cloud_memory.specs.declared.cloud.CloudMemory.{CloudMemory}
+use Rattle.cloud_memory.specs.Memory.{summary, summary_of}
+use Rattle.checkpoints.specs.Known.{IsKnown}
+use Rattle.checkpoints.proofs.Apartness.{in_map}
+use Rattle.journal_start.specs.declared.start.Header.{Header}
+use Rattle.open_store.specs.declared.store.OpenStore.{OpenStore}
+use Rattle.open_store.specs.Store.{Serves}
+use Rattle.audit_base.specs.Served.{ServedTables, Views, IsEntryOf, NamesOwn}
+use Rattle.audit_base.specs.Whole.{WholeNow, tables_of}
+use Rattle.audit_base.proofs.Wholeness.{by_serving}
+use Rattle.audit.specs.Serving.{views_of}
+
+mapped : {A B : Type 0} (f : A → B) (o : Option A) (y : B) → option_map f o ≡ Some y → (x : A) × (o ≡ Some x) × (f x ≡ y)
+mapped f None y e = absurd (let no : None ≡ Some y = e in cc)
+mapped f (Some x) y e = let two : Some (f x) ≡ Some y = e in (x, refl, cc)
+
+-- a recipe names what it reads as naming
+named : (shape : Shape) (bytes : List ℕ) (r : Recipe) → IsRecipe shape bytes r → fps_of shape bytes ≡ fps_in r.items
+named shape bytes r is = ap (fps_of shape) is.spelled ∙ ap fps_read (again shape r is.fits)
+
+module _ (header : Header) (list : List Command) (c : Chain) (commands region : ℕ) (memory : CloudMemory) (disk : Disk) (cloud : Cloud)
+    (k : IsKnown header list c commands region memory disk cloud) where
+  abbrev shape : Shape
+  shape = header.shape
+
+  abbrev v : Views
+  v = views_of header.shape list
+
+  is_placed : (user : UserId) (fp : Fp) → Contains (v.own user) fp → IsSome (get memory.shares.places fp.0)
+  is_placed user fp has =
+      let h = owned_is_held shape list user fp has in
+      let s = held_is list fp h.0 h.1 in
+      (k.remembers.placed fp).1 (subst (Contains (map fingerprint (strings_in list))) s.0 (in_map fingerprint (strings_in list) h.0 s.1))
+
+  is_held : (user : UserId) (fp : Fp) → Contains (v.own user) fp → fingerprint (held_bytes list fp) ≡ fp
+  is_held user fp has =
+      let h = owned_is_held shape list user fp has in
+      ap (λ (o : Option (List ℕ)). fingerprint (unwrap_or o [])) h.1 ∙ h.2
+
+  is_entry : (user : UserId) (tag : Tag) (version : Version) (e : Entry) → get memory.files.files (key_of user.0 tag.0 version.0) ≡ Some e → IsEntryOf v user tag version e
+  is_entry user tag version e has =
+      let o = entry_at (user_view shape list user).files (tag, version) in
+      let both : option_map summary_of o ≡ Some (summary e) = sym (k.remembers.files user tag version) ∙ ap (option_map summary) has in
+      let x = mapped summary_of o (summary e) both in
+      record {
+        bytes = x.0.recipe;
+        there = ap (option_map (λ (f : FileEntry). f.recipe)) x.1;
+        len = sym (ap (λ (p : ℕ × Fp). p.0) x.2);
+        fp = ap (λ (p : ℕ × Fp). p.1) x.2;
+      }
+
+  names_own : (user : UserId) (tag : Tag) (version : Version) (bytes : List ℕ) → v.recipe user tag version ≡ Some bytes → NamesOwn shape (v.own user) bytes
+  names_own user tag version bytes there =
+      let files = (user_view shape list user).files in
+      let x = mapped (λ (f : FileEntry). f.recipe) (entry_at files (tag, version)) bytes there in
+      let found = found_entry files (tag, version) x.0 x.1 in
+      let r = (files_fit shape header.cloud.0 list k.on.read.sound user x.0 found.1).1 in
+      let own = entries_owned shape header.cloud.0 list user x.0 k.on.read.sound found.1 in
+      subst (NamesOwn shape (v.own user)) x.2 (record {
+        recipe = r.0;
+        is_recipe = r.1;
+        owned = subst (All (Contains (v.own user))) (named shape x.0.recipe r.0 r.1) own;
+      })
+
+  lies : (user : UserId) (tag : Tag) (version : Version) (e : Entry) (bytes : List ℕ) → get memory.files.files (key_of user.0 tag.0 version.0) ≡ Some e
+      → v.recipe user tag version ≡ Some bytes → take (length bytes) (drop e.at (reads cloud.now Recipes)) ≡ bytes
+  lies user tag version e bytes has there =
+      let x = mapped (λ (f : FileEntry). f.recipe) (entry_at (user_view shape list user).files (tag, version)) bytes there in
+      subst (λ (b : List ℕ). take (length b) (drop e.at (reads cloud.now Recipes)) ≡ b) x.2 (k.stand.entries user (tag, version) e x.0 has x.1)
+
+  pub is_served : ServedTables shape (reads cloud.now) (tables_of memory) v
+  is_served = record {
+    owners = k.remembers.owners;
+    placed = is_placed;
+    lens = k.remembers.lens;
+    files = is_entry;
+    held = is_held;
+    names = names_own;
+    strings = k.stand.strings;
+    entries = lies;
+  }
+
+pub served : (list : List Command) (c : Chain) (store : OpenStore) (cloud : Cloud) → Serves list c store cloud
+    → ServedTables store.header.shape (reads cloud.now) (tables_of store.memory) (views_of store.header.shape list)
+served list c store cloud s = is_served store.header list c store.commands store.region store.memory store.disk cloud s.known
+
+pub whole : (list : List Command) (c : Chain) (store : OpenStore) (cloud : Cloud) → Serves list c store cloud
+    → WholeNow store.header.shape (reads cloud.now) (tables_of store.memory)
+whole list c store cloud s =
+    by_serving store.header.shape (reads cloud.now) (tables_of store.memory) (views_of store.header.shape list) (served list c store cloud s)

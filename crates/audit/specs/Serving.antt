@@ -1,0 +1,17 @@
+-- What each user has of a list of commands, as a law of audits speaks of it.
+use Rattle.std.specs.Prelude.{ℕ, List, option_map}
+use Rattle.cd_base.specs.declared.shape.Shape.{Shape}
+use Rattle.user_dedup.specs.declared.command.Command.{Command}
+use Rattle.user_dedup.specs.declared.file_list.FileEntry.{FileEntry}
+use Rattle.user_dedup.specs.Cloud.{user_view, held_bytes}
+use Rattle.user_dedup.specs.Pages.{entry_at}
+use Rattle.cloud_memory.specs.Memory.{uses_of}
+use Rattle.audit_base.specs.Served.{Views}
+
+abbrev pub views_of : Shape → List Command → Views
+views_of shape list = record {
+  own = λ user. (user_view shape list user).own;
+  uses = λ user fp. uses_of shape (user_view shape list user).files fp;
+  recipe = λ user tag version. option_map (λ (e : FileEntry). e.recipe) (entry_at (user_view shape list user).files (tag, version));
+  held = held_bytes list;
+}

@@ -1,0 +1,13 @@
+//! An audit of a cloud, and a check of its certificate.
+#![tactic(auto)]
+
+mod auditing;
+mod checking;
+mod errors;
+mod laws;
+
+pub use audit_base::CheckErr;
+pub use auditing::audit;
+pub use checking::check;
+pub use errors::AuditErr;
+pub use laws::law_of_served_clouds;
