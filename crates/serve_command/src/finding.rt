@@ -3,10 +3,10 @@
 ghost use Rattle.std.specs.Prelude.{◌≡◌, length, IsTrue, IsErr, IfOk, IfErr, Ok, Err};
 ghost use Rattle.cd_edges.specs.declared.area.Area.{Area};
 ghost use Rattle.cd_edges.specs.Shelf.{IsCall, HasFailed, KeepsCounts, Stays};
+ghost use Rattle.half_journal.specs.Openings.{OnFault};
 ghost use Rattle.journal_start.specs.Ranges.{AreRooms};
 ghost use Rattle.cloud_server.specs.Refusals.{MayCome};
 ghost use Rattle.serve_command.specs.Served.{HasRooms, IsUnreadable};
-ghost use Rattle.serve_command.specs.Steps.{Counts};
 
 use cd_base::CloudNo;
 use cd_edges::Shelf;
@@ -31,8 +31,10 @@ pub fn rooms_of<V: Shelf>(
     ensures stays { Stays (V.cloud_at shelf.old cloud.0) (V.cloud_at shelf.new cloud.0) }
     ensures call { IsCall (V.cloud_at shelf.old) (V.cloud_at shelf.new) cloud.0
         (V.faults shelf.old) (V.faults shelf.new) }
-    ensures counts { Counts (V.cloud_at shelf.old cloud.0) (V.cloud_at shelf.new cloud.0)
-        (V.faults shelf.old) (V.faults shelf.new) result }
+    ensures counts { OnFault result
+        (HasFailed (V.cloud_at shelf.old cloud.0) (V.cloud_at shelf.new cloud.0) (V.faults shelf.old) (V.faults shelf.new))
+        (KeepsCounts (V.cloud_at shelf.old cloud.0) (V.cloud_at shelf.new cloud.0)
+        (V.faults shelf.old) (V.faults shelf.new)) }
 {
     match find(shelf, cloud, window) {
         Ok(found) => Ok(found.start.header.rooms),

@@ -17,6 +17,7 @@ mod stop;
 pub use cloud_server::{OpenErr, Server};
 pub use command::serve;
 pub use connection::serve_connection;
+pub use finding::rooms_of;
 pub use frame_responder::Responder;
 pub use frames_in_turn::serve_frames;
 pub use served::Served;

@@ -1,0 +1,53 @@
+-- What the check of a cloud in a place promises.
+use Rattle.std.specs.Prelude.{◌≡◌, ℕ, IsTrue, List, Some, Result, OnOk}
+use Rattle.audit.specs.Audits.{CheckPasses, IfRotten, OnCheckFault}
+use Rattle.audit_base.specs.Judged.{JudgedIs}
+use Rattle.audit_base.specs.Whole.{IsRottenNow, WholeNow}
+use Rattle.audit_base.specs.declared.errors.CheckErr.{CheckErr}
+use Rattle.backup_command.specs.Reading.{Input}
+use Rattle.backup_command.specs.Writing.{IsSilent, Output, Writes}
+use Rattle.cd_edges.specs.Causes.{Rose}
+use Rattle.cd_edges.specs.Disk.{reads}
+use Rattle.certificate.specs.Lines.{certificate_text}
+use Rattle.cloud_server.specs.CloudMemory.Memory.{Memory}
+use Rattle.half_journal.specs.declared.errors.OpenErr.{OpenErr}
+use Rattle.journal_start.specs.declared.rooms.Rooms.{Rooms}
+use Rattle.transcript.specs.declared.ending.Ending.TheVariants as endings
+use Rattle.transcript.specs.Endings.{ending_text}
+use Rattle.user_dedup.specs.declared.command.Command.{Command}
+use Rattle.audit_command.specs.Opened.{Call, Fails, IsOpened, IsUnfailing, IsUnopened, IsUntouched, StandsWithin, own_in, tables_in}
+use Rattle.audit_command.specs.Said.{check_status, check_text, opening_status, opening_text}
+use Rattle.audit_command.specs.Source.{IsRead, IsTooLong}
+
+-- What the check of a text by an opened cloud answers: the order of refusals, each exactly (`judged`). On a told cloud Ok says that the
+-- cloud is whole in the areas as they read at the end, and Rotten that it isn't. Where the cloud stands for a list and the text
+-- is its certificate, it is Ok, a device failed, or memory ran out.
+pub record IsCheckOf (memory : Memory) (call : Call) (text : List ℕ) (result : Result ℕ CheckErr) : Type 0 where
+  pub judged : JudgedIs (own_in call memory) text result
+  pub whole : IsTrue call.old.told → OnOk result (WholeNow call.shape (reads call.new.now) (tables_in memory))
+  pub rotten : IsTrue call.old.told → IfRotten result (IsRottenNow call.shape (reads call.new.now) (tables_in memory))
+  pub passes : (own : Rooms) (list : List Command) → StandsWithin call own list
+      → text ≡ certificate_text (own_in call memory) → CheckPasses result
+  pub counts : OnCheckFault result (Fails call) (IsUnfailing call)
+
+-- What comes of the source once the cloud is opened: it was only read.
+pub data ChecksBy (memory : Memory) (status : ℕ) (call : Call) (input : Input) (out : Output) : Type 0 where
+  ReadLacked : status ≡ 6 → IsSilent out → IsUnfailing call → ChecksBy memory status call input out
+  ReadFailed : status ≡ 3 → Rose input.faults_before input.faults_after → IsSilent out → IsUnfailing call
+      → ChecksBy memory status call input out
+  ReadTooMuch : (line at byte : ℕ) → IsTooLong input line at byte
+      → Writes (ending_text (endings.Script line at (Some byte))) 2 out status
+      → IsUnfailing call → ChecksBy memory status call input out
+  Judged : (text : List ℕ) (result : Result ℕ CheckErr) → IsRead input text → IsCheckOf memory call text result
+      → Writes (check_text call.cloud text result) (check_status result) out status
+      → ChecksBy memory status call input out
+
+-- The whole promise, by the way it ended. Memory ran out before the cloud was opened, or it wasn't opened: the source is unread. Or it was
+-- opened, and what the source has was checked.
+pub data IsChecked (status : ℕ) (call : Call) (unread : Type 0) (input : Input) (out : Output) : Type 0 where
+  Unmade : unread → status ≡ 6 → IsSilent out → IsUntouched call → IsChecked status call unread input out
+  Unopened : (error : OpenErr) → unread → IsUnopened call error
+      → Writes (opening_text call.cloud error) (opening_status error) out status
+      → IsChecked status call unread input out
+  Checked : (rooms : Rooms) (memory : Memory) → IsOpened rooms memory call → ChecksBy memory status call input out
+      → IsChecked status call unread input out
