@@ -20,15 +20,15 @@ use Rattle.session.proofs.Shapes.{shape_with_some}
 use Rattle.session.proofs.Texts.{names_file_true, names_file_from}
 use Rattle.session.proofs.Events.{u32_reads, u64_reads}
 use Rattle.session.proofs.CloudTexts.{sources_reads}
-use Rattle.command_words.specs.Asked.{AskedRead, AskedServe, AskedFile, AskedSpool, AskedResume, AskedSession, Asked}
+use Rattle.command_words.specs.Asked.{AskedRead, AskedServe, AskedFile, AskedSpool, AskedResume, AskedCloud, AskedSession, Asked}
 use Rattle.command_words.specs.Asked.{ForReplay, ForRead, ForServe, ForBackup, ForRestore, ForDelete, ForSpool, ForResume}
-use Rattle.command_words.specs.Asked.{ForGenerate}
-use Rattle.command_words.specs.Commands.{read_words, serve_words, file_words, spool_words, resume_words, session_words}
-use Rattle.command_words.specs.Commands.{FitsRead, FitsServe, FitsFile, FitsResume, FitsSession, IsCommand}
+use Rattle.command_words.specs.Asked.{ForAudit, ForCheck, ForGenerate}
+use Rattle.command_words.specs.Commands.{read_words, serve_words, file_words, spool_words, resume_words, cloud_words, session_words}
+use Rattle.command_words.specs.Commands.{FitsRead, FitsServe, FitsFile, FitsResume, FitsCloud, FitsSession, IsCommand}
 use Rattle.command_words.specs.Reading.{◌>>=◌, ◌▷◌, ◌▷▷◌, Gives, word_at, any, user, version, path, shape_at}
 use Rattle.command_words.specs.Reading.{replay_at, make_read, read_at, make_serve, has_cloud, serve_at, make_file}
 use Rattle.command_words.specs.Reading.{has_addresses, file_at, make_spool, spool_at, make_resume, has_clouds, resume_at}
-use Rattle.command_words.specs.Reading.{make_session, is_small, session_at, name, all_rows}
+use Rattle.command_words.specs.Reading.{make_cloud, is_of_shape, cloud_at, make_session, is_small, session_at, name, all_rows}
 use Rattle.command_words.specs.Reading.{named, read_as, row_at, command_at}
 use Rattle.command_words.specs.declared.rows.Row.{Row}
 use Rattle.command_words.specs.declared.rows.Row.TheVariants as rows
@@ -262,6 +262,28 @@ unfolding resume_at word_at
 resume_again r h =
     keep_again has_clouds (Some r) r refl (and_from _ _ (le-leb _ _ h.some) (le-leb _ _ h.few))
 
+-- ---- `audit` and `check`
+
+cloud_laws : Lawful (word_at any ▷ word_at (number 0 255) ▷ shape_at)
+    (λ x. (x.0 ∷ []) ++ ((decimal x.1.0 ∷ []) ++ shape_words x.1.1))
+    (λ x. Unit {0} × (((0 ≤ x.1.0) × (x.1.0 ≤ 255)) × Unit {0}))
+cloud_laws = lawful_then (lawful_word any_spells) (lawful_then (lawful_word byte_spells) lawful_shape)
+
+cloud_takes : (words : List (List ℕ)) (c : AskedCloud) → cloud_at words ≡ Some c → (words ≡ cloud_words c) × FitsCloud c
+unfolding cloud_at
+cloud_takes words c e =
+    let k = keep_some is_of_shape _ c e in
+    let t = whole_takes cloud_laws make_cloud words c k.0 in
+    (subst (λ (c : AskedCloud). words ≡ cloud_words c) t.3 t.1, ltb-true c.cloud.0 c.shape.n k.1)
+
+cloud_again : (c : AskedCloud) → FitsCloud c → cloud_at (cloud_words c) ≡ Some c
+unfolding cloud_at
+cloud_again c within =
+    let most = c.shape.few in
+    keep_again is_of_shape _ c
+    (whole_again cloud_laws make_cloud (c.directory, (c.cloud.0, c.shape)) (tt, ((omega arith, omega arith), tt)))
+    (lt-ltb c.cloud.0 c.shape.n within)
+
 -- ---- `gen`
 
 session_laws : Lawful (word_at (number 0 18446744073709551615) ▷ word_at (number 1 1000) ▷ word_at (number 1 8192) ▷
@@ -313,6 +335,8 @@ named_again rows.Restore = refl
 named_again rows.Delete = refl
 named_again rows.Spool = refl
 named_again rows.Resume = refl
+named_again rows.Audit = refl
+named_again rows.Check = refl
 named_again rows.Generate = refl
 
 row_spells : Spells named name (λ _. Unit {0})
@@ -361,6 +385,14 @@ row_takes rows.Resume words asked e =
     let a = as_some ForResume (resume_at words) asked e in
     let t = resume_takes words a.0 a.1 in
     subst (IsCommand (name rows.Resume ∷ words)) a.2 (ap (λ (ws : List (List ℕ)). codes "resume" ∷ ws) t.0, t.1)
+row_takes rows.Audit words asked e =
+    let a = as_some ForAudit (cloud_at words) asked e in
+    let t = cloud_takes words a.0 a.1 in
+    subst (IsCommand (name rows.Audit ∷ words)) a.2 (ap (λ (ws : List (List ℕ)). codes "audit" ∷ ws) t.0, t.1)
+row_takes rows.Check words asked e =
+    let a = as_some ForCheck (cloud_at words) asked e in
+    let t = cloud_takes words a.0 a.1 in
+    subst (IsCommand (name rows.Check ∷ words)) a.2 (ap (λ (ws : List (List ℕ)). codes "check" ∷ ws) t.0, t.1)
 row_takes rows.Generate words asked e =
     let a = as_some ForGenerate (session_at words) asked e in
     let t = session_takes words a.0 a.1 in
@@ -397,6 +429,10 @@ command_again words (ForSpool s) h = ap command_at h.0
     ∙ by_row rows.Spool (spool_words s) (ForSpool s) (ap (read_as ForSpool) (spool_again s h.1))
 command_again words (ForResume r) h = ap command_at h.0
     ∙ by_row rows.Resume (resume_words r) (ForResume r) (ap (read_as ForResume) (resume_again r h.1))
+command_again words (ForAudit c) h = ap command_at h.0
+    ∙ by_row rows.Audit (cloud_words c) (ForAudit c) (ap (read_as ForAudit) (cloud_again c h.1))
+command_again words (ForCheck c) h = ap command_at h.0
+    ∙ by_row rows.Check (cloud_words c) (ForCheck c) (ap (read_as ForCheck) (cloud_again c h.1))
 command_again words (ForGenerate g) h = ap command_at h.0
     ∙ by_row rows.Generate (session_words g) (ForGenerate g) (ap (read_as ForGenerate) (session_again g h.1))
 

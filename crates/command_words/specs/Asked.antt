@@ -39,6 +39,12 @@ pub record AskedResume : Type 0 where
   pub directory : List ℕ
   pub addresses : List (List ℕ)
 
+-- one cloud of a store in this directory
+pub record AskedCloud : Type 0 where
+  pub directory : List ℕ
+  pub cloud : CloudNo
+  pub shape : Shape
+
 -- the session of so many files of so many pieces that this number gives
 pub record AskedSession : Type 0 where
   pub seed : ℕ
@@ -56,4 +62,6 @@ pub data Asked : Type 0 where
   ForDelete : (words : AskedFile) → Asked
   ForSpool : (words : AskedSpool) → Asked
   ForResume : (words : AskedResume) → Asked
+  ForAudit : (words : AskedCloud) → Asked
+  ForCheck : (words : AskedCloud) → Asked
   ForGenerate : (words : AskedSession) → Asked

@@ -4,9 +4,9 @@ use Rattle.cd_base.specs.Limits.{IsPath}
 use Rattle.cd_base.specs.declared.ids.UserId.{UserId}
 use Rattle.cd_base.specs.declared.ids.Version.{Version}
 use Rattle.session.specs.Spelling.{cloud_list, AreSources}
-use Rattle.command_words.specs.Asked.{AskedRead, AskedServe, AskedFile, AskedSpool, AskedResume, AskedSession, Asked}
+use Rattle.command_words.specs.Asked.{AskedRead, AskedServe, AskedFile, AskedSpool, AskedResume, AskedCloud, AskedSession, Asked}
 use Rattle.command_words.specs.Asked.{ForReplay, ForRead, ForServe, ForBackup, ForRestore, ForDelete, ForSpool, ForResume}
-use Rattle.command_words.specs.Asked.{ForGenerate}
+use Rattle.command_words.specs.Asked.{ForAudit, ForCheck, ForGenerate}
 
 -- ---- the words behind the command's name
 
@@ -32,6 +32,10 @@ spool_words s = s.directory ∷ file_words s.file
 -- DIR ADDR..
 abbrev pub resume_words : AskedResume → List (List ℕ)
 resume_words r = r.directory ∷ r.addresses
+
+-- DIR CLOUD N K
+abbrev pub cloud_words : AskedCloud → List (List ℕ)
+cloud_words c = c.directory ∷ decimal c.cloud.0 ∷ decimal c.shape.n ∷ decimal c.shape.k ∷ []
 
 -- SEED FILES PIECES DIR
 abbrev pub session_words : AskedSession → List (List ℕ)
@@ -66,6 +70,9 @@ pub record FitsResume (r : AskedResume) : Type 0 where
   pub some : 3 ≤ length r.addresses
   pub few : length r.addresses ≤ 16
 
+abbrev pub FitsCloud : AskedCloud → Type 0
+FitsCloud c = c.cloud.0 < c.shape.n
+
 pub record FitsSession (g : AskedSession) : Type 0 where
   pub seed : g.seed < 2 ^ 64
   pub some_files : 1 ≤ g.files
@@ -86,6 +93,8 @@ IsCommand words (ForRestore f) = (words ≡ codes "restore" ∷ file_words f) ×
 IsCommand words (ForDelete f) = (words ≡ codes "delete" ∷ file_words f) × FitsFile 3 f
 IsCommand words (ForSpool s) = (words ≡ codes "spool" ∷ spool_words s) × FitsFile 3 s.file
 IsCommand words (ForResume r) = (words ≡ codes "resume" ∷ resume_words r) × FitsResume r
+IsCommand words (ForAudit c) = (words ≡ codes "audit" ∷ cloud_words c) × FitsCloud c
+IsCommand words (ForCheck c) = (words ≡ codes "check" ∷ cloud_words c) × FitsCloud c
 IsCommand words (ForGenerate g) = (words ≡ codes "gen" ∷ session_words g) × FitsSession g
 
 -- the words are one of the table

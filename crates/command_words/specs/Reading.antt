@@ -6,9 +6,9 @@ use Rattle.cd_base.specs.declared.shape.Shape.{Shape}
 use Rattle.grammar.specs.Words.{keep}
 use Rattle.grammar.specs.Numerals.{number}
 use Rattle.session.specs.Reading.{names_file, needed, sources}
-use Rattle.command_words.specs.Asked.{AskedRead, AskedServe, AskedFile, AskedSpool, AskedResume, AskedSession, Asked}
+use Rattle.command_words.specs.Asked.{AskedRead, AskedServe, AskedFile, AskedSpool, AskedResume, AskedCloud, AskedSession, Asked}
 use Rattle.command_words.specs.Asked.{ForReplay, ForRead, ForServe, ForBackup, ForRestore, ForDelete, ForSpool, ForResume}
-use Rattle.command_words.specs.Asked.{ForGenerate}
+use Rattle.command_words.specs.Asked.{ForAudit, ForCheck, ForGenerate}
 use Rattle.command_words.specs.declared.rows.Row.{Row}
 use Rattle.command_words.specs.declared.rows.Row.TheVariants as rows
 
@@ -146,6 +146,15 @@ has_clouds r = nat_le 3 (length r.addresses) && nat_le (length r.addresses) 16
 unfoldable pub resume_at : List (List ℕ) → Option AskedResume
 resume_at words = keep has_clouds (word_at any words >>= λ d. Some (make_resume d.0 d.1))
 
+abbrev pub make_cloud : List ℕ × (ℕ × Shape) → AskedCloud
+make_cloud x = record { directory = x.0; cloud = record { 0 = x.1.0 }; shape = x.1.1 }
+
+abbrev pub is_of_shape : AskedCloud → Bool
+is_of_shape c = nat_lt c.cloud.0 c.shape.n
+
+unfoldable pub cloud_at : List (List ℕ) → Option AskedCloud
+cloud_at words = keep is_of_shape (whole make_cloud (word_at any ▷ word_at (number 0 255) ▷ shape_at) words)
+
 abbrev pub make_session : ℕ × (ℕ × (ℕ × List ℕ)) → AskedSession
 make_session x = record { seed = x.0; files = x.1.0; pieces = x.1.1.0; directory = x.1.1.1 }
 
@@ -168,11 +177,13 @@ name rows.Restore = codes "restore"
 name rows.Delete = codes "delete"
 name rows.Spool = codes "spool"
 name rows.Resume = codes "resume"
+name rows.Audit = codes "audit"
+name rows.Check = codes "check"
 name rows.Generate = codes "gen"
 
 abbrev pub all_rows : List Row
 all_rows = rows.Replay ∷ rows.Read ∷ rows.Serve ∷ rows.Backup ∷ rows.Restore ∷ rows.Delete ∷ rows.Spool
-    ∷ rows.Resume ∷ rows.Generate ∷ []
+    ∷ rows.Resume ∷ rows.Audit ∷ rows.Check ∷ rows.Generate ∷ []
 
 abbrev pub named : List ℕ → Option Row
 named word = find (λ row. bytes_eq word (name row)) all_rows
@@ -186,6 +197,8 @@ row_at rows.Restore words = read_as ForRestore (file_at 2 words)
 row_at rows.Delete words = read_as ForDelete (file_at 3 words)
 row_at rows.Spool words = read_as ForSpool (spool_at words)
 row_at rows.Resume words = read_as ForResume (resume_at words)
+row_at rows.Audit words = read_as ForAudit (cloud_at words)
+row_at rows.Check words = read_as ForCheck (cloud_at words)
 row_at rows.Generate words = read_as ForGenerate (session_at words)
 
 -- what all the words ask for

@@ -9,10 +9,11 @@ use Rattle.command_words.specs.declared.command.RestoreWords.{RestoreWords}
 use Rattle.command_words.specs.declared.command.DeleteWords.{DeleteWords}
 use Rattle.command_words.specs.declared.command.SpoolWords.{SpoolWords}
 use Rattle.command_words.specs.declared.command.ResumeWords.{ResumeWords}
+use Rattle.command_words.specs.declared.command.CloudWords.{CloudWords}
 use Rattle.command_words.specs.declared.command.GenerateWords.{GenerateWords}
-use Rattle.command_words.specs.Asked.{AskedRead, AskedServe, AskedFile, AskedSpool, AskedResume, AskedSession, Asked}
+use Rattle.command_words.specs.Asked.{AskedRead, AskedServe, AskedFile, AskedSpool, AskedResume, AskedCloud, AskedSession, Asked}
 use Rattle.command_words.specs.Asked.{ForReplay, ForRead, ForServe, ForBackup, ForRestore, ForDelete, ForSpool, ForResume}
-use Rattle.command_words.specs.Asked.{ForGenerate}
+use Rattle.command_words.specs.Asked.{ForAudit, ForCheck, ForGenerate}
 
 abbrev pub asked_read : ReadWords → AskedRead
 asked_read r = record {
@@ -63,6 +64,9 @@ asked_spool s = record { directory = s.directory.now; file = asked_backup s.file
 abbrev pub asked_resume : ResumeWords → AskedResume
 asked_resume r = record { directory = r.directory.now; addresses = map string_bytes r.addresses.now }
 
+abbrev pub asked_cloud : CloudWords → AskedCloud
+asked_cloud c = record { directory = c.directory.now; cloud = c.cloud; shape = c.shape }
+
 abbrev pub asked_session : GenerateWords → AskedSession
 asked_session g = record { seed = g.seed; files = g.files; pieces = g.pieces; directory = g.directory.now }
 
@@ -75,4 +79,6 @@ asked_of (commands.Restore words) = ForRestore (asked_restore words)
 asked_of (commands.Delete words) = ForDelete (asked_delete words)
 asked_of (commands.Spool words) = ForSpool (asked_spool words)
 asked_of (commands.Resume words) = ForResume (asked_resume words)
+asked_of (commands.Audit words) = ForAudit (asked_cloud words)
+asked_of (commands.Check words) = ForCheck (asked_cloud words)
 asked_of (commands.Generate words) = ForGenerate (asked_session words)

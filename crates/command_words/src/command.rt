@@ -21,6 +21,10 @@ pub enum Command<'a> {
     Spool(SpoolWords<'a>),
     /// What is kept in the directory, for n clouds behind addresses.
     Resume(ResumeWords<'a>),
+    /// A certificate of a cloud's store.
+    Audit(CloudWords<'a>),
+    /// The certificate in the source, by a cloud's store.
+    Check(CloudWords<'a>),
     /// A session that a number gives.
     Generate(GenerateWords<'a>),
 }
@@ -112,6 +116,17 @@ pub struct ResumeWords<'a> {
     pub directory: &'a str,
     /// Where the n clouds listen, in their order: 3 to 16 words.
     pub addresses: &'a [String],
+}
+
+/// `audit DIR CLOUD N K` and `check DIR CLOUD N K`.
+#[derive(Clone, Copy, Debug)]
+pub struct CloudWords<'a> {
+    /// Where the cloud lies: any word.
+    pub directory: &'a str,
+    /// The cloud, below n.
+    pub cloud: CloudNo,
+    /// The shape of the store.
+    pub shape: Shape,
 }
 
 /// `gen SEED FILES PIECES DIR`.

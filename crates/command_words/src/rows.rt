@@ -6,13 +6,14 @@ ghost use Rattle.session.specs.Reading.{sources};
 ghost use Rattle.command_words.specs.Asked.{Asked, AskedRead, ForReplay, ForRead};
 ghost use Rattle.command_words.specs.Commands.{IsCommand};
 ghost use Rattle.command_words.specs.Reading.{Gives, named, replay_at, read_at, serve_at, file_at, spool_at};
+ghost use Rattle.command_words.specs.Reading.{cloud_at};
 ghost use Rattle.command_words.specs.Reading.{resume_at, row_at, session_at, word_at};
 ghost use Rattle.command_words.specs.Views.{asked_read, asked_serve, asked_backup, asked_restore, asked_delete};
-ghost use Rattle.command_words.specs.Views.{asked_spool, asked_resume, asked_session, asked_of};
+ghost use Rattle.command_words.specs.Views.{asked_spool, asked_resume, asked_cloud, asked_session, asked_of};
 
 use crate::command::{
-    BackupWords, Command, DeleteWords, GenerateWords, ReadWords, RestoreWords, ResumeWords,
-    ServeWords, SpoolWords,
+    BackupWords, CloudWords, Command, DeleteWords, GenerateWords, ReadWords, RestoreWords,
+    ResumeWords, ServeWords, SpoolWords,
 };
 use crate::fields::{
     any_word, clouds_of, clouds_word, no_word, number_word, path_word, shape_words,
@@ -31,6 +32,8 @@ enum Row {
     Delete,
     Spool,
     Resume,
+    Audit,
+    Check,
     Generate,
 }
 
@@ -54,6 +57,10 @@ fn named_by(word: &str) -> Option<Row>
         Some(Row::Spool)
     } else if word == "resume" {
         Some(Row::Resume)
+    } else if word == "audit" {
+        Some(Row::Audit)
+    } else if word == "check" {
+        Some(Row::Check)
     } else if word == "gen" {
         Some(Row::Generate)
     } else {
@@ -234,6 +241,22 @@ fn resume_of(words: &[String]) -> Option<ResumeWords<'_>>
     })
 }
 
+#[tactic(auto, unfolding(crate::specs::Reading::cloud_at))]
+fn cloud_of(words: &[String]) -> Option<CloudWords<'_>>
+    ensures { Gives asked_cloud result (cloud_at (map string_bytes words.now)) }
+{
+    let (directory, words) = any_word(words)?;
+    let (number, words) = number_word(words, 0, 255)?;
+    let (shape, words) = shape_words(words)?;
+    no_word(words)?;
+    let cloud = cloud_in(number, shape)?;
+    Some(CloudWords {
+        directory,
+        cloud,
+        shape,
+    })
+}
+
 #[tactic(auto, unfolding(crate::specs::Reading::session_at))]
 fn session_of(words: &[String]) -> Option<GenerateWords<'_>>
     ensures { Gives asked_session result (session_at (map string_bytes words.now)) }
@@ -286,6 +309,8 @@ fn row_of(alloc: Global, row: Row, words: &[String]) -> Result<Option<Command<'_
         Row::Delete => Ok(delete_of(words).map(Command::Delete)),
         Row::Spool => Ok(spool_of(words).map(Command::Spool)),
         Row::Resume => Ok(resume_of(words).map(Command::Resume)),
+        Row::Audit => Ok(cloud_of(words).map(Command::Audit)),
+        Row::Check => Ok(cloud_of(words).map(Command::Check)),
         Row::Generate => Ok(session_of(words).map(Command::Generate)),
     }
 }
@@ -302,6 +327,8 @@ fn row_of(alloc: Global, row: Row, words: &[String]) -> Result<Option<Command<'_
 /// | `delete USER PATH VERSION ADDR..` | 3 to 16 addresses |
 /// | `spool DIR USER PATH VERSION ADDR..` | 3 to 16 addresses |
 /// | `resume DIR ADDR..` | 3 to 16 addresses |
+/// | `audit DIR CLOUD N K` | CLOUD: below N |
+/// | `check DIR CLOUD N K` | CLOUD: below N |
 /// | `gen SEED FILES PIECES DIR` | FILES: 1 to 1,000. PIECES: 1 to 8,192. Their product: at most 131,072 |
 ///
 /// A number is decimal, without leading zeros. N and K obey `2 <= K < N <= 16`; USER is below 2^32, VERSION and SEED

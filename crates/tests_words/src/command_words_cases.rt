@@ -34,6 +34,8 @@ fn one_of_each(rt: HostRuntime) -> Result<(), Fail> {
         "delete 7 a 1 w x y",
         "spool d 7 a 1 w x y",
         "resume d w x y",
+        "audit d 0 4 3",
+        "check d 15 16 2",
         "gen 18446744073709551615 1000 131 d",
     ] {
         assert!(rt; is_command(alloc, line)?);
@@ -70,6 +72,11 @@ fn one_word_wrong(rt: HostRuntime) -> Result<(), Fail> {
         "restore -7 a 1 w x",
         "spool 7 a 1 w x y",
         "resume d w x",
+        "audit d 4 4 3",
+        "audit d 0 4",
+        "check d 0 3 3",
+        "check d 00 4 3",
+        "check d 0 4 3 0",
         "gen 1 0 1 d",
         "gen 1 1001 1 d",
         "gen 1 1 8193 d",
