@@ -1,7 +1,8 @@
 -- From what one command promises to what the words promise.
 use Rattle.std.proofs.Common.{◌≡◌, ℕ, List, sym, subst}
-use Rattle.command_words.specs.Asked.{AskedRead, AskedServe, AskedFile, AskedSpool, AskedResume, AskedSession, Asked}
-use Rattle.command_words.specs.Asked.{ForReplay, ForRead, ForServe, ForBackup, ForRestore, ForDelete, ForSpool, ForResume, ForGenerate}
+use Rattle.command_words.specs.Asked.{AskedRead, AskedServe, AskedFile, AskedSpool, AskedResume, AskedCloud, AskedSession, Asked}
+use Rattle.command_words.specs.Asked.{ForReplay, ForRead, ForServe, ForBackup, ForRestore, ForDelete, ForSpool, ForResume}
+use Rattle.command_words.specs.Asked.{ForAudit, ForCheck, ForGenerate}
 use Rattle.command_words.specs.Commands.{IsCommand}
 use Rattle.cd_top.specs.Dispatch.{Each, Promises}
 use Rattle.cd_top.specs.Replay.{IsReplay}
@@ -37,6 +38,12 @@ module _ (one : Law) (words : List (List ℕ)) (asked : Asked) (is : IsCommand w
 
   pub is_resumed : (r : AskedResume) → IsCommand words (ForResume r) → each.resumed r
   is_resumed r other = promised (ForResume r) other
+
+  pub is_audited : (c : AskedCloud) → IsCommand words (ForAudit c) → each.audited c
+  is_audited c other = promised (ForAudit c) other
+
+  pub is_checked : (c : AskedCloud) → IsCommand words (ForCheck c) → each.checked c
+  is_checked c other = promised (ForCheck c) other
 
   pub is_generated : (g : AskedSession) → IsCommand words (ForGenerate g) → each.generated g
   is_generated g other = promised (ForGenerate g) other

@@ -7,3 +7,4 @@ mod Dispatching
 mod Placing
 mod Generating
 mod Spooling
+mod Certifying

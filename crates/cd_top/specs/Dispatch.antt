@@ -1,8 +1,8 @@
 -- What is promised of the words that are carried out.
-use Rattle.command_words.specs.Asked.{AskedRead, AskedServe, AskedFile, AskedSpool, AskedResume, AskedSession, Asked}
+use Rattle.command_words.specs.Asked.{AskedRead, AskedServe, AskedFile, AskedSpool, AskedResume, AskedCloud, AskedSession, Asked}
 use Rattle.command_words.specs.Asked.{ForReplay, ForRead, ForServe, ForBackup, ForRestore, ForDelete, ForSpool, ForResume}
-use Rattle.command_words.specs.Asked.{ForGenerate}
-use Rattle.command_words.specs.Commands.{FitsRead, FitsServe, FitsFile, FitsResume, FitsSession}
+use Rattle.command_words.specs.Asked.{ForAudit, ForCheck, ForGenerate}
+use Rattle.command_words.specs.Commands.{FitsRead, FitsServe, FitsFile, FitsResume, FitsCloud, FitsSession}
 
 -- what is asked for is within its ranges
 abbrev pub IsFit : Asked → Type 0
@@ -14,6 +14,8 @@ IsFit (ForRestore f) = FitsFile 2 f
 IsFit (ForDelete f) = FitsFile 3 f
 IsFit (ForSpool s) = FitsFile 3 s.file
 IsFit (ForResume r) = FitsResume r
+IsFit (ForAudit c) = FitsCloud c
+IsFit (ForCheck c) = FitsCloud c
 IsFit (ForGenerate g) = FitsSession g
 
 -- what each command promises
@@ -26,6 +28,8 @@ pub record Each : Type 1 where
   pub deleted : AskedFile → Type 0
   pub spooled : AskedSpool → Type 0
   pub resumed : AskedResume → Type 0
+  pub audited : AskedCloud → Type 0
+  pub checked : AskedCloud → Type 0
   pub generated : AskedSession → Type 0
 
 -- what a call promises of what is asked for
@@ -38,4 +42,6 @@ Promises (ForRestore f) each = each.restored f
 Promises (ForDelete f) each = each.deleted f
 Promises (ForSpool s) each = each.spooled s
 Promises (ForResume r) each = each.resumed r
+Promises (ForAudit c) each = each.audited c
+Promises (ForCheck c) each = each.checked c
 Promises (ForGenerate g) each = each.generated g

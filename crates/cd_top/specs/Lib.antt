@@ -1,3 +1,4 @@
+pub mod Audit
 pub mod Replay
 pub mod Ends
 pub mod Complete

@@ -1,6 +1,7 @@
 //! The program's call: it runs the words that are given to cdstore.
 #![tactic(auto)]
 
+mod audits;
 mod clients;
 mod ending;
 mod generate;

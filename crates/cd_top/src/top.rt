@@ -1,8 +1,8 @@
 //! The top call.
 
 ghost use Rattle.std.specs.Prelude.{◌≡◌, ◌≢◌, ◌≤◌, ◌⊎◌, ℕ, List, map, string_bytes};
-ghost use Rattle.command_words.specs.Asked.{AskedFile, AskedRead, AskedResume, AskedServe, AskedSession, AskedSpool};
-ghost use Rattle.command_words.specs.Asked.{ForBackup, ForDelete, ForGenerate, ForRead, ForRestore, ForResume};
+ghost use Rattle.command_words.specs.Asked.{AskedCloud, AskedFile, AskedRead, AskedResume, AskedServe, AskedSession, AskedSpool};
+ghost use Rattle.command_words.specs.Asked.{ForAudit, ForBackup, ForCheck, ForDelete, ForGenerate, ForRead, ForRestore, ForResume};
 ghost use Rattle.command_words.specs.Asked.{ForServe, ForSpool};
 ghost use Rattle.command_words.specs.Commands.{IsAnyCommand, IsCommand};
 ghost use Rattle.command_words.specs.Views.{asked_of};
@@ -12,6 +12,7 @@ ghost use Rattle.backup_command.specs.Reading.{input_of};
 ghost use Rattle.backup_command.specs.Writing.{output_of as output_by};
 ghost use Rattle.serve_command.specs.Served.{output_of};
 ghost use Rattle.delete_command.specs.Writing.{output_of as deletion_of};
+ghost use Rattle.cd_top.specs.Audit.{Audits, Checks, clouds_of};
 ghost use Rattle.cd_top.specs.Clients.{BacksUp, Deletes, Restores, lines_of};
 ghost use Rattle.cd_top.specs.Dispatch.{IsFit, Promises};
 ghost use Rattle.cd_top.specs.Generate.{IsGenerated};
@@ -20,6 +21,7 @@ ghost use Rattle.cd_top.specs.Spool.{Resumes, Spools, beside};
 ghost use Rattle.cd_top.specs.Read.{Around, IsRead};
 ghost use Rattle.cd_top.specs.Replay.{IsReplay, IsReplayed};
 
+use crate::audits::{audit_in, check_in};
 use crate::clients::{backup_to, delete_at, restore_from};
 use crate::ending::finish;
 use crate::generate::generate_in;
@@ -116,6 +118,14 @@ fn carry_out<S: Source, K: Sink, V: Shelf, P: Ports>(
           (beside (V.cloud_at shelf.old) (V.cloud_at shelf.new) (V.faults shelf.old) (V.faults shelf.new)
           (lines_of (P.tells ports.old) (P.tells ports.new) (P.faults ports.old) (P.faults ports.new)))
           (output_by (K.written sink.old) (K.written sink.new) (K.faults sink.old) (K.faults sink.new));
+      audited = λ asked. (source.new ≡ source.old) × (ports.new ≡ ports.old) × Audits result asked
+          (clouds_of (V.cloud_at shelf.old) (V.cloud_at shelf.new) (V.faults shelf.old) (V.faults shelf.new))
+          (output_by (K.written sink.old) (K.written sink.new) (K.faults sink.old) (K.faults sink.new));
+      checked = λ asked. (ports.new ≡ ports.old) × Checks result asked
+          (clouds_of (V.cloud_at shelf.old) (V.cloud_at shelf.new) (V.faults shelf.old) (V.faults shelf.new))
+          (source.new ≡ source.old)
+          (input_of (S.left source.old) (S.faults source.old) (S.faults source.new))
+          (output_by (K.written sink.old) (K.written sink.new) (K.faults sink.old) (K.faults sink.new));
       generated = λ asked. (source.new ≡ source.old) × (ports.new ≡ ports.old) × IsGenerated result (record {
         sink_before = K.faults sink.old;
         sink_after = K.faults sink.new;
@@ -135,6 +145,8 @@ fn carry_out<S: Source, K: Sink, V: Shelf, P: Ports>(
         Command::Delete(asked) => delete_at(alloc, asked, sink, ports),
         Command::Spool(asked) => spool_in(alloc, asked, source, sink, shelf, ports),
         Command::Resume(asked) => resume_in(alloc, asked, sink, shelf, ports),
+        Command::Audit(asked) => audit_in(alloc, asked, sink, shelf),
+        Command::Check(asked) => check_in(alloc, asked, source, sink, shelf),
         Command::Generate(asked) => generate_in(alloc, asked, sink, shelf),
     }
 }
@@ -152,6 +164,8 @@ fn carry_out<S: Source, K: Sink, V: Shelf, P: Ports>(
 /// | `delete USER PATH VERSION ADDR..` | deletes a version of a file at the n clouds behind the addresses |
 /// | `spool DIR USER PATH VERSION ADDR..` | the same as `backup`, with the job kept in DIR until each cloud has the version |
 /// | `resume DIR ADDR..` | goes on with the job that is kept in DIR, at the n clouds behind the addresses |
+/// | `audit DIR CLOUD N K` | reads all that a cloud in DIR lists, and writes its certificate |
+/// | `check DIR CLOUD N K` | sees that the source has the cloud's own certificate, and that the cloud is whole |
 /// | `gen SEED FILES PIECES DIR` | makes a session of FILES backups over four empty clouds in DIR, and writes its summary |
 ///
 /// | Status | Comes | Last line |
@@ -161,22 +175,27 @@ fn carry_out<S: Source, K: Sink, V: Shelf, P: Ports>(
 /// | 0 | spool, resume: the version is stored on all clouds; resume: no job is kept. DIR's cloud 0 is empty then | `end 1 stored`; `nospool` |
 /// | 0 | delete: each cloud replied that the version is deleted or missing | `deleted C`, `missing C` |
 /// | 0 | the generated session was made to its end | `equal X`, the last of six lines |
+/// | 0 | audit: each blob that the cloud lists is where it was put | none behind the certificate |
+/// | 0 | check: that too, and the certificate is the cloud's own | `whole CLOUD COUNT` |
 /// | 1 | exactly where the words are none of the above; nothing is done then | none |
 /// | 2 | a line that was reached is wrong, or a limit is passed; all before it are answered | `script LINE PLACE BYTE` |
+/// | 2 | check: the source has no certificate, or more than 134,217,728 bytes | `script LINE PLACE BYTE` |
 /// | 3 | only where the source's count of faults rose | none |
 /// | 4 | only where the sink's count of faults rose | none |
 /// | 5 | only where the shelf's count rose outside a request and a `restart` | `shelf CLOUD`; none where DIR failed |
 /// | 6 | memory ran out | none |
 /// | 7 | replay, gen: an area of a cloud wasn't empty | `store CLOUD AREA LEN` |
 /// | 7 | replay, gen: the first opening found damage, of a cloud that isn't told | `damaged CLOUD AT BYTE` |
-/// | 7 | read: a cloud has no store | `notbegun CLOUD LEN` |
-/// | 7 | read: a cloud's journal is damaged | `damaged CLOUD AT BYTE` |
-/// | 7 | read: a cloud is of another store, or another cloud of it | `other CLOUD FORMAT N K OWN`, as found |
+/// | 7 | read, audit, check: a cloud has no store | `notbegun CLOUD LEN` |
+/// | 7 | read, audit, check: a cloud's journal is damaged | `damaged CLOUD AT BYTE` |
+/// | 7 | read, audit, check: a cloud is of another store, or another cloud of it | `other CLOUD FORMAT N K OWN`, as found |
 /// | 7 | spool: an area of DIR's cloud 0 isn't empty | `store 0 AREA LEN` |
 /// | 7 | resume: what is kept is damaged, or it was kept for clouds of another shape | `damaged 0 AT BYTE`, `other 0 FORMAT N K OWN` |
 /// | 7 | serve: as for a read, but that a store that isn't there is begun | likewise |
 /// | 8 | read, restore: the clouds gave no file; backup, restore, spool, resume: a cloud isn't as asked | `refused ..` |
 /// | 8 | resume: the kept file has changed | `refused rotten 0 NAMED FOUND` |
+/// | 8 | audit, check: a blob that the cloud lists isn't where it was put | `refused rotten CLOUD NAMED FOUND` |
+/// | 8 | check: the certificate is another cloud's, or has another line | `refused othercloud`, `refused differs LINE` |
 /// | 8 | delete: a cloud isn't as asked; or one replied something else | `refused ..`; the last cloud's line |
 /// | 8 | backup, spool, resume: not every cloud has entered the version | `end 1 open` |
 /// | 9 | only where the ports' count of faults rose | none |
@@ -279,6 +298,20 @@ pub fn run<S: Source, K: Sink, V: Shelf, P: Ports>(
         → (source.new ≡ source.old) × Resumes result asked
         (beside (V.cloud_at shelf.old) (V.cloud_at shelf.new) (V.faults shelf.old) (V.faults shelf.new)
         (lines_of (P.tells ports.old) (P.tells ports.new) (P.faults ports.old) (P.faults ports.new)))
+        (output_by (K.written sink.old) (K.written sink.new) (K.faults sink.old) (K.faults sink.new)) }
+    // Each blob that the cloud's records list is read: what is written is its certificate, or why there is none, and the status has its
+    // cause. No other cloud is touched. Source and ports aren't.
+    ensures audit { (asked : AskedCloud) → IsCommand (map string_bytes words.now) (ForAudit asked)
+        → (source.new ≡ source.old) × (ports.new ≡ ports.old) × Audits result asked
+        (clouds_of (V.cloud_at shelf.old) (V.cloud_at shelf.new) (V.faults shelf.old) (V.faults shelf.new))
+        (output_by (K.written sink.old) (K.written sink.new) (K.faults sink.old) (K.faults sink.new)) }
+    // The source is read to its end once the cloud is opened. 0 comes only where it has the cloud's own certificate, and each blob that
+    // this names is where it was put. No other cloud is touched. The ports aren't.
+    ensures check { (asked : AskedCloud) → IsCommand (map string_bytes words.now) (ForCheck asked)
+        → (ports.new ≡ ports.old) × Checks result asked
+        (clouds_of (V.cloud_at shelf.old) (V.cloud_at shelf.new) (V.faults shelf.old) (V.faults shelf.new))
+        (source.new ≡ source.old)
+        (input_of (S.left source.old) (S.faults source.old) (S.faults source.new))
         (output_by (K.written sink.old) (K.written sink.new) (K.faults sink.old) (K.faults sink.new)) }
     // The session that is made is the generated one; the summary has its numbers, or what is written says why there is
     // none, and the status has its cause. Where nothing fails, it is made to its end or memory ran out. Source and ports

@@ -20,6 +20,8 @@ usage: cdstore serve DIR CLOUD N K ADDR COUNT           serve a cloud in DIR, be
        cdstore restore USER PATH VERSION ADDR..         write the version from any k of the clouds at these addresses
        cdstore delete USER PATH VERSION ADDR..          delete the version at the n clouds at these addresses
        cdstore read DIR N K USER PATH VERSION CLOUDS    write the version from any k of these clouds' folders, such as 0,2,3
+       cdstore audit DIR CLOUD N K                      read all that a cloud in DIR lists, and write its certificate
+       cdstore check DIR CLOUD N K                      see that standard input is the cloud's certificate, and the cloud whole
        cdstore replay DIR                               run the script on standard input over empty clouds in DIR
        cdstore gen SEED FILES PIECES DIR                run a generated session over four empty clouds in DIR, and sum it up
 
@@ -33,6 +35,7 @@ N clouds, of which any K give a file back; addresses in the order of the clouds.
   finish JOB                       make all requests that are left, cloud by cloud
   get USER PATH VERSION CLOUDS     read the file back from K or more clouds, such as 1,2,3
   list USER CLOUD                  say which versions the user has there
+  delete USER PATH VERSION CLOUD   delete the version at the cloud
   arm CLOUD CALL KEEP              cut a write or sync of the cloud, the next one being 1; a cut write keeps KEEP bytes
   restart CLOUD                    open the cloud again
   replace CLOUD                    put an empty cloud in its place

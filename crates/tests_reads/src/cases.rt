@@ -1,7 +1,7 @@
 //! What is tried over five empty clouds, which are dropped in one place.
 
 use crate::read_place::new_shelf;
-use crate::{openings, read_damage, refusals, words};
+use crate::{audits, openings, read_damage, refusals, words};
 use cd_fakes::MemShelf;
 use std::alloc::Global;
 use std::test::Fail;
@@ -17,6 +17,8 @@ pub enum Case {
     WrongWords,
     WordCount,
     AnyPath,
+    Certified,
+    Found,
 }
 
 // Whether the clouds do as they have to.
@@ -30,6 +32,8 @@ fn tried(alloc: Global, case: Case, shelf: &mut MemShelf) -> Result<bool, Fail> 
         Case::WrongWords => words::are_none(alloc, shelf),
         Case::WordCount => words::are_counted(alloc, shelf),
         Case::AnyPath => words::are_read(alloc, shelf),
+        Case::Certified => audits::are_certified(alloc, shelf),
+        Case::Found => audits::are_found(alloc, shelf),
     }
 }
 

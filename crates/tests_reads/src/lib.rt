@@ -1,6 +1,8 @@
-//! Tests of the command read, and sessions over damaged and failing clouds.
+//! Tests of the commands read, audit and check, and sessions over damaged and failing clouds.
 #![tactic(auto)]
 
+#[cfg(test)]
+mod audits;
 #[cfg(test)]
 mod cases;
 #[cfg(test)]

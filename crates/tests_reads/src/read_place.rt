@@ -55,6 +55,19 @@ pub fn is_copied(from: &mut MemShelf, cloud: u8, to: &mut MemShelf, target: u8) 
     well
 }
 
+/// Whether words come to this status over a source with this text, and these bytes are written.
+pub fn come_over(
+    alloc: Global,
+    words: &[&str],
+    text: &str,
+    shelf: &mut MemShelf,
+    wanted: (u8, &str),
+) -> Result<bool, Fail> {
+    let mut sink = MemSink::of(alloc, 10_000, 7, &[])?;
+    let status = status_of(alloc, words, text, &mut sink, shelf)?;
+    Ok(status == wanted.0 && sink.written() == wanted.1.as_bytes())
+}
+
 /// Whether words come to this status, and these bytes are written, in pieces of 7 bytes of which these fail.
 pub fn come_to(
     alloc: Global,

@@ -24,5 +24,11 @@ returns-in-Spool g c = promised_as _ _ (ap asked_of c.in-Spool.is) _ c.spool_in.
 pub returns-in-Resume : goal.returns-in-Resume
 returns-in-Resume g c = promised_as _ _ (ap asked_of c.in-Resume.is) _ (refl, c.resume_in.ensures)
 
+pub returns-in-Audit : goal.returns-in-Audit
+returns-in-Audit g c = promised_as _ _ (ap asked_of c.in-Audit.is) _ (refl, refl, c.audit_in.ensures)
+
+pub returns-in-Check : goal.returns-in-Check
+returns-in-Check g c = promised_as _ _ (ap asked_of c.in-Check.is) _ (refl, c.check_in.ensures)
+
 pub returns-in-Generate : goal.returns-in-Generate
 returns-in-Generate g c = promised_as _ _ (ap asked_of c.in-Generate.is) _ (refl, refl, c.generate_in.ensures)

@@ -1,0 +1,14 @@
+use Rattle.std.proofs.Common.{refl}
+use Rattle.command_words.specs.Views.{asked_cloud}
+use Rattle.cd_top.specs.Audit.{Unchecked}
+use Rattle.cd_top.proofs.Certifying.{unrooted, checked_in}
+use Rattle.cd_top.proofs.audits.check_in.Goals as goal
+
+pub returns-in-Err : goal.returns-in-Err
+returns-in-Err g c = Unchecked refl (unrooted _ _ refl refl c.root.ensures.stays c.in-Err.ensures.cause.failed)
+
+pub returns : goal.returns
+returns g c =
+    checked_in c.check_cloud.result (asked_cloud c.args.asked.now) _ (g.V.Shelf.cloud_at c.root.new.self) _ _
+    (g.V.Shelf.faults c.root.new.self) _ _ c.root.ensures.stays c.in-Ok.ensures.cause.still _ _
+    c.check_cloud.ensures.checked c.check_cloud.ensures.call
