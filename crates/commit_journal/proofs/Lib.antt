@@ -1,11 +1,6 @@
-pub mod Append
 pub mod Begin
 pub mod Chain
 pub mod FrameRecord
 pub mod Headed
-pub mod HeaderBytes
-pub mod Loaded
-pub mod Next
-pub mod Openings
 pub mod Taken
 pub mod Unique

@@ -2,13 +2,10 @@
 use Rattle.std.proofs.Common.{◌≡◌, inl, inr, ℕ, ◌+◌, ◌-◌, ◌^◌, ◌<◌, ◌≤◌, min, List, [], ◌∷◌, ◌++◌, length, take, drop, get_or, refl, sym, ◌∙◌, ap, subst, arith, append_assoc, length-append, length-take, length-drop}
 use Rattle.std.proofs.lemmas.List.{take-append-drop, take_at, drop-drop, drop-take, take-take, take_min}
 use Rattle.std.proofs.Math.Seq.{take-length}
-use Rattle.commit_journal.specs.declared.errors.JournalErr.{JournalErr}
-use Rattle.commit_journal.specs.declared.errors.JournalErr.TheVariants.{Full, Failed, Damaged}
-use Rattle.std.proofs.Common.{Err}
+use Rattle.commit_journal.specs.declared.errors.JournalErr.TheVariants.{Damaged}
 use Rattle.commit_journal.specs.Records.{sized, NoRecord, IsDamage, LastGate, BadLength}
 use Rattle.commit_journal.specs.Frames.{IsClosed, IsRecord, HasBadLength, IsCutOff}
-use Rattle.commit_journal.specs.States.{State}
-use Rattle.commit_journal.specs.Outcomes.{DamageIs, TakenIs}
+use Rattle.commit_journal.specs.Outcomes.{DamageIs}
 
 module _ (ahead rest : List ℕ) (window : ahead ≡ take (length ahead) rest) where
   pub more_is : rest ≡ ahead ++ drop (length ahead) rest
@@ -50,11 +47,6 @@ module _ (rest : List ℕ) (gate : ℕ) (fits : gate + length rest < 2 ^ 64) (so
   pub short_on : IsCutOff rest → (at byte : ℕ) → DamageIs rest gate (Damaged at byte) → IsDamage rest gate at byte
   short_on cut = let opened = cut.opened some in cut_at opened.0 opened.1 cut.none
 
-pub refused : (old new : State) (rest : List ℕ) (error : JournalErr) → DamageIs old.ahead old.gate error → ((at byte : ℕ) → DamageIs old.ahead old.gate (Damaged at byte) → IsDamage rest old.gate at byte) → TakenIs old new rest (Err error)
-refused old new rest (Damaged at byte) damage holds = holds at byte damage
-refused old new rest (Full used need limit) damage holds = damage
-refused old new rest Failed damage holds = damage
-
 -- the record's body within what was read ahead
 pub body_ahead : (ahead body : List ℕ) → IsRecord ahead body → take (length body) (drop 5 ahead) ≡ body
 body_ahead ahead body r =
@@ -81,9 +73,6 @@ window_on buffer rest from filled k within window =
 
 pub length_window : (buffer : List ℕ) (from filled : ℕ) → filled ≤ length buffer → length (take (filled - from) (drop from buffer)) ≡ filled - from
 length_window buffer from filled within = omega (arith, length-take (filled - from) (drop from buffer), length-drop from buffer)
-
-pub fits_of : (gate end : ℕ) (rest : List ℕ) → gate + length rest ≡ end → end < 2 ^ 64 → gate + length rest < 2 ^ 64
-fits_of gate end rest ends fits = omega arith
 
 -- the damage where all that there is was read
 pub short_ahead : (ahead rest : List ℕ) (gate : ℕ) → ahead ≡ rest → gate + length rest < 2 ^ 64 → 0 < length rest → IsCutOff ahead → (at byte : ℕ) → DamageIs ahead gate (Damaged at byte) → IsDamage rest gate at byte

@@ -1,13 +1,10 @@
 -- Bytes are the journal of one list at most.
-use Rattle.std.proofs.Common.{◌≡◌, ◌≢◌, ℕ, ◌≤◌, List, [], ◌∷◌, ◌++◌, length, take, drop, refl, sym, ◌∙◌, ap, subst, arith, append_assoc, length-append}
-use Rattle.std.proofs.lemmas.List.{take_at, drop_at, append_cancel_left}
+use Rattle.std.proofs.Common.{◌≡◌, ◌≢◌, ℕ, ◌≤◌, List, [], ◌∷◌, ◌++◌, length, take, drop, refl, sym, ◌∙◌, ap, arith, append_assoc, length-append}
+use Rattle.std.proofs.lemmas.List.{take_at, drop_at}
 use Rattle.std.proofs.lemmas.Nat.{from_be_bytes-to_be_bytes_4}
 use Rattle.std.specs.Int.{w32, from_be_bytes}
-use Rattle.cd_edges.specs.Disk.{Store}
 use Rattle.commit_journal.specs.Records.{IsBody, sized, chain, AreBodies, IsJournal, IsDamage, LastGate, BadLength}
 use Rattle.commit_journal.specs.Frames.{IsRecord}
-use Rattle.commit_journal.specs.States.{State, IsReading}
-use Rattle.commit_journal.proofs.Next.{rest_at}
 
 same_length : (a b one two : List ℕ) → length a ≤ 65535 → length b ≤ 65535 → sized a ++ one ≡ sized b ++ two → length a ≡ length b
 same_length a b one two la lb e =
@@ -52,14 +49,7 @@ first_of (a ∷ one) (b ∷ two) s t rest h ys closed e =
     let further = first_of one two s.1 t.1 rest h ys closed (same_rest a b _ _ s.0.few t.0.few spelled) in
     (further.0, both a b (one ++ further.0) two (same_body a b _ _ s.0.few t.0.few spelled) further.1)
 
-pub first_read : (state : State) (store : Store) (bodies journal : List (List ℕ)) → IsReading state store bodies → IsJournal journal store.read → (more : List (List ℕ)) × (bodies ++ more ≡ journal)
-first_read state store bodies journal r j = first_of bodies journal r.sizes j.sizes r.rest j.gate j.behind j.shut (sym r.spelled ∙ j.spelled)
-
--- ---- what is left of a journal behind what was read
-
-chain-append : (one more : List (List ℕ)) → chain (one ++ more) ≡ chain one ++ chain more
-chain-append [] more = refl
-chain-append (b ∷ one) more = ap (λ (l : List ℕ). 1 ∷ sized b ++ l) (chain-append one more) ∙ ap (λ (l : List ℕ). 1 ∷ l) (sym (append_assoc (sized b) (chain one) (chain more)))
+-- ---- whole records
 
 pub whole_record : (b : List ℕ) (more : List (List ℕ)) (gate : ℕ) (behind rest : List ℕ) → IsBody b → rest ≡ chain (b ∷ more) ++ gate ∷ behind → IsRecord rest b
 whole_record b [] gate behind rest one e = record { gate = gate; behind = behind; is_body = one; spelled = e ∙ ap (λ (l : List ℕ). 1 ∷ l) (append_assoc (sized b) [] (gate ∷ behind)) }
@@ -74,24 +64,3 @@ whole_record b (next ∷ more) gate behind rest one e = record {
 pub undamaged : (rest body : List ℕ) (gate at byte : ℕ) → IsRecord rest body → IsDamage rest gate at byte → ⊥
 undamaged rest body gate at byte r (LastGate is place same) = omega (arith, ap length (sym is ∙ r.spelled), length-append body (r.gate ∷ r.behind))
 undamaged rest body gate at byte r (BadLength tail is none place) = none body r.gate r.behind r.is_body r.spelled
-
-closed_undamaged : (g gate at byte : ℕ) (behind rest : List ℕ) → g ≢ 1 → rest ≡ g ∷ behind → IsDamage rest gate at byte → ⊥
-closed_undamaged g gate at byte behind rest closed e (LastGate is place same) = closed (head_of g 1 behind [] (sym e ∙ is))
-closed_undamaged g gate at byte behind rest closed e (BadLength tail is none place) = closed (head_of g 1 behind (byte ∷ tail) (sym e ∙ is))
-
-all_whole : (more : List (List ℕ)) (g gate at byte : ℕ) (behind rest : List ℕ) → AreBodies more → g ≢ 1 → rest ≡ chain more ++ g ∷ behind → IsDamage rest gate at byte → ⊥
-all_whole [] g gate at byte behind rest all closed e damage = closed_undamaged g gate at byte behind rest closed e damage
-all_whole (b ∷ more) g gate at byte behind rest all closed e damage = undamaged rest b gate at byte (whole_record b more g behind rest all.0 e) damage
-
-bodies_left : (one more : List (List ℕ)) → AreBodies (one ++ more) → AreBodies more
-bodies_left [] more all = all
-bodies_left (b ∷ one) more all = bodies_left one more all.1
-
--- a journal that is read so far has no damage behind that
-pub none_damaged : (state : State) (store : Store) (bodies journal : List (List ℕ)) (at byte : ℕ) → IsReading state store bodies → IsJournal journal store.read → IsDamage (drop state.gate store.read) state.gate at byte → ⊥
-none_damaged state store bodies journal at byte r j damage =
-    let further = first_read state store bodies journal r j in let more = further.0 in
-    let whole : chain bodies ++ r.rest ≡ chain bodies ++ (chain more ++ j.gate ∷ j.behind) =
-    sym r.spelled ∙ j.spelled ∙ ap (λ (b : List (List ℕ)). chain b ++ j.gate ∷ j.behind) (sym further.1) ∙ ap (λ (l : List ℕ). l ++ j.gate ∷ j.behind) (chain-append bodies more) ∙ append_assoc (chain bodies) (chain more) (j.gate ∷ j.behind) in
-    let rest : drop state.gate store.read ≡ chain more ++ j.gate ∷ j.behind = sym (rest_at state store bodies r) ∙ append_cancel_left (chain bodies) r.rest (chain more ++ j.gate ∷ j.behind) whole in
-    all_whole more j.gate state.gate at byte j.behind (drop state.gate store.read) (bodies_left bodies more (subst AreBodies (sym further.1) j.sizes)) j.shut rest damage

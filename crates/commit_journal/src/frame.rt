@@ -19,6 +19,10 @@ pub enum Frame {
 /// The greatest length of a body.
 pub const GREATEST: usize = 65_535;
 
+/// The most bytes that are read or written at once: 64 KiB, and the five bytes of a gate and a length, which are as many as
+/// the longest record has with its own gate and the next one.
+pub const WINDOW: usize = GREATEST + 6;
+
 /// Tells what the bytes from a gate on begin with.
 pub fn frame_of(ahead: &[u8]) -> Frame
     ensures { IsFrame ahead.now result }

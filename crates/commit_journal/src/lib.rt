@@ -1,15 +1,11 @@
-//! A journal of records in an area of a cloud: after a crash it has the records that it had, or those and the last one.
+//! The frame of a record in a journal: what stands at a gate, and which bytes are a chain of records. Journals in two halves
+//! are read and written with it.
 #![tactic(auto)]
 
 mod errors;
 mod frame;
-mod header;
-mod journal;
 mod laws;
-mod open;
 
-pub use errors::{JournalErr, OpenErr};
-pub use frame::{Frame, GREATEST, frame_of};
-pub use header::{Header, HeaderFault};
-pub use journal::{Journal, Stage, WINDOW};
+pub use errors::JournalErr;
+pub use frame::{Frame, GREATEST, WINDOW, frame_of};
 pub use laws::law_of_journals;
