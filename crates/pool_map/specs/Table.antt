@@ -65,6 +65,10 @@ module _ {K W : Type 0} where
   pair_of Empty = None
   pair_of (Held account entry) = Some (entry.key, entry.value)
 
+  -- the slot holds the key, with some value
+  abbrev pub StandsAt : Pool (Entry K W) → K → ℕ → Type 0
+  StandsAt p key slot = (value : W) × (pair_of (content p slot) ≡ Some (key, value))
+
   -- no key stands in two slots
   abbrev pub StandsOnce : (cmp : K → K → Ordering) → Pool (Entry K W) → Type 0
   StandsOnce cmp p =

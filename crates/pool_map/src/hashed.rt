@@ -35,9 +35,11 @@ ghost use Rattle.std.specs.Prelude.{◌≡◌, length, replicate};
 ghost use Rattle.slot_pool.specs.declared.Content.TheVariants.{Empty};
 
 impl<K: Key, W: Drop> HashTable<K, W> {
-    ghost use Rattle.std.specs.Prelude.{◌≡◌, ◌≤◌, IfOk, sum, replicate, Some};
+    ghost use Rattle.std.specs.Prelude.{◌≡◌, ◌≤◌, IfOk, IfSome, IfNone, sum, replicate, Some, None};
+    ghost use Rattle.std.specs.FinMap as map;
     ghost use Rattle.slot_pool.specs.declared.Content.TheVariants.{Empty};
-    ghost use Rattle.pool_map.specs.Table.{contents, value_at, IsPresent, with_value_at, Rewrites};
+    ghost use Rattle.slot_pool.specs.Pool.{content, IsHeld};
+    ghost use Rattle.pool_map.specs.Table.{contents, at_key, value_at, IsPresent, StandsAt, with_value_at, Rewrites, Drops};
 
     /// A table with no pair, with an account for each limit. The limits together are at most the number of slots. `AllocError`
     /// is want of memory.
@@ -67,6 +69,50 @@ impl<K: Key, W: Drop> HashTable<K, W> {
             Some(number) => mem::replace(&mut self.pool.get_mut(Slot { number }).value, value),
             None => unreachable!(),
         }
+    }
+
+    /// The slot of a key, with its value. None comes exactly where the key is absent.
+    pub fn find(&self, key: &K) -> Option<(u32, &W)>
+        ensures value { IfSome result (λ found. value_at K.cmp self.now key.now ≡ Some found.1.now) }
+        ensures absent { IfNone result (at_key K.cmp self.now key.now ≡ None) }
+        ensures slot { IfSome result (λ found. StandsAt self.now key.now found.0) }
+        ensures held { IfSome result (λ found. IsHeld (content self.now found.0)) }
+    {
+        match self.chains.find(&self.pool, key) {
+            Some(number) => {
+                let entry = self.pool.get(Slot { number });
+                Some((number, &entry.value))
+            }
+            None => None,
+        }
+    }
+
+    /// Puts another value in a slot that holds a pair, and gives back the value before. The pair is charged to the same
+    /// account. Nothing is looked up.
+    pub fn set_at(&mut self, slot: u32, value: W) -> W
+        requires { IsHeld (content self.old slot) }
+        ensures value { (key : K) → StandsAt self.old key slot → Some result ≡ value_at K.cmp self.old key }
+        ensures replaced { (key : K) → StandsAt self.old key slot → contents K.cmp self.new
+            ≡ with_value_at (contents K.cmp self.old) key value }
+        ensures slots { (key : K) → StandsAt self.old key slot → Rewrites K.cmp self.old self.new key value }
+    {
+        mem::replace(&mut self.pool.get_mut(Slot { number: slot }).value, value)
+    }
+
+    /// Takes out the pair in a slot that holds one, and gives back its value. Its account may have one pair more. No key is
+    /// looked up.
+    pub fn remove_at(&mut self, slot: u32) -> W
+        requires { IsHeld (content self.old slot) }
+        ensures value { (key : K) → StandsAt self.old key slot → Some result ≡ value_at K.cmp self.old key }
+        ensures removed { (key : K) → StandsAt self.old key slot → contents K.cmp self.new
+            ≡ map.remove (contents K.cmp self.old) key }
+        ensures slots { (key : K) → StandsAt self.old key slot → Drops K.cmp self.old self.new key }
+    {
+        let held = self.pool.get(Slot { number: slot });
+        self.chains.unlink(&self.pool, &held.key, slot);
+        self.len -= 1;
+        let entry = self.pool.give(Slot { number: slot });
+        entry.value
     }
 }
 
