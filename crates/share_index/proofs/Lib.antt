@@ -5,3 +5,4 @@ pub mod Placing
 pub mod Indexing
 pub mod Scanning
 pub mod Holders
+pub mod Releasing

@@ -11,7 +11,7 @@ use Rattle.std.specs.FinMap.{FinMap, get, insert, remove, empty, entries, len, l
 use Rattle.slot_pool.specs.Pool.{Pool, limit_of}
 use Rattle.pool_map.specs.declared.Entry.{Entry as Pair}
 use Rattle.share_index.specs.declared.key.UserNumber.{UserNumber}
-use Rattle.pool_map.specs.Table.{contents, charged, with_value_at, rewritten}
+use Rattle.pool_map.specs.Table.{contents, at_key, value_at, charged, with_value_at, rewritten}
 use Rattle.pool_map.specs.MapSums.{sum_by-insert_new, sum_by-insert_over, sum_by-remove, insert-remove, insert-same}
 use Rattle.pool_map.specs.Shown.{shown, get-shown, len-shown, shown-insert, shown-remove, shown-empty}
 use Rattle.pool_map.specs.declared.accounts.Accounts.{Accounts}
@@ -150,6 +150,13 @@ module _ (p : Pool (Pair Owner ℕ)) (counts : UserCounts) (accounts : Accounts)
       go : (o : Option (ℕ × ℕ)) → get table k ≡ o → is_some (option_map plain (get table k)) ≡ true → (x : ℕ × ℕ) × (get table k ≡ Some x) × (get owners k ≡ Some x.1)
       go None at gone = absurd (true≢false (sym gone ∙ ap (λ o. is_some (option_map plain o)) at))
       go (Some x) at h = (x, at, get-shown plain table k ∙ ap (option_map plain) at)
+
+  -- what a look-up in the table says of an owner
+  pub uses-read : (k : Owner) (uses : ℕ) → value_at owner_cmp p k ≡ Some uses → get owners k ≡ Some uses
+  uses-read k uses read = get-shown plain table k ∙ read
+
+  pub lacks-read : (k : Owner) → at_key owner_cmp p k ≡ None → get owners k ≡ None
+  lacks-read k none = get-shown plain table k ∙ ap (option_map plain) none
 
   pub add-is : (q : Pool (Pair Owner ℕ)) (k : Owner) (a : ℕ) → contents owner_cmp q ≡ insert table k (a, 0) → shown plain (contents owner_cmp q) ≡ insert owners k 0
   add-is q k a to = ap (shown plain) to ∙ shown-insert plain owner_total owner_exact table k (a, 0)

@@ -9,7 +9,7 @@ use Rattle.std.proofs.lemmas.Bool.{cond-true, cases_eq, ne_eqb}
 use Rattle.std.specs.FinMap.{FinMap, get, insert, remove, empty, entries, len, len-entries, len-empty, len-insert, get-remove}
 use Rattle.slot_pool.specs.Pool.{Pool, limit_of}
 use Rattle.pool_map.specs.declared.Entry.{Entry as Pair}
-use Rattle.pool_map.specs.Table.{contents, charged, with_value_at, rewritten}
+use Rattle.pool_map.specs.Table.{contents, at_key, value_at, charged, with_value_at, rewritten}
 use Rattle.pool_map.specs.MapSums.{sum_by-insert_new, sum_by-insert_over, sum_by-remove, insert-remove, insert-same}
 use Rattle.pool_map.specs.Shown.{shown, get-shown, shown-insert, shown-remove, shown-empty}
 use Rattle.pool_map.specs.declared.accounts.Accounts.TheVariants.{Shared}
@@ -85,6 +85,13 @@ module _ (p : Pool (Pair (List ℕ) Kept)) (ownerless : ℕ) (is : IsPlacing p o
       go : (o : Option (ℕ × Kept)) → get table fp ≡ o → is_some (option_map kept_of (get table fp)) ≡ true → (x : ℕ × Kept) × (get table fp ≡ Some x) × (get kept fp ≡ Some x.1)
       go None at gone = absurd (true≢false (sym gone ∙ ap (λ o. is_some (option_map kept_of o)) at))
       go (Some x) at h = (x, at, get-shown kept_of table fp ∙ ap (option_map kept_of) at)
+
+  -- what a look-up in the table says of a fingerprint
+  pub kept-read : (fp : List ℕ) (k : Kept) → value_at fp_cmp p fp ≡ Some k → get kept fp ≡ Some k
+  kept-read fp k read = get-shown kept_of table fp ∙ read
+
+  pub lacks-read : (fp : List ℕ) → at_key fp_cmp p fp ≡ None → get kept fp ≡ None
+  lacks-read fp none = get-shown kept_of table fp ∙ ap (option_map kept_of) none
 
   -- the value before is what was taken
   pub value-is : (fp : List ℕ) (x : ℕ × Kept) (old : Kept) → get table fp ≡ Some x → Some old ≡ option_map kept_of (get table fp) → old ≡ x.1

@@ -1,6 +1,6 @@
 -- How a hash table keeps the placed shares. No public clause cites this module.
-use Rattle.std.specs.Prelude.{◌≡◌, ℕ, ◌<◌, ◌≤◌, ◌^◌, ◌==◌, List, [], ◌∷◌, Option, count_by}
-use Rattle.std.specs.FinMap.{FinMap, len, entries}
+use Rattle.std.specs.Prelude.{◌≡◌, ℕ, ◌<◌, ◌≤◌, ◌^◌, ◌==◌, ◌-◌, List, [], ◌∷◌, Option, Some, None, count_by}
+use Rattle.std.specs.FinMap.{FinMap, get, insert, len, entries}
 use Rattle.slot_pool.specs.Pool.{Pool}
 use Rattle.pool_map.specs.declared.Entry.{Entry as Pair}
 use Rattle.pool_map.specs.Table.{contents}
@@ -20,6 +20,15 @@ pub record Places : Type 0 where
 -- how many have no owner
 abbrev pub zeros : FinMap fp_cmp Kept → ℕ
 zeros m = count_by (λ e. e.1.owners == 0) (entries m)
+
+-- what is kept, with an owner fewer of a fingerprint of which this is kept
+abbrev pub fewer_at : FinMap fp_cmp Kept → List ℕ → Option Kept → FinMap fp_cmp Kept
+fewer_at kept fp None = kept
+fewer_at kept fp (Some old) = insert kept fp (record { place = old.place; owners = old.owners - 1 })
+
+-- what is kept, with an owner fewer of a fingerprint, if it is placed
+abbrev pub with_fewer_owners : FinMap fp_cmp Kept → List ℕ → FinMap fp_cmp Kept
+with_fewer_owners kept fp = fewer_at kept fp (get kept fp)
 
 abbrev pub places_in : Pool (Pair (List ℕ) Kept) → Places
 places_in table = record {

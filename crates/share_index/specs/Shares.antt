@@ -1,7 +1,7 @@
 -- The shares of a cloud and their owners, as contracts see them.
-use Rattle.std.specs.Prelude.{ℕ, ◌^◌, ◌==◌, List, Option, count_by, unwrap_or}
+use Rattle.std.specs.Prelude.{ℕ, zero, suc, ◌^◌, ◌==◌, List, Option, count_by, unwrap_or}
 use Rattle.std.specs.Ordering.{eq_by_cmp}
-use Rattle.std.specs.FinMap.{FinMap, get, entries}
+use Rattle.std.specs.FinMap.{FinMap, get, insert, remove, entries}
 use Rattle.cd_base.specs.declared.ids.Fp.{Fp}
 use Rattle.cd_base.specs.declared.ids.UserId.{UserId}
 use Rattle.pool_map.specs.declared.accounts.Accounts.{Accounts}
@@ -29,6 +29,16 @@ used_by index user = use_for (λ k. k.user) index.accounts index.owners user
 -- the uses of what an owner has
 abbrev pub uses_at : FinMap owner_cmp ℕ → Owner → ℕ
 uses_at owners owner = unwrap_or (get owners owner) 0
+
+-- the owners where what an owner has, with so many uses, loses one: with the last use the owner is gone
+abbrev pub with_fewer_uses : FinMap owner_cmp ℕ → Owner → ℕ → FinMap owner_cmp ℕ
+with_fewer_uses owners owner zero = owners
+with_fewer_uses owners owner (suc zero) = remove owners owner
+with_fewer_uses owners owner (suc (suc uses)) = insert owners owner (suc uses)
+
+-- the owners where what an owner has, if it is one, loses a use, if it has one
+abbrev pub released : FinMap owner_cmp ℕ → Owner → FinMap owner_cmp ℕ
+released owners owner = with_fewer_uses owners owner (uses_at owners owner)
 
 -- how many users own a fingerprint
 abbrev pub owners_of : FinMap owner_cmp ℕ → List ℕ → ℕ

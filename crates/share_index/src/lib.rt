@@ -12,7 +12,7 @@ ghost use Rattle.pool_map.specs.Slots.{slot_of, IsListed, IsRewritten};
 ghost use Rattle.share_index.specs.Emptied.{IsEmptied};
 ghost use Rattle.share_index.specs.Order.{owner_of};
 ghost use Rattle.share_index.specs.Placed.{AreAllPlaced};
-ghost use Rattle.share_index.specs.Shares.{used_by, uses_at, owners_of, ownerless_in, batches_of, place_with, owner_with};
+ghost use Rattle.share_index.specs.Shares.{used_by, uses_at, released, owners_of, ownerless_in, batches_of, place_with, owner_with};
 
 mod counts;
 mod key;
@@ -332,6 +332,24 @@ impl ShareIndex {
                 },
             ),
             None => self.unplaced -= 1,
+        }
+    }
+
+    /// Lowers the uses of a fingerprint by one, if the user owns it with a use, and takes it from the user with the last use.
+    /// Its place stays. The owner and the place are looked up once each.
+    pub fn release(&mut self, user: UserId, fp: &Fp)
+        ensures owners { self.new.owners ≡ released self.old.owners (owner_of user.0 fp.now.0) }
+        ensures places { self.new.places ≡ self.old.places }
+        ensures place_slots { length self.new.place_slots ≡ length self.old.place_slots }
+        ensures owner_slots { length self.new.owner_slots ≡ length self.old.owner_slots }
+        ensures fps { self.new.fps ≡ self.old.fps }
+        ensures accounts { self.new.accounts ≡ self.old.accounts }
+    {
+        if self.owners.release(&Owner::of(user, fp)) {
+            let placed = self.places.lower_owners(&fp.0);
+            if !placed {
+                self.unplaced -= 1;
+            }
         }
     }
 

@@ -1,11 +1,11 @@
 //! The owners of fingerprints.
 
-ghost use Rattle.std.specs.Prelude.{◌≡◌, ◌<◌, ◌^◌, ◌↔◌, IfOk, IfErr, OnOk, OnErr, IsErr, IsSome, None, length, option_map};
+ghost use Rattle.std.specs.Prelude.{◌≡◌, ◌==◌, ◌<◌, ◌^◌, ◌↔◌, IfOk, IfErr, OnOk, OnErr, IsErr, IsSome, None, length, option_map};
 ghost use Rattle.std.specs.FinMap as map;
 ghost use Rattle.pool_map.specs.declared.accounts.IndexErr.TheVariants.{Full};
 ghost use Rattle.pool_map.specs.Accounts.{limit_for, slots_of, use_for, keys_of};
 ghost use Rattle.pool_map.specs.Slots.{slot_of, IsListed};
-ghost use Rattle.share_index.specs.Shares.{batches_of, owners_of};
+ghost use Rattle.share_index.specs.Shares.{batches_of, owners_of, uses_at, released};
 ghost use Rattle.share_index.specs.Owning.{used_of, shows_fp};
 
 use crate::counts::UserCounts;
@@ -107,6 +107,32 @@ impl OwnerTable {
         ensures slots { length self.new.slots ≡ length self.old.slots }
     {
         self.table.replace(owner, uses);
+    }
+
+    /// Lowers the uses of what an owner has by one, if it has a use, and takes the owner out with its last. Answers whether
+    /// the owner is gone by this.
+    pub(crate) fn release(&mut self, owner: &Owner) -> bool
+        ensures gone { result ≡ (uses_at self.old.owners owner.now == 1) }
+        ensures owners { self.new.owners ≡ released self.old.owners owner.now }
+        ensures accounts { self.new.accounts ≡ self.old.accounts }
+        ensures slots { length self.new.slots ≡ length self.old.slots }
+    {
+        match self.table.find(owner) {
+            Some((slot, held)) => {
+                let uses = *held;
+                if uses == 1 {
+                    self.table.remove_at(slot);
+                    self.counts.lower(owner.user);
+                    true
+                } else if uses > 1 {
+                    self.table.set_at(slot, uses - 1);
+                    false
+                } else {
+                    false
+                }
+            }
+            None => false,
+        }
     }
 
     /// The number of owners.

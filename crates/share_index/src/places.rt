@@ -4,7 +4,7 @@ ghost use Rattle.std.specs.Prelude.{◌≡◌, ◌<◌, ◌==◌, ◌↔◌, fal
 ghost use Rattle.std.specs.FinMap as map;
 ghost use Rattle.pool_map.specs.Slots.{slot_of, IsListed, IsRewritten};
 ghost use Rattle.share_index.specs.Emptied.{IsEmptied};
-ghost use Rattle.share_index.specs.Placing.{zeros};
+ghost use Rattle.share_index.specs.Placing.{zeros, with_fewer_owners};
 
 use crate::key::Kept;
 use cd_base::Fp;
@@ -103,6 +103,28 @@ impl PlaceTable {
     {
         let old = self.table.replace(fp, kept);
         self.ownerless = self.ownerless - unowned(&old) + unowned(&kept);
+    }
+
+    /// Counts an owner fewer of a fingerprint, which has some if it is placed. Answers whether it is placed.
+    pub(crate) fn lower_owners(&mut self, fp: &[u8; 32]) -> bool
+        requires { IfSome (map.get self.old.kept fp.now) (λ kept. 0 < kept.owners) }
+        ensures placed { result ≡ is_some (map.get self.old.kept fp.now) }
+        ensures kept { self.new.kept ≡ with_fewer_owners self.old.kept fp.now }
+        ensures room { self.new.room ≡ self.old.room }
+        ensures slots { length self.new.slots ≡ length self.old.slots }
+    {
+        match self.table.find(fp) {
+            Some((slot, kept)) => {
+                let fewer = Kept {
+                    place: kept.place,
+                    owners: kept.owners - 1,
+                };
+                let old = self.table.set_at(slot, fewer);
+                self.ownerless = self.ownerless - unowned(&old) + unowned(&fewer);
+                true
+            }
+            None => false,
+        }
     }
 
     /// Takes a fingerprint out.
