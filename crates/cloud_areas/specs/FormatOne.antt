@@ -18,7 +18,7 @@ use Rattle.journal_start.specs.declared.rooms.Rooms.{Rooms}
 use Rattle.journal_start.specs.declared.start.Header.{Header}
 use Rattle.journal_start.specs.Spelling.{commands_of, records_of, recipes_end_of}
 use Rattle.cd_base.specs.declared.place.Place.{Place}
-use Rattle.user_dedup.specs.Cloud.{has_fingerprint}
+use Rattle.user_dedup.specs.Cloud.{has_fingerprint, counted}
 use Rattle.user_dedup.specs.Dedup.{FullRoom}
 use Rattle.user_dedup.specs.Owning.{new_strings}
 use Rattle.user_dedup.specs.declared.command.Command.{Command}
@@ -101,7 +101,7 @@ pub record Lays (header : Header) (image : Image) (list : List Command) (c : Cha
   pub before : List Command
   pub after : List Command
   pub list_is : list ≡ before ++ after
-  pub first : length before ≡ commands_of c.start.checkpoint
+  pub first : counted before ≡ commands_of c.start.checkpoint
   pub recipes_laid : (r : Placed) → Contains c.recipes r → IsLaidRecipe before list r
   pub recipes : All (IsAt (image Recipes)) c.recipes
   pub end_is : recipes_end_of c.start.checkpoint ≡ laid_end before

@@ -155,7 +155,7 @@ adding_more start now next user news items place d item lt same adding one =
 -- ---- what is left
 
 pub limits_on : (old mid new : CloudMemory) → KeepsLimits old mid → KeepsLimits mid new → KeepsLimits old new
-limits_on old mid new a b = record { fps = b.fps ∙ a.fps; owners = b.owners ∙ a.owners; files = b.files ∙ a.files; slots = b.slots ∙ a.slots }
+limits_on old mid new a b = record { fps = b.fps ∙ a.fps; owners = b.owners ∙ a.owners; files = b.files ∙ a.files; slots = b.slots ∙ a.slots; owned = b.owned ∙ a.owned; entries = b.entries ∙ a.entries }
 
 pub record Added (old new : CloudMemory) (user : UserId) (news : List New) (items : List PutItem) : Type 0 where
   pub parts : items ≡ parts_of user (memory_of old) news
@@ -171,6 +171,8 @@ all_added old new user [] [] all = record {
     owners = ap (λ (x : CloudMemory). x.shares.accounts) all;
     files = ap (λ (x : CloudMemory). x.files.accounts) all;
     slots = ap (λ (x : CloudMemory). length x.shares.place_slots) all;
+    owned = ap (λ (x : CloudMemory). length x.shares.owner_slots) all;
+    entries = ap (λ (x : CloudMemory). length x.files.slots) all;
   };
 }
 all_added old new user [] (i ∷ is) all = absurd all

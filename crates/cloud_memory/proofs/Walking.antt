@@ -8,14 +8,14 @@ use Rattle.cd_base.specs.declared.ids.Fp.{Fp}
 use Rattle.cd_base.specs.declared.ids.UserId.{UserId}
 use Rattle.pool_map.specs.MapSums.{insert-same}
 use Rattle.share_index.specs.Order.{owner_cmp, owner_of, owner_exact}
-use Rattle.share_index.specs.Shares.{Shares, uses_at}
+use Rattle.share_index.specs.Shares.{Shares, uses_at, with_fewer_uses, released}
 use Rattle.share_index.proofs.Owning.{owner_total}
 use Rattle.cloud_memory.specs.Sharing.{AreOwned, KeepsPlaces}
-use Rattle.cloud_memory.specs.Steps.{raised, with_use}
+use Rattle.cloud_memory.specs.Steps.{raised, with_use, less_one, without_use}
 use Rattle.cloud_memory.proofs.Naming.{one_more, raised_here}
 
 keeps_on : (a b c : Shares) → KeepsPlaces a b → KeepsPlaces b c → KeepsPlaces a c
-keeps_on a b c one two = record { places = two.places ∙ one.places; fps = two.fps ∙ one.fps; accounts = two.accounts ∙ one.accounts; slots = two.slots ∙ one.slots }
+keeps_on a b c one two = record { places = two.places ∙ one.places; fps = two.fps ∙ one.fps; accounts = two.accounts ∙ one.accounts; slots = two.slots ∙ one.slots; owned = two.owned ∙ one.owned }
 
 -- So far these names were taken.
 pub record Walked (by : FinMap owner_cmp ℕ → Fp → FinMap owner_cmp ℕ) (start now : Shares) (names : List Fp) (place : ℕ) : Type 0 where
@@ -34,7 +34,7 @@ take_whole (name ∷ names) zero past = absurd (omega (arith, past))
 take_whole (name ∷ names) (suc place) past = ap (λ (l : List Fp). name ∷ l) (take_whole names place (omega (arith, past)))
 
 pub walked_none : (by : FinMap owner_cmp ℕ → Fp → FinMap owner_cmp ℕ) (start : Shares) (names : List Fp) → Walked by start start names 0
-walked_none by start names = record { owners = refl; kept = record { places = refl; fps = refl; accounts = refl; slots = refl } }
+walked_none by start names = record { owners = refl; kept = record { places = refl; fps = refl; accounts = refl; slots = refl; owned = refl } }
 
 pub walked_more : (by : FinMap owner_cmp ℕ → Fp → FinMap owner_cmp ℕ) (start now next : Shares) (names : List Fp) (place : ℕ) (fp : Fp) → slice_get names place ≡ Some fp
     → Walked by start now names place → next.owners ≡ by now.owners fp → KeepsPlaces now next → Walked by start next names (place + 1)
@@ -69,3 +69,12 @@ raised_whole m user fp uses is most small =
     let at : uses_at m (owner_of user.0 fp.0) ≡ uses = ap (λ (o : Option ℕ). unwrap_or o 0) is in
     let top : raised uses ≡ uses = omega (arith, most, small) in
     sym (ap (insert m (owner_of user.0 fp.0)) (ap raised at ∙ top) ∙ insert-same owner_total owner_exact m (owner_of user.0 fp.0) uses is)
+
+-- a use fewer, as the index of shares says it
+pub released_is : (owners : FinMap owner_cmp ℕ) (user : UserId) (fp : Fp) → released owners (owner_of user.0 fp.0) ≡ without_use user owners fp
+released_is owners user fp = by_uses (uses_at owners (owner_of user.0 fp.0))
+  where
+    by_uses : (uses : ℕ) → with_fewer_uses owners (owner_of user.0 fp.0) uses ≡ less_one user owners fp uses
+    by_uses zero = refl
+    by_uses (suc zero) = refl
+    by_uses (suc (suc uses)) = refl

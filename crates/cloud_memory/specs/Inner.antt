@@ -25,12 +25,14 @@ use Rattle.cloud_memory.specs.Records.{full_entries}
 use Rattle.cloud_memory.specs.Rooms.{memory_of}
 use Rattle.cloud_memory.specs.Steps.{with_item, part_in}
 
--- The limits are as they were, and the number of slots for places.
+-- The limits are as they were, and the numbers of slots for places, for owners and for entries.
 pub record KeepsLimits (old new : CloudMemory) : Type 0 where
   pub fps : new.shares.fps ≡ old.shares.fps
   pub owners : new.shares.accounts ≡ old.shares.accounts
   pub files : new.files.accounts ≡ old.files.accounts
   pub slots : length new.shares.place_slots ≡ length old.shares.place_slots
+  pub owned : length new.shares.owner_slots ≡ length old.shares.owner_slots
+  pub entries : length new.files.slots ≡ length old.files.slots
 
 -- A fingerprint got this place.
 pub record Placed (old new : CloudMemory) (fp : Fp) (place : Place) : Type 0 where

@@ -26,13 +26,16 @@ memory_of cloud = record {
   recipes_end = cloud.recipes_end;
 }
 
--- Its limits are those of the rooms, for each user apart, and it has a slot for the place of each share that all users may own.
+-- Its limits are those of the rooms, for each user apart, and it has a slot for the place of each share that all users may own, one for
+-- each of them as its owner, and one for each entry that they may have.
 pub record HasRooms (rooms : Rooms) (cloud : CloudMemory) : Type 0 where
   pub fps : cloud.shares.fps ≡ rooms.users * rooms.owners
   pub owners : cloud.shares.accounts ≡ PerUser rooms.users rooms.owners
   pub files : cloud.files.accounts ≡ PerUser rooms.users rooms.files
   pub users : length cloud.spent ≡ rooms.users
   pub slots : length cloud.shares.place_slots ≡ rooms.users * rooms.owners
+  pub owned : length cloud.shares.owner_slots ≡ rooms.users * rooms.owners
+  pub entries : length cloud.files.slots ≡ rooms.users * rooms.files
 
 -- The first of the user's rooms that a Put of so many shares, with so many bytes as they are held, would pass, by what was spent; or else
 -- the owners, where the indexes have no more places. Over a cloud that is as it was left they have.

@@ -27,3 +27,4 @@ pub record KeepsPlaces (old new : Shares) : Type 0 where
   pub fps : new.fps ≡ old.fps
   pub accounts : new.accounts ≡ old.accounts
   pub slots : length new.place_slots ≡ length old.place_slots
+  pub owned : length new.owner_slots ≡ length old.owner_slots

@@ -115,6 +115,8 @@ impl CloudMemory {
         requires shares { (spent_by self.old.spent user).shares + more.shares < 2 ^ 64 }
         requires recipes { (spent_by self.old.spent user).recipes + more.recipes < 2 ^ 64 }
         ensures taken { memory_of self.new ≡ spends user more (memory_of self.old) }
+        ensures shares { self.new.shares ≡ self.old.shares }
+        ensures files { self.new.files ≡ self.old.files }
         ensures rooms { (rooms : Rooms) → HasRooms rooms self.old → HasRooms rooms self.new }
         ensures greatest { KeepsGreatest self.old self.new }
     {
@@ -130,6 +132,8 @@ impl CloudMemory {
     /// Takes a Spent's record: the user has spent so much. Of a user without a place nothing is kept.
     pub fn take_spent(&mut self, user: UserId, spent: Spent)
         ensures taken { memory_of self.new ≡ with_spent user spent (memory_of self.old) }
+        ensures shares { self.new.shares ≡ self.old.shares }
+        ensures files { self.new.files ≡ self.old.files }
         ensures rooms { (rooms : Rooms) → HasRooms rooms self.old → HasRooms rooms self.new }
         ensures greatest { KeepsGreatest self.old self.new }
     {

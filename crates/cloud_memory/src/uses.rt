@@ -43,16 +43,7 @@ fn lower(shares: &mut ShareIndex, user: UserId, fp: &Fp)
     ensures owners { shares.new.owners ≡ without_use user shares.old.owners fp.now }
     ensures others { KeepsPlaces shares.old shares.new }
 {
-    match shares.uses(user, fp) {
-        Some(uses) => {
-            if uses == 1 {
-                shares.drop_owner(user, fp);
-            } else if uses > 1 {
-                shares.drop_use(user, fp);
-            }
-        }
-        None => {}
-    }
+    shares.release(user, fp);
 }
 
 /// Each item's fingerprint, which the user owns, gets a use more.

@@ -2,9 +2,9 @@ pub mod CloudAreas
 pub mod MemoryProofs
 pub mod Faults
 pub mod Judged
-mod KeptWalking
+pub mod KeptWalking
 mod Naming
 pub mod OneAnswer
 mod Overlaying
-mod Rooming
-mod Walking
+pub mod Rooming
+pub mod Walking

@@ -1,5 +1,5 @@
 -- The checks of a record against what is remembered, and the place in its body of the first field that fails.
-use Rattle.std.specs.Prelude.{◌≡◌, ◌≢◌, ◌⊎◌, ◌↔◌, ℕ, ◌+◌, ◌-◌, ◌*◌, ◌≤◌, Bool, false, IsTrue, List, [], ◌∷◌, length, slice_index, slice_index_or, Option, Some, None, IsSome, IfSome, Ok, if◌then◌else◌}
+use Rattle.std.specs.Prelude.{◌≡◌, ◌≢◌, ◌⊎◌, ◌↔◌, ℕ, ◌+◌, ◌-◌, ◌*◌, ◌≤◌, Bool, true, false, IsTrue, List, [], ◌∷◌, length, slice_index, slice_index_or, Option, Some, None, IsSome, IfSome, Ok, if◌then◌else◌}
 use Rattle.std.specs.FinMap.{get, len}
 use Rattle.std.specs.Int.{w32, to_be_bytes}
 use Rattle.cd_base.specs.Limits.{recipe_limit}
@@ -204,10 +204,10 @@ pub record CommitFits (g : Ground) (inside : Bool) (c : CommitBody) (m : Memory)
 abbrev pub KeptFits : Ground → Memory → Type 0
 KeptFits g m = len m.places ≤ g.rooms.users * g.rooms.owners
 
--- The Spent's numbers are within the user's limits, and the user has no Spent yet, by these marks. Users with a number of 256 or more have
--- no mark, and may spend nothing.
+-- The Spent's numbers are within the user's limits, and the user has no Spent yet, by these marks. Users with a number of 256 or more,
+-- for whom no rooms are, have no mark, and no Spent at all.
 pub record MayHaveSpent (g : Ground) (marks : List Bool) (s : SpentBody) : Type 0 where
-  pub first : slice_index_or marks s.user.0 false ≡ false
+  pub first : slice_index_or marks s.user.0 true ≡ false
   pub owners : s.owners ≤ (limits_of g.rooms s.user).owners
   pub shares : s.shares ≤ (limits_of g.rooms s.user).shares
   pub recipes : s.recipes ≤ (limits_of g.rooms s.user).recipes

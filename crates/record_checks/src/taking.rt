@@ -1,7 +1,7 @@
 //! What an opening keeps of its records beside the memory.
 
 ghost use Rattle.std.specs.Prelude.{◌≡◌, ℕ, ◌+◌, ◌<◌, ◌^◌, Bool, List, length, slice_set, slice_index_or, true};
-ghost use Rattle.std.specs.Prelude.{false, IsTrue, ◌↔◌, IfErr, OnOk};
+ghost use Rattle.std.specs.Prelude.{IsTrue, ◌↔◌, IfErr, OnOk};
 ghost use Rattle.record_bodies.specs.Spelling.{Spent as SpentRecord};
 ghost use Rattle.cloud_memory.specs.Rooms.{memory_of, HasRooms};
 ghost use Rattle.record_checks.specs.Checks.{MayHaveSpent};
@@ -55,12 +55,12 @@ impl Taking {
         self.recipes_field
     }
 
-    // Whether the user has a Spent.
+    // Whether the user has a Spent, or may have none: no rooms are for a number of 256 or more.
     fn has_spent(&self, user: UserId) -> bool
-        ensures { result ≡ slice_index_or self.now.spent user.0 false }
+        ensures { result ≡ slice_index_or self.now.spent user.0 true }
     {
         let place = user.0 as usize;
-        place < self.spent.len() && self.spent[place]
+        place >= self.spent.len() || self.spent[place]
     }
 
     // The user has a Spent.
@@ -76,7 +76,7 @@ impl Taking {
     }
 }
 
-// Whether the user has no Spent yet, and may have spent what this one says.
+// Whether the user may have a Spent and has none yet, and may have spent what this one says.
 fn is_allowed(taking: &Taking, ground: &Ground, spent: &SpentBody) -> bool
     ensures { IsTrue result ↔ MayHaveSpent ground.now taking.now.spent spent.now }
 {

@@ -74,10 +74,10 @@ use Rattle.record_laws.proofs.Split.{split_in, map_split}
 
 -- ---- marks
 
-no_marks : (n u : ℕ) → slice_index_or (replicate n false) u false ≡ false
-no_marks zero u = refl
-no_marks (suc n) zero = refl
-no_marks (suc n) (suc u) = no_marks n u
+no_marks : (n u : ℕ) → u < n → slice_index_or (replicate n false) u true ≡ false
+no_marks zero u below = absurd (omega (arith, below))
+no_marks (suc n) zero below = refl
+no_marks (suc n) (suc u) below = no_marks n u (omega (arith, below))
 
 puts_mark : (marks : List Bool) (puts : List PutRecord) → fold marked marks (map put_body puts) ≡ marks
 puts_mark marks [] = refl
@@ -92,11 +92,11 @@ commits_mark marks [] = refl
 commits_mark marks (c ∷ commits) = commits_mark marks commits
 
 spents_mark : (marks : List Bool) (spents : List SpentBody) (u : ℕ) → ((s : SpentBody) → Contains spents s → s.user.0 ≢ u)
-    → slice_index_or (fold marked marks (map bodies.Spent spents)) u false ≡ slice_index_or marks u false
+    → slice_index_or (fold marked marks (map bodies.Spent spents)) u true ≡ slice_index_or marks u true
 spents_mark marks [] u other = refl
 spents_mark marks (s ∷ spents) u other =
     spents_mark (slice_set marks s.user.0 true) spents u (λ x c. other x (contains_later s spents x c))
-    ∙ get_or-set_other marks s.user.0 u true false (λ e. other s (contains_here s spents) (sym e))
+    ∙ get_or-set_other marks s.user.0 u true true (λ e. other s (contains_here s spents) (sym e))
 
 -- ---- entries so far
 
@@ -390,13 +390,15 @@ module _ (format : ℕ) (shape : Shape) (cloud : ℕ) (rooms : Rooms) (region sh
   -- ---- a Spent
 
   spent_taken : (before : List Body) (spents : List SpentBody) (s : SpentBody) (back : List SpentBody) → is.spents ≡ spents ++ s ∷ back
-      → ((u : ℕ) → slice_index_or (marks_of before) u false ≡ slice_index_or (fold marked (replicate 256 false) (map bodies.Spent spents)) u false)
+      → ((u : ℕ) → slice_index_or (marks_of before) u true ≡ slice_index_or (fold marked (replicate 256 false) (map bodies.Spent spents)) u true)
       → IsTaken before (bodies.Spent s)
   spent_taken before spents s back split marks =
       let said = listed format shape cloud list records recipes rooms.users region area later fine.sound is fine.long fine.lie all_known (few_files shape rooms list fine.within are_rooms) in
       let user_in : SpentBody → UserId = λ (y : SpentBody). y.user in
       let here : Contains is.spents s = subst (λ l. Contains l s) (sym split) (Contains-append_right spents (s ∷ back) s (contains_here s back)) in
       let numbers = said.numbers s here in
+      let known = all_known s.user ((said.users.each s.user).0 (in_map user_in is.spents s here)) in
+      let few = are_rooms.few in
       let fits = each_within shape rooms list s.user fine.within in
       let users : Apart (map user_in spents ++ s.user ∷ map user_in back) =
       subst Apart (ap (map user_in) split ∙ map-append user_in spents (s ∷ back)) (apart_from (map user_in is.spents) said.users.once) in
@@ -410,7 +412,7 @@ module _ (format : ℕ) (shape : Shape) (cloud : ℕ) (rooms : Rooms) (region sh
       let b = fits.shares in
       let c = fits.recipes in (
         SpentTaken s (record {
-          first = marks s.user.0 ∙ spents_mark (replicate 256 false) spents s.user.0 other ∙ no_marks 256 s.user.0;
+          first = marks s.user.0 ∙ spents_mark (replicate 256 false) spents s.user.0 other ∙ no_marks 256 s.user.0 (omega (arith, known, few));
           owners = omega (arith, a, owners);
           shares = omega (arith, b, shares);
           recipes = omega (arith, c, recipes_spent);
@@ -459,7 +461,7 @@ module _ (format : ℕ) (shape : Shape) (cloud : ℕ) (rooms : Rooms) (region sh
                 ∙ ap (λ l. fold marked l (commits ++ map bodies.Spent s.front)) (kept_mark none is.kept)
                 ∙ fold-append marked none commits (map bodies.Spent s.front)
                 ∙ ap (λ l. fold marked l (map bodies.Spent s.front)) (commits_mark none is.commits) in
-                subst (IsTaken before) (sym s.here) (spent_taken before s.front s.x s.back s.is (λ u. ap (λ l. slice_index_or l u false) marks))
+                subst (IsTaken before) (sym s.here) (spent_taken before s.front s.x s.back s.is (λ u. ap (λ l. slice_index_or l u true) marks))
           ]
         ]
       ]

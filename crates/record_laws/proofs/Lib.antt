@@ -1,17 +1,17 @@
 pub mod Asked
-mod Behind
+pub mod Behind
 pub mod Chain
 pub mod Checkpoint
-mod Counted
+pub mod Counted
 pub mod Counts
-mod Front
-mod Inside
-mod Items
+pub mod Front
+pub mod Inside
+pub mod Items
 pub mod Known
 pub mod Next
 pub mod Places
 pub mod Segments
-mod Sized
-mod Split
+pub mod Sized
+pub mod Split
 pub mod Sums
-mod Taken
+pub mod Taken

@@ -90,6 +90,8 @@ returns-in-None-clause-rooms c =
       owners = c.raise_all.ensures.others.accounts ∙ entered.limits.owners ∙ c.requires.rooms.owners;
       files = entered.limits.files ∙ c.requires.rooms.files;
       slots = c.raise_all.ensures.others.slots ∙ entered.limits.slots ∙ c.requires.rooms.slots;
+      owned = c.raise_all.ensures.others.owned ∙ entered.limits.owned ∙ c.requires.rooms.owned;
+      entries = entered.limits.entries ∙ c.requires.rooms.entries;
       users =
           ap (λ (l : List Spent). length l) c.add_recipe.ensures ∙ rows_long mid.spent c.args.user (both (spent_by mid.spent c.args.user) (of_recipe c.from-more.result))
           ∙ ap (λ (m : Memory). length m.spent) entered.memory ∙ c.requires.rooms.users;

@@ -81,6 +81,8 @@ returns-in-None-clause-rooms c =
       owners = added.limits.owners ∙ c.requires.rooms.owners;
       files = added.limits.files ∙ c.requires.rooms.files;
       slots = added.limits.slots ∙ c.requires.rooms.slots;
+      owned = added.limits.owned ∙ c.requires.rooms.owned;
+      entries = added.limits.entries ∙ c.requires.rooms.entries;
       users =
           ap (λ (l : List Spent). length l) c.add_shares-in-None.ensures
           ∙ rows_long c.add_shares.new.self.spent c.args.user (both (spent_by c.add_shares.new.self.spent c.args.user) (of_shares (length c.args.news.now) c.held_lens-more.result))
