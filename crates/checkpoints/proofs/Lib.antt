@@ -16,6 +16,7 @@ pub mod OwnLaw
 pub mod Owns
 pub mod Picks
 pub mod RecordsLaw
+pub mod RoomLaw
 pub mod Shares
 pub mod Sought
 pub mod SpentLaw

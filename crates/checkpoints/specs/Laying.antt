@@ -11,6 +11,10 @@ use Rattle.record_bodies.specs.Spelling.{Body, body_bytes, IsBody}
 abbrev pub record_len : Body → ℕ
 record_len body = length (body_bytes body) + 5
 
+-- the most bytes that one takes
+abbrev pub longest_record : ℕ
+longest_record = 11532
+
 abbrev pub records_len : List Body → ℕ
 records_len [] = 0
 records_len (body ∷ bodies) = record_len body + records_len bodies

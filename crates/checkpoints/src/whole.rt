@@ -9,10 +9,10 @@ ghost use Rattle.half_journal.specs.Leaving.{OthersStay};
 ghost use Rattle.half_journal.specs.declared.journal.Stage.TheVariants.{AtEnd};
 ghost use Rattle.user_dedup.specs.declared.command.Command.{Command};
 ghost use Rattle.cloud_areas.specs.Standing.{Chain};
-ghost use Rattle.checkpoints.specs.Laying.{records_len, KeepsOrSettles, HasSettled};
+ghost use Rattle.checkpoints.specs.Laying.{records_len, longest_record, KeepsOrSettles, HasSettled};
 ghost use Rattle.checkpoints.specs.Settling.{KeepsList, KeepsOthers};
 ghost use Rattle.checkpoints.specs.Records.{coming, records_of};
-ghost use Rattle.cloud_memory.specs.Rooms.{memory_of};
+ghost use Rattle.cloud_memory.specs.Rooms.{memory_of, HasRooms};
 ghost use Rattle.cloud_memory.specs.Fitting.{FitsRecords};
 ghost use Rattle.checkpoints.specs.Ready.{IsReady};
 ghost use Rattle.checkpoints.specs.Known.{IsKnown, HasCheckpoint, CountsWithin, stage_behind};
@@ -63,9 +63,9 @@ fn count_within(records: &mut MemoryRecords<'_>, limit: u64, buffer: &mut BodyBu
 /// after Ok the checkpoint's.
 ///
 /// Behind the records there is room for one more, whichever it is. `Long` comes exactly where the records are longer than a
-/// half may be, which those of a list within its rooms never are, and then nothing has changed. `Failed` comes only where the
-/// cloud's count of faults rose, and then the journal is shut. The memory and the logs are as they were, and no area but the
-/// journal is written. It takes no memory.
+/// half may be, and then nothing has changed. Those of a memory with the header's rooms never are, nor those of a list within
+/// its rooms. `Failed` comes only where the cloud's count of faults rose, and then the journal is shut. The memory and the
+/// logs are as they were, and no area but the journal is written. It takes no memory.
 pub fn checkpoint_of_memory<V: Shelf>(
     memory: &CloudMemory,
     disk: &mut CloudDisk,
@@ -104,6 +104,9 @@ pub fn checkpoint_of_memory<V: Shelf>(
         → IsKnown header.now list c commands region memory.now disk.old (V.cloud_at shelf.old cloud.0)
         → FitsBody body
         → 63 + records_len (records_of memory.now) + (length (body_bytes body) + 5) ≤ disk.old.journal.limit }
+    ensures never_long { HasRooms header.now.rooms memory.now → IfLong result ⊥ }
+    ensures room { HasRooms header.now.rooms memory.now
+        → 63 + records_len (records_of memory.now) + longest_record ≤ disk.old.journal.limit }
     ensures long { IfLong result (disk.old.journal.limit < 63 + records_len (records_of memory.now)) }
     ensures fits { UnlessLong result (63 + records_len (records_of memory.now) ≤ disk.old.journal.limit) }
     ensures same { IfLong result ((disk.new ≡ disk.old) × (shelf.new ≡ shelf.old)) }

@@ -1,5 +1,5 @@
 -- The fields of a command that a sound list has are in their ranges.
-use Rattle.std.proofs.Common.{◌≡◌, ℕ, ◌^◌, ◌<◌, ◌≤◌, List, [], ◌∷◌, ◌++◌, length, map, replicate, Some, None, refl, sym, ap, ◌∙◌, subst, arith}
+use Rattle.std.proofs.Common.{◌≡◌, ℕ, ◌^◌, ◌<◌, ◌≤◌, List, [], ◌∷◌, ◌++◌, length, map, Some, None, sym, ap, ◌∙◌, subst, arith}
 use Rattle.std.specs.Prelude.{All}
 use Rattle.std.proofs.lemmas.List.Elements.{All-nil, All-cons}
 use Rattle.cd_base.specs.declared.ids.Fp.{Fp}
@@ -8,7 +8,6 @@ use Rattle.cd_base.specs.declared.ids.UserId.{UserId}
 use Rattle.cd_base.specs.declared.ids.Version.{Version}
 use Rattle.cd_base.specs.declared.shape.Shape.{Shape}
 use Rattle.container_log.specs.Places.{container_len, place_of}
-use Rattle.record_body.proofs.Spelled.{length-commit}
 use Rattle.record_bodies.specs.Spelling as bodies
 use Rattle.record_bodies.specs.Spelling.{FitsBody}
 use Rattle.sha2.proofs.Facts256.{length-sha256}
@@ -29,7 +28,8 @@ use Rattle.user_dedup.proofs.Owned.{contains_here}
 use Rattle.std.proofs.lemmas.List.Elements.{Contains-append_right}
 use Rattle.checkpoints.specs.CloudMemory.rooms.New.{New}
 use Rattle.checkpoints.specs.CloudMemory.News.{AreOf}
-use Rattle.open_store.proofs.Putting.{HasFp, place_near}
+use Rattle.open_store.specs.Adding.{HasFp}
+use Rattle.open_store.proofs.Putting.{place_near}
 
 -- ---- what the last command of a sound list has
 
@@ -103,16 +103,3 @@ fps_long (n ∷ news) (s ∷ strings) e =
 
 pub are_long : (news : List New) (strings : List (List ℕ)) → AreOf news strings → All HasFp news
 are_long news strings of = fps_long news strings of.fps
-
--- ---- a record as long as a Commit's
-
-pub sample : bodies.Body
-sample = bodies.Commit (record { user = record { 0 = 0 }; tag = record { 0 = replicate 32 0 }; version = record { 0 = 0 }; at = 0; len = 1; fp = record { 0 = replicate 32 0 } })
-
-pub sample_fits : FitsBody sample
-unfolding sample
-sample_fits = record { user = omega arith; tag = refl; version = omega arith; from = omega arith; some = omega arith; few = omega arith; fp = refl }
-
-pub sample_long : length (bodies.body_bytes sample) ≡ 89
-unfolding sample
-sample_long = length-commit _ sample_fits

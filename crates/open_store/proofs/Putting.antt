@@ -3,20 +3,23 @@ use Rattle.std.proofs.Common.{◌≡◌, ℕ, ◌+◌, ◌*◌, ◌/◌, ◌%◌
 use Rattle.std.specs.Prelude.{All, is_some, nat_le}
 use Rattle.std.specs.FinMap.{get}
 use Rattle.std.proofs.lemmas.List.Elements.{All-nil, All-cons, All-head, All-tail}
+use Rattle.std.proofs.lemmas.List.Sums.{count_by-le-length}
 use Rattle.cd_base.specs.declared.ids.UserId.{UserId}
 use Rattle.container_log.specs.Places.{container_len, place_of}
 use Rattle.record_body.specs.declared.body.PutItem.{PutItem}
 use Rattle.record_body.specs.Spelling.{FitsItem, FitsPlaced}
-use Rattle.record_bodies.specs.Spelling.{Put, FitsBody}
+use Rattle.record_body.proofs.Spelled.{has_place, length-put}
+use Rattle.record_bodies.specs.Spelling.{Put, FitsBody, body_bytes}
 use Rattle.cd_base.specs.declared.place.Place.{Place}
 use Rattle.cloud_areas.specs.Laid.{AreSmall, IsLaidBehind}
 use Rattle.cloud_areas.specs.Placing.{places_given, places_of}
 use Rattle.checkpoints.specs.CloudMemory.rooms.New.{New}
 use Rattle.checkpoints.specs.CloudMemory.Memory.{Memory}
 use Rattle.checkpoints.specs.CloudMemory.Steps.{part_in, parts_of, with_item, end_with}
+use Rattle.checkpoints.specs.Laying.{longest_record}
 use Rattle.checkpoints.proofs.MemoryProofs.Adding.{parts_count}
 use Rattle.checkpoints.proofs.MemoryProofs.Recording.{parts_laid}
-use Rattle.open_store.specs.Adding.{IsShareNew}
+use Rattle.open_store.specs.Adding.{IsShareNew, HasFp}
 
 -- a blob moves an end by at most twice its length
 pub place_near : (end len : ℕ) → place_of end len + len ≤ end + 2 * len
@@ -25,9 +28,6 @@ place_near end len = by_test (nat_le (end % container_len + len) container_len) 
     by_test : (b : Bool) → nat_le (end % container_len + len) container_len ≡ b → cond b end ((end / container_len + 1) * container_len) + len ≤ end + 2 * len
     by_test true is = omega arith
     by_test false is = let far = leb-false (end % 4194304 + len) 4194304 is in omega (arith, far)
-
-abbrev pub HasFp : New → Type 0
-HasFp n = length n.fp.0 ≡ 32
 
 -- the end behind a share
 part_near : (m : Memory) (n : New) → end_with m.shares_end (part_in m n).place ≤ m.shares_end + 2 * n.len
@@ -59,6 +59,19 @@ pub put_fits : (user : UserId) (m : Memory) (news : List New) → user.0 < 2 ^ 3
 put_fits user m news in_range some few fps lens end =
     let count = parts_count m user news in
     (in_range, ((omega (arith, some, count), omega (arith, few, count)), all_fit user m news fps lens (omega (arith, few, end))))
+
+-- the record of a Put is no longer than the longest
+pub put_short : (user : UserId) (m : Memory) (news : List New) → length news ≤ 256 → All HasFp news → All IsShareNew news → m.shares_end ≤ 68719476736
+    → length (body_bytes (Put user (parts_of user m news))) + 5 ≤ longest_record
+put_short user m news few fps lens end =
+    let items = parts_of user m news in
+    omega (
+      arith,
+      few,
+      parts_count m user news,
+      length-put user items (all_fit user m news fps lens (omega (arith, few, end))),
+      count_by-le-length has_place items,
+    )
 
 small_first : (item : PutItem) (items : List PutItem) (o : Option Place) → FitsPlaced o → AreSmall (places_of (places_given items))
     → AreSmall (places_of (places_given (record { fp = item.fp; place = o } ∷ items)))

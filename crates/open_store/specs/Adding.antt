@@ -150,6 +150,10 @@ KeepsOrGrows s body old new = IsTrue old.told → (w : Where) → IsEnded s.disk
 abbrev pub IsShareNew : New → Type 0
 IsShareNew n = (1 ≤ n.len) × (n.len ≤ share_limit)
 
+-- A share's fingerprint has 32 bytes.
+abbrev pub HasFp : New → Type 0
+HasFp n = length n.fp.0 ≡ 32
+
 -- the record of a Put of these shares
 abbrev pub put_record : OpenStore → UserId → List New → Body
 put_record s user news = bodies.Put user (parts_of user (memory_of s.memory) news)

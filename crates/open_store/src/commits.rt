@@ -162,11 +162,9 @@ impl OpenStore {
             (full_for self.old.header.shape self.old.header.rooms list (commands.Commit user tag version bytes) ≡ None)
             (λ full. full_for self.old.header.shape self.old.header.rooms list (commands.Commit user tag version bytes)
             ≡ Some (seen full)) }
-        ensures never_long { (list : List Command) (c : Chain) (bytes : List ℕ)
-            → IsCommit list c self.old user tag version fp len (fps_in recipe.now.items) bytes
-            (V.cloud_at shelf.old self.old.header.cloud.0) → NotLong result }
 
         // whatever is known of the cloud
+        ensures never_long { NotLong result }
         ensures full { MatchFull result
             (full_commit self.old.header.rooms user (memory_of self.old.memory) len ≡ None)
             (λ full. full_commit self.old.header.rooms user (memory_of self.old.memory) len ≡ Some (seen full)) }

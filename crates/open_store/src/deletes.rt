@@ -163,11 +163,9 @@ impl OpenStore {
             (record { user = user; tag = tag; version = version })))))
             → OnAdded result (MadeFirst list c self.old (commands.Delete user tag version)
             (V.cloud_at shelf.old self.old.header.cloud.0) (V.cloud_at shelf.new self.old.header.cloud.0)) }
-        ensures never_long { (list : List Command) (c : Chain) (entry : FileEntry)
-            → IsDelete list c self.old user tag version entry recipe.now (V.cloud_at shelf.old self.old.header.cloud.0)
-            → NotLong result }
 
         // whatever is known of the cloud
+        ensures never_long { NotLong result }
         ensures never_full { MatchFull result (Unit {0}) (λ full. ⊥) }
         ensures taken { OnAdded result (memory_of self.new.memory
             ≡ without_entry (fps_of self.old.header.shape recipe.now) user

@@ -20,7 +20,7 @@ ghost use Rattle.record_bodies.specs.Spelling.{body_bytes};
 ghost use Rattle.cloud_areas.specs.Adding.{with_record};
 ghost use Rattle.checkpoints.specs.CloudMemory.Steps.{parts_of, with_put};
 ghost use Rattle.open_store.specs.Store.{IsOpen, IsSettled, Serves, Fits};
-ghost use Rattle.open_store.specs.Adding.{IsShareNew, IsPut, put_record, ServesMore, MadeFirst, unstaged, NoneStaged};
+ghost use Rattle.open_store.specs.Adding.{IsShareNew, HasFp, IsPut, put_record, ServesMore, MadeFirst, unstaged, NoneStaged};
 ghost use Rattle.open_store.specs.Adding.{EndBehind, Unmoved, KeepsOrGrows};
 ghost use Rattle.open_store.specs.Adding.{OnAdded, MatchFull, MatchFailed, NotLong, WhenLong, IsTooLong, stage_after};
 
@@ -140,11 +140,9 @@ impl OpenStore {
             (full_for self.old.header.shape self.old.header.rooms list (commands.Put user strings) ≡ None)
             (λ full. full_for self.old.header.shape self.old.header.rooms list (commands.Put user strings)
             ≡ Some (seen full)) }
-        ensures never_long { (list : List Command) (c : Chain) (strings : List (List ℕ))
-            → IsPut list c self.old user news.now strings (V.cloud_at shelf.old self.old.header.cloud.0)
-            → NotLong result }
 
         // whatever is known of the cloud
+        ensures never_long { All HasFp news.now → NotLong result }
         ensures full { MatchFull result
             (full_news self.old.header.rooms user (memory_of self.old.memory) news.now ≡ None)
             (λ full. full_news self.old.header.rooms user (memory_of self.old.memory) news.now ≡ Some (seen full)) }

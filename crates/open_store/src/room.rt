@@ -1,12 +1,10 @@
 //! Room in the journal for one record more.
 
-ghost use Rattle.std.specs.Prelude.{◌≡◌, ◌<◌, ◌≤◌, ◌+◌, ℕ, List, length, IsOk, OnOk, OnErr};
+ghost use Rattle.std.specs.Prelude.{◌≡◌, ◌<◌, ◌≤◌, ◌+◌, List, IsOk, OnOk, OnErr};
 ghost use Rattle.cd_edges.specs.Shelf.{IsCall, HasFailed, KeepsCounts};
-ghost use Rattle.record_bodies.specs.Spelling.{Body, FitsBody, body_bytes};
 ghost use Rattle.user_dedup.specs.declared.command.Command.{Command};
 ghost use Rattle.cloud_areas.specs.Standing.{Chain};
-ghost use Rattle.checkpoints.specs.CloudMemory.Rooms.{memory_of};
-ghost use Rattle.checkpoints.specs.Laying.{records_len};
+ghost use Rattle.checkpoints.specs.Laying.{records_len, longest_record};
 ghost use Rattle.checkpoints.specs.Settling.{KeepsList, KeepsOthers};
 ghost use Rattle.checkpoints.specs.Records.{records_of};
 ghost use Rattle.checkpoints.specs.Known.{stage_behind, IfFailed, UnlessFailed, IfLong};
@@ -26,8 +24,8 @@ impl OpenStore {
     /// Whenever a crash comes the cloud stands for the list that the store serves; after Ok the store serves it still, by
     /// the chain that has room, and the record fits. Whatever the records say, each image since has the chain that was
     /// read, or the checkpoint's in its place, and after Ok one of the two is there. `Failed` comes only where the cloud's
-    /// count of faults rose, and then the journal is shut. `Long` comes where the record doesn't fit behind a checkpoint
-    /// either, and never where the store serves a list. Memory and logs are as they were, and no area but the journal is
+    /// count of faults rose, and then the journal is shut. `Long` comes only where the record doesn't fit behind a checkpoint
+    /// either, and never where it is no longer than the longest. Memory and logs are as they were, and no area but the journal is
     /// written. It takes no memory.
     pub fn make_room<V: Shelf>(&mut self, shelf: &mut V, len: u32) -> Result<(), Unsettled>
         requires settled { IsSettled self.old }
@@ -46,11 +44,9 @@ impl OpenStore {
             → Serves list c self.old (V.cloud_at shelf.old self.old.header.cloud.0)
             → OnOk result (Serves list (chain_with_room self.old list c len) self.new
             (V.cloud_at shelf.new self.old.header.cloud.0)) }
-        ensures never_long { (list : List Command) (c : Chain) (body : Body)
-            → Serves list c self.old (V.cloud_at shelf.old self.old.header.cloud.0)
-            → FitsBody body → len ≤ length (body_bytes body) → IfLong result ⊥ }
 
         // whatever is known of the cloud
+        ensures never_long { len + 5 ≤ longest_record → IfLong result ⊥ }
         ensures chain { KeepsOrSums self.old (V.cloud_at shelf.old self.old.header.cloud.0)
             (V.cloud_at shelf.new self.old.header.cloud.0) }
         ensures made { HasRoomMade self.old self.new (V.cloud_at shelf.old self.old.header.cloud.0)
@@ -115,9 +111,7 @@ pub(crate) fn have_room<V: Shelf>(
         → Serves list c store.old (V.cloud_at shelf.old store.old.header.cloud.0)
         → OnOk result (Serves list (chain_with_room store.old list c len) store.new
         (V.cloud_at shelf.new store.old.header.cloud.0)) }
-    ensures never_long { (list : List Command) (c : Chain) (body : Body)
-        → Serves list c store.old (V.cloud_at shelf.old store.old.header.cloud.0)
-        → FitsBody body → len ≤ length (body_bytes body) → IfLong result ⊥ }
+    ensures never_long { len + 5 ≤ longest_record → IfLong result ⊥ }
     ensures chain { KeepsOrSums store.old (V.cloud_at shelf.old store.old.header.cloud.0)
         (V.cloud_at shelf.new store.old.header.cloud.0) }
     ensures made { HasRoomMade store.old store.new (V.cloud_at shelf.old store.old.header.cloud.0)

@@ -3,11 +3,12 @@ use Rattle.std.specs.Prelude.{All}
 use Rattle.record_bodies.specs.Spelling.{Body, FitsBody, body_bytes}
 use Rattle.cd_edges.specs.declared.area.Area.TheVariants.{Journal}
 use Rattle.half_journal.specs.States as journals
-use Rattle.checkpoints.specs.Laying.{records_len, checkpoint_behind, KeepsOrSettles}
+use Rattle.checkpoints.specs.Laying.{records_len, longest_record, checkpoint_behind, KeepsOrSettles}
 use Rattle.checkpoints.specs.Records.{coming, records_of}
 use Rattle.checkpoints.specs.Known.{recipes_of}
 use Rattle.checkpoints.proofs.Summed.{listed_of, short, roomy, is_summed, next_holds, placed_by, summed_as, on_as}
 use Rattle.checkpoints.proofs.InPlace.{ended_still}
+use Rattle.checkpoints.proofs.RoomLaw.{records_short}
 use Rattle.checkpoints.proofs.whole.checkpoint_of_memory.Goals as goal
 
 pub returns-in-None-clause-short : goal.returns-in-None-clause-short
@@ -178,3 +179,40 @@ returns-in-Ok-clause-taken g c told w ended =
     subst (λ (n : ℕ). journals.IsEnded c.checkpoint-laid.new.disk.journal (c1.now Journal) (checkpoint_behind w header c.args.commands n c.args.region (records_of memory))) counted
     (subst (λ (b : List Body). journals.IsEnded c.checkpoint-laid.new.disk.journal (c1.now Journal) (checkpoint_behind w header c.args.commands c.in-Some.count c.args.region b)) c.of-records-2.ensures.records
     (c.in-Ok.ensures.taken told w ended))
+
+-- ---- with rooms, whatever list it is
+
+pub returns-in-None-clause-never_long : goal.returns-in-None-clause-never_long
+returns-in-None-clause-never_long g c has =
+    let memory = c.args.memory.now in let rooms = c.args.header.now.rooms in
+    let listed = listed_of memory c.shares.result.now c.shares-2.result.now c.files.result.now c.shares.ensures c.shares-2.ensures c.files.ensures c.place_at.ensures.each c.owner_at.ensures.each c.entry_at.ensures.each in
+    let fit : All FitsBody (records_of memory) = subst (All FitsBody) c.of-records.ensures.records c.count_within.ensures.fit in
+    let is = records_short rooms memory has c.requires.fit listed fit in
+    let beyond = c.in-None.ensures.count in
+    let same = ap records_len c.of-records.ensures.records in
+    let limit = c.limit-limit.ensures ∙ ap (λ s. s.limit) c.journal.ensures ∙ c.requires.limit in
+    omega (arith, is, beyond, same, limit)
+
+pub returns-in-None-clause-room : goal.returns-in-None-clause-room
+returns-in-None-clause-room g c has =
+    let memory = c.args.memory.now in
+    let listed = listed_of memory c.shares.result.now c.shares-2.result.now c.files.result.now c.shares.ensures c.shares-2.ensures c.files.ensures c.place_at.ensures.each c.owner_at.ensures.each c.entry_at.ensures.each in
+    let fit : All FitsBody (records_of memory) = subst (All FitsBody) c.of-records.ensures.records c.count_within.ensures.fit in
+    let is = records_short c.args.header.now.rooms memory has c.requires.fit listed fit in
+    subst (λ (n : ℕ). 63 + records_len (records_of memory) + longest_record ≤ n) (sym c.requires.limit) is
+
+pub returns-in-Ok-clause-room : goal.returns-in-Ok-clause-room
+returns-in-Ok-clause-room g c has =
+    let memory = c.args.memory.now in
+    let listed = listed_of memory c.shares.result.now c.shares-2.result.now c.files.result.now c.shares.ensures c.shares-2.ensures c.files.ensures c.place_at.ensures.each c.owner_at.ensures.each c.entry_at.ensures.each in
+    let fit : All FitsBody (records_of memory) = subst (All FitsBody) c.of-records.ensures.records c.count_within.ensures.fit in
+    let is = records_short c.args.header.now.rooms memory has c.requires.fit listed fit in
+    subst (λ (n : ℕ). 63 + records_len (records_of memory) + longest_record ≤ n) (sym c.requires.limit) is
+
+pub returns-in-Err-clause-room : goal.returns-in-Err-clause-room
+returns-in-Err-clause-room g c has =
+    let memory = c.args.memory.now in
+    let listed = listed_of memory c.shares.result.now c.shares-2.result.now c.files.result.now c.shares.ensures c.shares-2.ensures c.files.ensures c.place_at.ensures.each c.owner_at.ensures.each c.entry_at.ensures.each in
+    let fit : All FitsBody (records_of memory) = subst (All FitsBody) c.of-records.ensures.records c.count_within.ensures.fit in
+    let is = records_short c.args.header.now.rooms memory has c.requires.fit listed fit in
+    subst (λ (n : ℕ). 63 + records_len (records_of memory) + longest_record ≤ n) (sym c.requires.limit) is

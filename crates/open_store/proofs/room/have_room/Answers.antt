@@ -10,8 +10,8 @@ use Rattle.open_store.specs.declared.store.OpenStore.{OpenStore}
 use Rattle.open_store.proofs.room.have_room.Goals as goal
 
 pub returns-in-Err-Long-clause-never_long : goal.returns-in-Err-Long-clause-never_long
-returns-in-Err-Long-clause-never_long g c list chain body s fits small =
-    subst (λ (why : Unsettled). IfLong {A = Unit {0}} (Err why) ⊥) c.in-Err-Long.field-0-is (c.in-Err-Long.ensures.never_long list chain body s fits small)
+returns-in-Err-Long-clause-never_long g c small =
+    subst (λ (why : Unsettled). IfLong {A = Unit {0}} (Err why) ⊥) c.in-Err-Long.field-0-is (c.in-Err-Long.ensures.never_long small)
 
 pub returns-in-Err-Long-clause-long : goal.returns-in-Err-Long-clause-long
 returns-in-Err-Long-clause-long g c =

@@ -63,11 +63,7 @@ returns-in-Err-Full-clause-does g c = λ list chain serves answered.
 
 pub returns-in-Err-Long-clause-does : goal.returns-in-Err-Long-clause-does
 returns-in-Err-Long-clause-does g c = λ list chain serves answered.
-    let old = c.args.store.now in let user = c.args.user in let tag = c.args.tag in let version = c.args.version in let recipe = spelling c.args.recipe.now in
-    let before = g.V.Shelf.cloud_at c.args.shelf.now old.header.cloud.0 in
-    let fits : FitsRequest (requests.Commit user tag version recipe) = search rules in
-    let is = is_commit old list chain before user tag version c.args.fp c.args.len c.args.recipe.now serves fits answered c.requires.recipe c.requires.fp c.requires.len c.requires.staged in
-    absurd (subst (λ (why : Unadded). NotLong (Err why)) c.in-Err-Long.field-0-is (c.in-Err-Long.ensures.never_long list chain recipe is))
+    absurd (subst (λ (why : Unadded). NotLong (Err why)) c.in-Err-Long.field-0-is c.in-Err-Long.ensures.never_long)
 
 pub returns-in-Err-Long-clause-full : goal.returns-in-Err-Long-clause-full
 returns-in-Err-Long-clause-full g c = λ room used need limit other is. absurd (other (only_journal c.refuse_long.new.reply _ _ _ room used need limit c.refuse_long.ensures is))

@@ -25,11 +25,7 @@ returns-in-Ok-clause-does g c = λ list chain file serves at same.
 
 pub returns-in-Err-Long-clause-does : goal.returns-in-Err-Long-clause-does
 returns-in-Err-Long-clause-does g c = λ list chain file serves at same.
-    let old = c.args.store.now in let user = c.args.user in let tag = c.args.tag in let version = c.args.version in
-    let before = g.V.Shelf.cloud_at c.args.shelf.now old.header.cloud.0 in
-    let fits : FitsRequest (requests.Delete user tag version) = search rules in
-    let is = is_delete old list user tag version chain before file c.args.recipe.now serves fits at same c.requires.ready.none in
-    absurd (subst (λ (why : Unadded). NotLong (Err why)) c.in-Err-Long.field-0-is (c.in-Err-Long.ensures.never_long list chain file is))
+    absurd (subst (λ (why : Unadded). NotLong (Err why)) c.in-Err-Long.field-0-is c.in-Err-Long.ensures.never_long)
 
 pub returns-in-Err-Failed-clause-does : goal.returns-in-Err-Failed-clause-does
 returns-in-Err-Failed-clause-does g c = λ list chain file serves at same.

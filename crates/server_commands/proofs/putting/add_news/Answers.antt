@@ -11,6 +11,7 @@ use Rattle.server_reads.specs.CloudMemory.News.{seen}
 use Rattle.open_store.specs.declared.store.OpenStore.{OpenStore}
 use Rattle.open_store.specs.declared.store.Unadded.{Unadded}
 use Rattle.open_store.specs.Store.{Serves}
+use Rattle.open_store.proofs.Fields.{are_long}
 use Rattle.server_reads.specs.CloudMemory.Rooms.{memory_of, full_news}
 use Rattle.half_journal.specs.declared.journal.Stage.TheVariants.{AtEnd}
 use Rattle.open_store.specs.Adding.{NotLong, MatchFull, WhenLong, Unmoved, stage_after, unstaged}
@@ -57,7 +58,7 @@ returns-in-Err-Full-clause-does g c = λ list chain sent strings put new.
 
 pub returns-in-Err-Long-clause-does : goal.returns-in-Err-Long-clause-does
 returns-in-Err-Long-clause-does g c = λ list chain sent strings put new.
-    absurd (subst (λ (why : Unadded). NotLong (Err why)) c.in-Err-Long.field-0-is (c.in-Err-Long.ensures.never_long list chain strings put))
+    absurd (subst (λ (why : Unadded). NotLong (Err why)) c.in-Err-Long.field-0-is (c.in-Err-Long.ensures.never_long (are_long c.args.news.now strings put.are_of)))
 
 pub returns-in-Err-Long-clause-full : goal.returns-in-Err-Long-clause-full
 returns-in-Err-Long-clause-full g c = λ room used need limit other is. absurd (other (only_journal c.refuse_long.new.reply _ _ _ room used need limit c.refuse_long.ensures is))

@@ -5,7 +5,7 @@ use Rattle.open_store.specs.Adding.{IsTooLong}
 use Rattle.checkpoints.specs.CloudMemory.Steps.{with_commit}
 use Rattle.journal_start.specs.declared.start.Header.{Header}
 use Rattle.record_bodies.specs.Spelling as bodies
-use Rattle.record_bodies.specs.Spelling.{Body, body_bytes}
+use Rattle.record_bodies.specs.Spelling.{body_bytes}
 use Rattle.user_dedup.specs.declared.command.Command.TheVariants as asked
 use Rattle.cloud_areas.specs.Adding.{with_record}
 use Rattle.cloud_areas.specs.Standing.{Chain}
@@ -24,7 +24,7 @@ use Rattle.record_body.proofs.Spelled.{length-commit}
 use Rattle.user_dedup.specs.Owning.{fps_in}
 use Rattle.checkpoints.proofs.MemoryProofs.FullRooms.{full_commit_is}
 use Rattle.open_store.specs.Adding.{commit_body}
-use Rattle.open_store.proofs.Fields.{sample, sample_fits, sample_long, commit_fits}
+use Rattle.open_store.proofs.Fields.{commit_fits}
 use Rattle.open_store.proofs.Moving.{commit_moved}
 use Rattle.open_store.proofs.Preparing.{ends_near}
 use Rattle.open_store.proofs.Stepping.{staged_small}
@@ -92,12 +92,8 @@ returns-in-Err-clause-full_list g c list chain bytes p =
     sym is ∙ sym c.in-None.ensures
 
 pub returns-in-Err-Long-clause-never_long : goal.returns-in-Err-Long-clause-never_long
-returns-in-Err-Long-clause-never_long g c list chain bytes p =
-    let store = c.args.self.now in let header = store.header in let number = header.cloud.0 in
-    let user = c.args.user in let tag = c.args.tag in let version = c.args.version in let fp = c.args.fp in let len = c.args.len in let command = asked.Commit user tag version bytes in
-    let c0 = g.V.Shelf.cloud_at c.args.shelf.now number in
-    let s = p.serves in let k = s.known in
-    subst (λ (why : Unsettled). IfLong {A = Unit {0}} (Err why) ⊥) c.in-Err-Long.field-0-is (c.in-Err-Long.ensures.never_long list chain sample s sample_fits (let long = sample_long in omega (arith, long)))
+returns-in-Err-Long-clause-never_long g c =
+    subst (λ (why : Unsettled). IfLong {A = Unit {0}} (Err why) ⊥) c.in-Err-Long.field-0-is (c.in-Err-Long.ensures.never_long (omega arith))
 
 pub returns-in-Err-Failed-clause-any_moment : goal.returns-in-Err-Failed-clause-any_moment
 returns-in-Err-Failed-clause-any_moment g c list chain bytes p =

@@ -1,4 +1,4 @@
-use Rattle.std.proofs.Common.{◌≡◌, ℕ, [], ◌∷◌, ◌++◌, Err, sym, ap, subst, arith, ◌+◌, ◌∙◌, IsTrue, refl}
+use Rattle.std.proofs.Common.{◌≡◌, ℕ, [], ◌∷◌, ◌++◌, Err, sym, ap, subst, arith, ◌+◌, ◌∙◌, IsTrue}
 use Rattle.std.specs.Prelude.{◌-◌, ◌^◌, min}
 use Rattle.open_store.specs.Adding.{IsTooLong}
 use Rattle.checkpoints.specs.CloudMemory.Steps.{without_entry}
@@ -7,7 +7,7 @@ use Rattle.file_index.specs.Files.{key_of}
 use Rattle.user_dedup.specs.Requests.{fps_of}
 use Rattle.journal_start.specs.declared.start.Header.{Header}
 use Rattle.record_bodies.specs.Spelling as bodies
-use Rattle.record_bodies.specs.Spelling.{Body, body_bytes}
+use Rattle.record_bodies.specs.Spelling.{body_bytes}
 use Rattle.user_dedup.specs.declared.command.Command.TheVariants as asked
 use Rattle.cloud_areas.specs.Adding.{with_record}
 use Rattle.cloud_areas.specs.Standing.{Chain}
@@ -19,7 +19,7 @@ use Rattle.open_store.specs.Store.{Serves, Fits, chain_with_room}
 use Rattle.open_store.proofs.Rooming.{chain_next}
 use Rattle.open_store.proofs.Next.{images_both, images_kept}
 use Rattle.record_bodies.proofs.Spelled.{length-delete}
-use Rattle.open_store.proofs.Fields.{sample, sample_fits, sample_long, delete_fits}
+use Rattle.open_store.proofs.Fields.{delete_fits}
 use Rattle.open_store.proofs.Moving.{delete_moved}
 use Rattle.cd_edges.specs.Disk.{moment}
 use Rattle.cd_edges.proofs.Moments.{told_on}
@@ -30,12 +30,8 @@ use Rattle.open_store.proofs.Growing.{grows_both, grows_sums}
 use Rattle.open_store.proofs.store.OpenStore.add_delete.Goals as goal
 
 pub returns-in-Err-Long-clause-never_long : goal.returns-in-Err-Long-clause-never_long
-returns-in-Err-Long-clause-never_long g c list chain entry p =
-    let store = c.args.self.now in let header = store.header in let number = header.cloud.0 in
-    let user = c.args.user in let tag = c.args.tag in let version = c.args.version in let command = asked.Delete user tag version in
-    let c0 = g.V.Shelf.cloud_at c.args.shelf.now number in
-    let s = p.serves in let k = s.known in
-    subst (λ (why : Unsettled). IfLong {A = Unit {0}} (Err why) ⊥) c.in-Err-Long.field-0-is (c.in-Err-Long.ensures.never_long list chain sample s sample_fits (let long = sample_long in omega (arith, long)))
+returns-in-Err-Long-clause-never_long g c =
+    subst (λ (why : Unsettled). IfLong {A = Unit {0}} (Err why) ⊥) c.in-Err-Long.field-0-is (c.in-Err-Long.ensures.never_long (omega arith))
 
 pub returns-in-Ok-add_roomy-clause-any_moment : goal.returns-in-Ok-add_roomy-clause-any_moment
 returns-in-Ok-add_roomy-clause-any_moment g c list chain entry p =

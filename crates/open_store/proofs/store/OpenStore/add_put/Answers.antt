@@ -18,10 +18,9 @@ use Rattle.open_store.proofs.Rooming.{chain_next}
 use Rattle.open_store.proofs.Next.{images_both, images_kept}
 use Rattle.checkpoints.proofs.MemoryProofs.FullRooms.{full_put_is}
 use Rattle.open_store.specs.Adding.{put_record}
-use Rattle.open_store.proofs.Fields.{user_fits, are_long}
 use Rattle.open_store.proofs.Moving.{put_moved}
-use Rattle.open_store.proofs.Preparing.{ends_near}
-use Rattle.open_store.proofs.Putting.{put_fits}
+use Rattle.store_opening.proofs.Spends.{ends_far}
+use Rattle.open_store.proofs.Putting.{put_short}
 use Rattle.cd_edges.specs.Disk.{moment}
 use Rattle.cd_edges.specs.Shelf.{IsCall}
 use Rattle.cd_edges.proofs.Calls.{called_twice}
@@ -89,15 +88,13 @@ returns-in-Err-clause-full_list g c list chain strings p =
     sym is ∙ sym c.in-None.ensures
 
 pub returns-in-Err-Long-clause-never_long : goal.returns-in-Err-Long-clause-never_long
-returns-in-Err-Long-clause-never_long g c list chain strings p =
-    let store = c.args.self.now in let header = store.header in let number = header.cloud.0 in
-    let user = c.args.user in let news = c.args.news.now in let command = asked.Put user strings in
-    let c0 = g.V.Shelf.cloud_at c.args.shelf.now number in
-    let s = p.serves in let k = s.known in
-    let near = ends_near header list chain store.commands store.region store.memory store.disk c0 s c.requires.settled.header.rooms c.requires.settled.region in
-    let fits = put_fits user (memory_of store.memory) news (user_fits header.shape number list command p.sound) c.requires.some c.requires.few (are_long news strings p.are_of) c.requires.lens near.0 in
+returns-in-Err-Long-clause-never_long g c fps =
+    let store = c.args.self.now in let user = c.args.user in let news = c.args.news.now in let settled = c.requires.settled in
+    let far = ends_far store.header.rooms store.region (memory_of store.memory) settled.header.rooms settled.rooms.users settled.region (settled.roomy c.requires.open) in
+    let end = far.0 in
+    let short = put_short user (memory_of store.memory) news c.requires.few fps c.requires.lens (omega (arith, end)) in
     let len = c.put_len-len.ensures.len user c.requires.new in
-    subst (λ (why : Unsettled). IfLong {A = Unit {0}} (Err why) ⊥) c.in-Err-Long.field-0-is (c.in-Err-Long.ensures.never_long list chain (put_record store user news) s fits (omega (arith, len)))
+    subst (λ (why : Unsettled). IfLong {A = Unit {0}} (Err why) ⊥) c.in-Err-Long.field-0-is (c.in-Err-Long.ensures.never_long (omega (arith, short, len)))
 
 pub returns-in-Err-Failed-clause-any_moment : goal.returns-in-Err-Failed-clause-any_moment
 returns-in-Err-Failed-clause-any_moment g c list chain strings p =

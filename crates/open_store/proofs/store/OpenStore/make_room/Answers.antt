@@ -39,8 +39,8 @@ returns-then-fits-2-clause-serves g c list chain s =
     (c.in_ok-checkpoint_of_memory.ensures.settled list chain s.known) (c.in_ok-checkpoint_of_memory.ensures.others s.known.on.read.told) c.checkpoint_of_memory.ensures.logs.0 c.checkpoint_of_memory.ensures.logs.1)
 
 pub returns-else-fits-2-clause-never_long : goal.returns-else-fits-2-clause-never_long
-returns-else-fits-2-clause-never_long g c list chain body s fits small =
-    let room = c.checkpoint_of_memory.ensures.roomy list chain body s.known fits in
+returns-else-fits-2-clause-never_long g c small =
+    let room = c.checkpoint_of_memory.ensures.room c.requires.settled.rooms in
     let gate = c.in_ok-checkpoint_of_memory.ensures.gate in
     both_ways c.fits-2.result (c.fits-2.ensures.1 (omega (arith, room, gate, small, c.checkpoint_of_memory.ensures.limit))) c.if-fits-2.false
 
