@@ -1,8 +1,11 @@
 //! Each blob that a cloud's memory names, read from the device and hashed.
 #![tactic(auto)]
 
+mod comparing;
 mod errors;
+mod held;
 mod judging;
+mod order;
 mod pieces;
 mod reading;
 mod slots;

@@ -19,8 +19,8 @@ pub(crate) struct Found {
     pub(crate) fp: Fp,
 }
 
-// Puts what the area has from a place on in front of a piece, as much as fits.
-fn read_piece<V: Shelf>(
+/// Puts what the area has from a place on in front of a piece, as much as fits.
+pub(crate) fn read_piece<V: Shelf>(
     shelf: &mut V,
     cloud: CloudNo,
     area: Area,
@@ -37,25 +37,6 @@ fn read_piece<V: Shelf>(
         Ok(count) => Ok(count),
         Err(Failed) => Err(ReadErr::Fault),
     }
-}
-
-/// Puts the blob at a place, or as much of it as there is, in front of a window that it fits.
-pub(crate) fn read_whole<V: Shelf>(
-    shelf: &mut V,
-    cloud: CloudNo,
-    area: Area,
-    place: Place,
-    window: &mut [u8],
-) -> Result<usize, ReadErr>
-    requires fits { place.len ≤ length window.old }
-    ensures read { IsRead (λ image r. IfOk r (λ count.
-        IsFront (stored_at (image area) place.at place.len) count window.new))
-        (V.cloud_at shelf.old) (V.cloud_at shelf.new) cloud.0 (V.faults shelf.old) (V.faults shelf.new) result }
-    ensures fault { IfErr result IsFault }
-    ensures bound { IfOk result (λ count. count ≤ place.len) }
-{
-    let (piece, _) = window.split_at_mut(place.len as usize);
-    read_piece(shelf, cloud, area, place.at, piece)
 }
 
 // Hashes what the area has from a place on, as much as fits a piece, and answers how many bytes that is.

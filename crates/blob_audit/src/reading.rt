@@ -4,15 +4,15 @@ ghost use Rattle.std.specs.Prelude.{◌≡◌, false, length, Err, IsTrue, IfOk}
 ghost use Rattle.cd_edges.specs.Disk.{reads};
 ghost use Rattle.cd_edges.specs.Shelf.{IsCall, HasFailed, KeepsCounts, Stays};
 ghost use Rattle.audit_base.specs.Whole.{tables_of};
-ghost use Rattle.pool_map.specs.Slots.{IsListed};
-ghost use Rattle.cloud_memory.specs.Live.{IsEachLive};
 ghost use Rattle.blob_audit.specs.declared.errors.ReadErr.TheVariants as answers;
+ghost use Rattle.blob_audit.specs.Holding.{HasAll};
 ghost use Rattle.blob_audit.specs.Reading.{StoredIs, GoodIs, OnReadFault};
 ghost use Rattle.blob_audit.specs.Steps.{lacks_memory, IsRead, BothRead};
 
 use crate::ReadErr;
+use crate::order::both_in_order;
 use crate::pieces::WINDOW;
-use crate::slots::{file_slots, read_files, read_shares, share_slots};
+use crate::slots::{read_files, read_shares};
 use cd_base::{CloudNo, NoMemory, Shape};
 use cd_edges::Shelf;
 use cloud_memory::CloudMemory;
@@ -24,17 +24,17 @@ fn read_both<V: Shelf>(
     cloud: CloudNo,
     shape: Option<Shape>,
     memory: &CloudMemory,
+    shares: &[(u64, u32)],
+    files: &[(u64, u32)],
     window: &mut [u8],
 ) -> Result<(), ReadErr>
-    requires { length window.old ≡ 4194304 }
+    requires shares { HasAll (length memory.now.shares.place_slots) shares.now }
+    requires files { HasAll (length memory.now.files.slots) files.now }
+    requires window { length window.old ≡ 4194304 }
     ensures read { IsRead (BothRead shape memory.now)
         (V.cloud_at shelf.old) (V.cloud_at shelf.new) cloud.0 (V.faults shelf.old) (V.faults shelf.new) result }
     ensures memory { lacks_memory result ≡ false }
-    ensures shares { IsEachLive memory.now.shares }
-    ensures files { IsListed memory.now.files.files memory.now.files.slots }
 {
-    let shares = share_slots(memory);
-    let files = file_slots(memory);
     match read_shares(shelf, cloud, memory, shares, window) {
         Ok(()) => read_files(shelf, cloud, memory, shape, files, window),
         Err(error) => Err(error),
@@ -68,7 +68,20 @@ pub fn read_stored<V: Shelf>(
     ensures unread { result ≡ Err answers.NoMemory → shelf.new ≡ shelf.old }
 {
     match window(alloc) {
-        Ok(mut window) => read_both(shelf, cloud, None, memory, window.as_mut_slice()),
+        Ok(mut window) => match both_in_order(alloc, memory) {
+            Ok(orders) => {
+                read_both(
+                    shelf,
+                    cloud,
+                    None,
+                    memory,
+                    &orders.shares,
+                    &orders.files,
+                    window.as_mut_slice(),
+                )
+            }
+            Err(NoMemory) => Err(ReadErr::NoMemory),
+        },
         Err(NoMemory) => Err(ReadErr::NoMemory),
     }
 }
@@ -95,7 +108,20 @@ pub fn read_good<V: Shelf>(
     ensures unread { result ≡ Err answers.NoMemory → shelf.new ≡ shelf.old }
 {
     match window(alloc) {
-        Ok(mut window) => read_both(shelf, cloud, Some(shape), memory, window.as_mut_slice()),
+        Ok(mut window) => match both_in_order(alloc, memory) {
+            Ok(orders) => {
+                read_both(
+                    shelf,
+                    cloud,
+                    Some(shape),
+                    memory,
+                    &orders.shares,
+                    &orders.files,
+                    window.as_mut_slice(),
+                )
+            }
+            Err(NoMemory) => Err(ReadErr::NoMemory),
+        },
         Err(NoMemory) => Err(ReadErr::NoMemory),
     }
 }
