@@ -1,0 +1,4 @@
+pub mod Fits
+pub mod Judged
+pub mod OneAnswer
+pub mod Rooms
