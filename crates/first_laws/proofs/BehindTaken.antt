@@ -1,0 +1,281 @@
+-- A record behind the checkpoint of a chain of format 1 is taken.
+use Rattle.std.proofs.Common.{◌≡◌, inr, ℕ, ◌≤◌, max, Bool, true, false, List, [], ◌∷◌, ◌++◌, length, map, Option, Some, None, refl, sym, ap, ◌∙◌, subst, arith}
+use Rattle.std.specs.Prelude.{◌&&◌, ◌==◌, ◌↔◌, cond, bytes_eq, is_some, IsSome, IfSome, slice_get, All}
+use Rattle.std.specs.List.{Contains}
+use Rattle.std.specs.FinMap.{get}
+use Rattle.std.proofs.lemmas.Bool.{false_from_ne_true}
+use Rattle.std.proofs.lemmas.List.{map-append}
+use Rattle.std.proofs.lemmas.List.Elements.{All-head, Contains-append_right}
+use Rattle.cd_base.specs.declared.ids.Fp.{Fp}
+use Rattle.cd_base.specs.declared.ids.Tag.{Tag}
+use Rattle.cd_base.specs.declared.ids.UserId.{UserId}
+use Rattle.cd_base.specs.declared.ids.Version.{Version}
+use Rattle.cd_base.specs.declared.place.Place.{Place}
+use Rattle.cd_base.specs.declared.shape.Shape.{Shape}
+use Rattle.container_log.specs.Laying.{Placed, IsAt}
+use Rattle.file_index.specs.Files.{key_of}
+use Rattle.journal_start.specs.declared.rooms.Rooms.{Rooms}
+use Rattle.record_body.specs.declared.body.CommitBody.{CommitBody}
+use Rattle.record_body.specs.declared.body.PutItem.{PutItem}
+use Rattle.record_bodies.specs.declared.body.DeleteBody.{DeleteBody}
+use Rattle.record_bodies.specs.Spelling as bodies
+use Rattle.record_bodies.specs.Spelling.{Body}
+use Rattle.share_index.specs.Order.{owner_of}
+use Rattle.user_dedup.specs.declared.command.Command.{Command}
+use Rattle.user_dedup.specs.declared.command.Command.TheVariants as commands
+use Rattle.user_dedup.specs.declared.file_list.FileEntry.{FileEntry}
+use Rattle.user_dedup.specs.declared.view.View.{View}
+use Rattle.user_dedup.specs.Cloud.{fingerprint, user_view, strings_in}
+use Rattle.user_dedup.specs.Dedup.{IsSound}
+use Rattle.user_dedup.specs.Owning.{is_among}
+use Rattle.user_dedup.specs.Requests.{fps_of as names_of}
+use Rattle.user_dedup.proofs.New.{are_new}
+use Rattle.user_dedup.proofs.Owned.{fp_same, contains_here, contains_later}
+use Rattle.user_dedup.proofs.Sound.{found_entry}
+use Rattle.user_dedup.proofs.Views.{own_adds}
+use Rattle.cloud_areas.specs.Chains.{commit_of, PlacedNew, AreItems, IsRecord, LiesIn}
+use Rattle.cloud_areas.specs.FormatOne.{IsWithinGreatest}
+use Rattle.cloud_areas.specs.Placing.{places_given, places_of, end_of, region_start, AreBehind, shares_end, recipes_end}
+use Rattle.cloud_areas.proofs.Apart.{Apart, apart_from}
+use Rattle.cloud_areas.proofs.Lists.{from_map}
+use Rattle.cloud_memory.specs.Memory.{Memory}
+use Rattle.cloud_memory.specs.Sharing.{AreOwned}
+use Rattle.cloud_memory.specs.Steps.{with_item, with_items, with_entry, places_with, end_with}
+use Rattle.cloud_memory.proofs.Keys.{owner_in}
+use Rattle.cloud_memory.proofs.Lists.{are_placed, string_len}
+use Rattle.cloud_memory.proofs.Puts.{ArePlaced, len_at}
+use Rattle.record_checks.specs.declared.ground.Ground.{Ground}
+use Rattle.record_checks.specs.Checks.{ByCommit, ByDelete, Lies, ShareLies, IsFlagged, AreRight, RecipeLies, IsNamed, IsWhole}
+use Rattle.record_laws.specs.Leaving.{bytes_at, entry_bytes}
+use Rattle.record_laws.proofs.Asked.{lawful}
+use Rattle.record_laws.proofs.Behind.{own_known, file_known}
+use Rattle.record_laws.proofs.Next.{was_found, free_place, one_placed, not_own, owns_all, lacks_version, entry_known}
+use Rattle.record_laws.proofs.Sized.{IsSized, entry_sized, inside_area, HasRoomIn, HaveRoomFor}
+use Rattle.first_records.specs.Judging.{PutLeaves, CommitLeaves, DeleteLeaves}
+use Rattle.first_laws.specs.Leaving.{first_left, filled, IsLeftOne}
+use Rattle.first_laws.proofs.Crowding.{put_fits, commit_fits}
+use Rattle.first_laws.proofs.Most.{most_places, most_owners, most_files}
+use Rattle.first_laws.proofs.Passing.{IsTaken, put_own, commit_own, delete_own}
+
+-- ---- the shares of a Put
+
+-- the user owns none of these
+abbrev AreFree : UserId → Memory → List Fp → Type 0
+AreFree user m fps = (fp : Fp) → Contains fps fp → get m.owners (owner_of user.0 fp.0) ≡ None
+
+free_rest : (user : UserId) (m : Memory) (item : PutItem) (fps : List Fp) → (Contains fps item.fp → ⊥) → AreFree user m fps → AreFree user (with_item user m item) fps
+free_rest user m item fps other free fp c =
+    owner_in m.owners user.0 item.fp.0 0 user.0 fp.0
+    ∙ ap (λ (b : Bool). cond b (Some 0) (get m.owners (owner_of user.0 fp.0))) (off (user.0 == user.0) (bytes_eq item.fp.0 fp.0) apart)
+    ∙ free fp c
+  where
+    apart : bytes_eq item.fp.0 fp.0 ≡ false
+    apart = false_from_ne_true (bytes_eq item.fp.0 fp.0) (λ t. other (subst (Contains fps) (sym ((fp_same item.fp fp).0 t)) c))
+
+    off : (a b : Bool) → b ≡ false → (a && b) ≡ false
+    off true b e = e
+    off false b e = refl
+
+module _ (g : Ground) (user : UserId) where
+  abbrev HasRoomEach : List Place → Type 0
+  HasRoomEach places = (p : Place) → Contains places p → HasRoomIn g.region g.shares_len p
+
+  share_lies : (end : ℕ) (p : Place) → end ≤ p.at → HasRoomIn g.region g.shares_len p → Lies false (region_start g.region) end g.shares_len p
+  share_lies end p le room = record { behind = inr le; region = room.starts; in_one = room.in_one; within = room.within }
+
+  -- a share is placed exactly where it has no place
+  flagged : (before : List (List ℕ)) (s : List ℕ) (m : Memory) (o : Option Place) → ArePlaced before m.places
+      → PlacedNew (is_among (map fingerprint before) (fingerprint s)) s o → IsSome o ↔ (get m.places (fingerprint s).0 ≡ None)
+  flagged before s m o placed new = by_flag (is_among (map fingerprint before) (fingerprint s)) refl o new
+    where
+      by_flag : (b : Bool) → is_among (map fingerprint before) (fingerprint s) ≡ b → (o : Option Place) → PlacedNew b s o → IsSome o ↔ (get m.places (fingerprint s).0 ≡ None)
+      by_flag true on None new = (
+        λ some. absurd (let no : false ≡ true = some in cc),
+        λ none.
+            let w = was_found before (fingerprint s) on in
+            absurd (let no : None ≡ Some (length w.0) = sym (ap len_at none) ∙ placed (fingerprint s) ∙ ap string_len w.1 in cc),
+      )
+      by_flag true on (Some p) new = absurd new
+      by_flag false off None new = absurd new
+      by_flag false off (Some p) new = (λ some. free_place before m.places (fingerprint s) placed off, λ none. refl)
+
+  right_items : (before strings : List (List ℕ)) (items : List PutItem) (m : Memory) → AreItems (map fingerprint before) strings items → ArePlaced before m.places
+      → AreFree user m (map fingerprint strings) → Apart (map fingerprint strings) → AreBehind m.shares_end (places_of (places_given items))
+      → HasRoomEach (places_of (places_given items)) → AreRight g false user m items
+  right_items before [] [] m are placed free apart behind room = tt
+  right_items before [] (item ∷ items) m are placed free apart behind room = absurd are
+  right_items before (s ∷ ss) [] m are placed free apart behind room = absurd are
+  right_items before (s ∷ ss) (item ∷ items) m are placed free apart behind room =
+      by_place item.place refl (λ behind_rest room_rest.
+      right_items (before ++ s ∷ []) ss items (with_item user m item)
+      (subst (λ (l : List Fp). AreItems l ss items) (sym (map-append fingerprint before (s ∷ []))) are.2)
+      (subst (λ (x : Fp). ArePlaced (before ++ s ∷ []) (places_with m.places x item.place)) (sym are.0) (one_placed before s m.places item.place placed are.1))
+      (free_rest user m item (map fingerprint ss) other (λ fp c. free fp (contains_later (fingerprint s) (map fingerprint ss) fp c)))
+      apart.1 behind_rest room_rest)
+    where
+      not_own : IsSome (get m.owners (owner_of user.0 item.fp.0)) → ⊥
+      not_own some =
+          let none : get m.owners (owner_of user.0 item.fp.0) ≡ None =
+          ap (λ (f : Fp). get m.owners (owner_of user.0 f.0)) are.0 ∙ free (fingerprint s) (contains_here (fingerprint s) (map fingerprint ss)) in
+          let no : false ≡ true = sym (ap is_some none) ∙ some in cc
+
+      is_flagged : IsFlagged m item
+      is_flagged =
+          subst (λ (f : Fp). IsSome item.place ↔ (get m.places f.0 ≡ None)) (sym are.0) (flagged before s m item.place placed are.1)
+
+      other : Contains (map fingerprint ss) item.fp → ⊥
+      other c = apart.0 (subst (Contains (map fingerprint ss)) are.0 c)
+
+      by_place : (o : Option Place) → item.place ≡ o
+          → (AreBehind (with_item user m item).shares_end (places_of (places_given items)) → HasRoomEach (places_of (places_given items)) → AreRight g false user (with_item user m item) items)
+          → AreRight g false user m (item ∷ items)
+      by_place None is go_on =
+          let behind_rest : AreBehind m.shares_end (places_of (places_given items)) =
+          subst (λ (x : Option Place). AreBehind m.shares_end (places_of (places_given (record { fp = item.fp; place = x } ∷ items)))) is behind in
+          let room_rest : HasRoomEach (places_of (places_given items)) =
+          subst (λ (x : Option Place). HasRoomEach (places_of (places_given (record { fp = item.fp; place = x } ∷ items)))) is room in (
+            record { new = not_own; flagged = is_flagged; lies = subst (λ (x : Option Place). IfSome x (ShareLies g false m)) (sym is) tt },
+            go_on (subst (λ (x : Option Place). AreBehind (end_with m.shares_end x) (places_of (places_given items))) (sym is) behind_rest) room_rest,
+          )
+      by_place (Some p) is go_on =
+          let behind_here : (m.shares_end ≤ p.at) × AreBehind (end_of p) (places_of (places_given items)) =
+          subst (λ (x : Option Place). AreBehind m.shares_end (places_of (places_given (record { fp = item.fp; place = x } ∷ items)))) is behind in
+          let room_all : HasRoomEach (p ∷ places_of (places_given items)) =
+          subst (λ (x : Option Place). HasRoomEach (places_of (places_given (record { fp = item.fp; place = x } ∷ items)))) is room in
+          let ends : end_of p ≡ max m.shares_end (end_of p) = (let le = behind_here.0 in omega (arith, le)) in (
+            record {
+              new = not_own;
+              flagged = is_flagged;
+              lies =
+                  subst (λ (x : Option Place). IfSome x (ShareLies g false m)) (sym is)
+                  (share_lies m.shares_end p behind_here.0 (room_all p (contains_here p (places_of (places_given items)))));
+            },
+            go_on
+                (subst (λ (x : Option Place). AreBehind (end_with m.shares_end x) (places_of (places_given items))) (sym is)
+                (subst (λ (n : ℕ). AreBehind n (places_of (places_given items))) ends behind_here.1))
+                (λ q c. room_all q (contains_later p (places_of (places_given items)) q c)),
+          )
+
+-- ---- a record
+
+module _ (shape : Shape) (cloud end : ℕ) (rooms : Rooms) (shares_len : ℕ) (area : List ℕ) (whole list rest : List Command) (within : IsWithinGreatest shape whole) (before : List Body) (m : Memory)
+    (one : IsLeftOne shape area end list before m) where
+  abbrev g : Ground
+  g = record { shape = shape; rooms = rooms; region = 0; shares_len = shares_len; recipes_len = length area }
+
+  abbrev with_one : Command → List Command
+  with_one command = list ++ command ∷ []
+
+  -- the memory as a later format has it
+  abbrev later : Memory
+  later = filled one.table before m
+
+  abbrev users : ℕ
+  users = length one.table
+
+  abbrev IsTakenHere : Body → Type 0
+  IsTakenHere body = IsTaken g false area m body
+
+  abbrev HaveRoom : Body → Type 0
+  HaveRoom body = HaveRoomFor 0 shares_len body
+
+  -- what the record leaves
+  abbrev LeftNext : Command → Body → Type 0
+  LeftNext command body = IsLeftOne shape area end (with_one command) (before ++ body ∷ []) (first_left shape area m body)
+
+  put_taken : (user : UserId) (strings : List (List ℕ)) (items : List PutItem) → whole ≡ with_one (commands.Put user strings) ++ rest → IsSound shape cloud (with_one (commands.Put user strings))
+      → AreItems (map fingerprint (strings_in list)) strings items → AreBehind (shares_end 0 before) (places_of (places_given items)) → HaveRoom (bodies.Put user items)
+      → LeftNext (commands.Put user strings) (bodies.Put user items) → IsTakenHere (bodies.Put user items)
+  put_taken user strings items front sound each behind room new =
+      let l = lawful shape cloud list (commands.Put user strings) sound in
+      let apart : Apart (map fingerprint strings) =
+      apart_from (map fingerprint strings) (λ i j fp at_i at_j.
+      let of = are_new (user_view shape list user).own l.1.0 in
+      of.apart i j fp (ap (λ (s : List (List ℕ)). slice_get (map fingerprint s) i) (sym l.1.1) ∙ at_i) (ap (λ (s : List (List ℕ)). slice_get (map fingerprint s) j) (sym l.1.1) ∙ at_j)) in
+      let free : AreFree user m (map fingerprint strings) = λ fp c.
+      let s = from_map fingerprint strings fp c in
+      let of = are_new (user_view shape list user).own l.1.0 in
+      ap (λ (f : Fp). get m.owners (owner_of user.0 f.0)) (sym s.2)
+      ∙ not_own shape area users 0 list before later one.left user (fingerprint s.0) (of.among s.0 (subst (λ (x : List (List ℕ)). Contains x s.0) l.1.1 s.1)).1 in
+      let right = right_items g user (strings_in list) strings items m each (are_placed (strings_in list) m.places one.left.remembers.placed one.left.remembers.lens) free apart
+      (subst (λ (n : ℕ). AreBehind n (places_of (places_given items))) (sym one.left.shares) behind) room.shares in
+      let grown = with_one (commands.Put user strings) in
+      let remembers = new.left.remembers in
+      let next = filled new.table (before ++ bodies.Put user items ∷ []) (with_items user m items) in
+      record {
+        own = put_own user items false;
+        few =
+            put_fits g false user items m right
+            (most_places shape whole within grown rest front (with_items user m items).places (λ fp some. (remembers.placed fp).0 some))
+            (most_owners shape whole within grown rest front (with_items user m items).owners (λ q fp some. own_known shape rooms grown next remembers q fp some));
+        leaves = PutLeaves user items right;
+        reads = λ none. refl;
+      }
+
+  commit_taken : (user : UserId) (tag : Tag) (version : Version) (recipe : List ℕ) (at : ℕ) → whole ≡ with_one (commands.Commit user tag version recipe) ++ rest
+      → IsSound shape cloud (with_one (commands.Commit user tag version recipe)) → recipes_end 0 before ≤ at → end ≤ at → IsAt area (record { place = at; blob = recipe })
+      → HaveRoom (bodies.Commit (commit_of user tag version recipe at)) → LeftNext (commands.Commit user tag version recipe) (bodies.Commit (commit_of user tag version recipe at))
+      → IsTakenHere (bodies.Commit (commit_of user tag version recipe at))
+  commit_taken user tag version recipe at front sound behind start lies room new =
+      let command = commands.Commit user tag version recipe in
+      let l = lawful shape cloud list command sound in
+      let c = commit_of user tag version recipe at in
+      let fresh : FileEntry = record { tag = tag; version = version; recipe = recipe } in
+      let view = own_adds shape list command user refl in
+      let here : Contains (user_view shape (with_one command) user).files fresh =
+      subst (λ (v : View). Contains v.files fresh) (sym view) (Contains-append_right (user_view shape list user).files (fresh ∷ []) fresh (contains_here fresh [])) in
+      let size : IsSized shape recipe = entry_sized shape cloud (with_one command) user fresh sound here in
+      let p : Place = record { at = at; len = length recipe } in
+      let where_is : LiesIn 0 p = room.recipes p (contains_here p []) in
+      let ends = one.recipes in
+      let recipe_lies : RecipeLies g false m c =
+      (size.few, record { behind = inr (omega (arith, ends, behind, start)); region = where_is.0; in_one = where_is.1; within = inside_area area (record { place = at; blob = recipe }) lies size.some }) in
+      let read : bytes_at area at (length recipe) ≡ recipe = lies in
+      let owned = owns_all shape area users 0 list before later one.left user (names_of shape recipe) l.1.0 in
+      let is_whole : IsWhole g m c (bytes_at area at (length recipe)) =
+      subst (λ (bytes : List ℕ). IsNamed shape (fingerprint recipe) bytes × AreOwned m.owners user (names_of shape bytes)) (sym read)
+      (record { hashes = refl; recipe = size.read; is_recipe = size.is_recipe }, owned) in
+      let lacks = lacks_version shape area users 0 list before later one.left user tag version l.1.1 in
+      let names = names_of shape (bytes_at area at (length recipe)) in
+      let next = filled new.table (before ++ bodies.Commit c ∷ []) (with_entry names c m) in
+      record {
+        own = commit_own c false;
+        few =
+            commit_fits names c m lacks
+            (most_files shape whole within (with_one command) rest front (with_entry names c m).files (λ q t v some. file_known shape rooms (with_one command) next new.left.remembers q t v some));
+        leaves = CommitLeaves c recipe_lies lacks is_whole;
+        reads = λ none. absurd (none p (ByCommit c recipe_lies lacks));
+      }
+
+  delete_taken : (user : UserId) (tag : Tag) (version : Version) → IsSound shape cloud (with_one (commands.Delete user tag version))
+      → IsTakenHere (bodies.Delete (record { user = user; tag = tag; version = version }))
+  delete_taken user tag version sound =
+      let l = lawful shape cloud list (commands.Delete user tag version) sound in
+      let k = entry_known shape area users 0 list before later one.left user tag version l.1.0 l.1.1 in
+      let d : DeleteBody = record { user = user; tag = tag; version = version } in
+      let f = found_entry (user_view shape list user).files (tag, version) l.1.0 l.1.1 in
+      let size = entry_sized shape cloud list user l.1.0 l.0 f.1 in
+      let read : entry_bytes area (get m.files (key_of user.0 tag.0 version.0)) ≡ l.1.0.recipe = ap (entry_bytes area) k.got ∙ k.read in
+      let named : IsNamed shape k.e.fp (entry_bytes area (get m.files (key_of user.0 tag.0 version.0))) =
+      subst (IsNamed shape k.e.fp) (sym read) (record { hashes = sym k.fp; recipe = size.read; is_recipe = size.is_recipe }) in
+      let few : k.e.len ≤ 1180190 = (let long = k.len in let most = size.few in omega (arith, long, most)) in
+      record {
+        own = delete_own d false;
+        few = refl;
+        leaves = DeleteLeaves d k.e k.got named;
+        reads = λ none. absurd (none (record { at = k.e.at; len = k.e.len }) (ByDelete d k.e k.got few));
+      }
+
+  pub behind_taken : (command : Command) (body : Body) (laid : List Placed) → IsRecord 0 before list command body laid → whole ≡ with_one command ++ rest → IsSound shape cloud (with_one command)
+      → All (IsAt area) laid → ((c : CommitBody) → body ≡ bodies.Commit c → end ≤ c.at) → HaveRoom body → LeftNext command body → IsTakenHere body
+  behind_taken (commands.Put user strings) body laid is front sound lie start room new =
+      subst IsTakenHere (sym is.0.body_is)
+      (put_taken user strings is.0.items front sound is.0.each is.0.behind (subst HaveRoom is.0.body_is room) (subst (LeftNext (commands.Put user strings)) is.0.body_is new))
+  behind_taken (commands.Commit user tag version recipe) body laid is front sound lie start room new =
+      let c = commit_of user tag version recipe is.at in
+      let lies : IsAt area (record { place = is.at; blob = recipe }) =
+      All-head (IsAt area) (record { place = is.at; blob = recipe }) [] (subst (All (IsAt area)) is.laid_is lie) in
+      subst IsTakenHere (sym is.body_is)
+      (commit_taken user tag version recipe is.at front sound is.behind (start c is.body_is) lies (subst HaveRoom is.body_is room)
+      (subst (LeftNext (commands.Commit user tag version recipe)) is.body_is new))
+  behind_taken (commands.Delete user tag version) body laid is front sound lie start room new = subst IsTakenHere (sym is.0) (delete_taken user tag version sound)

@@ -1,0 +1,17 @@
+pub mod Alike
+pub mod BehindTaken
+pub mod Chained
+pub mod CheckpointTaken
+pub mod Crowding
+pub mod Known
+pub mod Laid
+pub mod Later
+pub mod Lying
+pub mod Most
+pub mod Passing
+pub mod RecordTaken
+pub mod Recipes
+pub mod Spenders
+pub mod Stood
+pub mod Strings
+pub mod Summed

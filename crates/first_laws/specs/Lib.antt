@@ -1,0 +1,4 @@
+pub mod InOrder
+pub mod Lawful
+pub mod Leaving
+pub mod Standing

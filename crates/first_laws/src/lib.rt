@@ -1,0 +1,7 @@
+//! What the records of a chain of format 1 leave in a server's memory, and that each lawful record is taken. Nothing of it
+//! runs.
+#![tactic(auto)]
+
+pub mod laws;
+pub mod standing;
+pub mod taking;
