@@ -1,0 +1,17 @@
+pub mod Begun
+pub mod Beside
+pub mod Regions
+pub mod Gathered
+pub mod Going
+pub mod Written
+pub mod Bounds
+pub mod Stopped
+pub mod Rightly
+pub mod Copied
+pub mod SharesCopied
+pub mod RecipesCopied
+pub mod Near
+pub mod Rows
+pub mod Serving
+pub mod Settled
+pub mod Switched

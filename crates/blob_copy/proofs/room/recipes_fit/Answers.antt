@@ -1,0 +1,11 @@
+use Rattle.std.proofs.Common.{◌+◌}
+use Rattle.spent_table.specs.declared.Spent.{Spent}
+use Rattle.cloud_areas.specs.Placing.{region_start}
+use Rattle.cloud_areas.specs.Chains.{least_recipes}
+use Rattle.store_opening.proofs.Bounds.{fits}
+use Rattle.blob_copy.proofs.room.recipes_fit.Goals as goal
+
+pub returns : goal.returns
+returns c =
+    fits c.is_near.result c.recipes_end.result c.args.memory.now.recipes_end (region_start c.args.region + least_recipes) c.all_recipes-spent.result (λ (row : Spent). row.recipes) c.spent_table.result.now c.args.memory.now.spent
+    c.is_near.ensures c.recipes_end.ensures c.recipes_end.type_inv c.all_recipes-spent.ensures c.spent_table.ensures

@@ -1,0 +1,11 @@
+use Rattle.std.proofs.Common.{◌+◌}
+use Rattle.spent_table.specs.declared.Spent.{Spent}
+use Rattle.cloud_areas.specs.Placing.{region_start}
+use Rattle.cloud_areas.specs.Chains.{least_shares}
+use Rattle.store_opening.proofs.Bounds.{fits}
+use Rattle.blob_copy.proofs.room.shares_fit.Goals as goal
+
+pub returns : goal.returns
+returns c =
+    fits c.is_near.result c.shares_end.result c.args.memory.now.shares_end (region_start c.args.region + least_shares) c.all_shares-spent.result (λ (row : Spent). row.shares) c.spent_table.result.now c.args.memory.now.spent
+    c.is_near.ensures c.shares_end.ensures c.shares_end.type_inv c.all_shares-spent.ensures c.spent_table.ensures

@@ -1,0 +1,2 @@
+-- What cloud_disk says, for callers.
+pub use Rattle.cloud_disk.specs.Disk

@@ -1,0 +1,9 @@
+pub mod Apart
+pub mod CloudDisk
+pub mod CompactMemories
+pub mod Copying
+pub mod Answers
+pub mod Copies
+pub mod Runs
+pub mod Steps
+pub mod Switched

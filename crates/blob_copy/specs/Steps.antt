@@ -1,0 +1,36 @@
+-- What a step makes of a store and its cloud, in one record. No public clause cites this module.
+use Rattle.std.specs.Prelude.{◌≡◌, ◌+◌, ◌<◌, ◌≤◌, Bool, IsTrue, List, length, Result}
+use Rattle.cd_edges.specs.Disk.{Cloud, LeavesOnly, reads}
+use Rattle.cd_edges.specs.Shelf.{Stays}
+use Rattle.user_dedup.specs.declared.command.Command.{Command}
+use Rattle.cloud_areas.specs.Standing.{Chain}
+use Rattle.checkpoints.specs.Settling.{KeepsList}
+use Rattle.open_store.specs.declared.store.OpenStore.{OpenStore}
+use Rattle.open_store.specs.Store.{IsSettled}
+use Rattle.blob_copy.specs.Answers.{MatchStep, MatchFault, IfRotten, NeverLong, NeverWrong, SomeRotten, stage_after}
+use Rattle.blob_copy.specs.Copies.{HasCopied, KeepsBeside, IsBeside}
+use Rattle.blob_copy.specs.Copying.{IsLaid, IsCopying, shares_so_far, entries_so_far}
+use Rattle.blob_copy.specs.declared.copying.CopyErr.{CopyErr}
+use Rattle.blob_copy.specs.declared.copying.Copying.{Copying}
+
+pub record IsStep (store after : OpenStore) (from to : Copying) (old new : Cloud) (result : Result Bool CopyErr) : Type 0 where
+  -- for each list that the store knows
+  pub any_moment : (list : List Command) (c : Chain) → IsCopying list c store from old → KeepsList store.header list old new
+  pub copying : (list : List Command) (c : Chain) → IsCopying list c store from old → MatchFault result (Unit {0}) (IsCopying list c after to new)
+  pub never_wrong : (list : List Command) (c : Chain) → IsCopying list c store from old → NeverWrong result
+  -- whatever is known of the cloud
+  pub copied : IsTrue old.told → MatchStep result (HasCopied store from to (reads old.now) (reads new.now)) (Unit {0}) (Unit {0}) (Unit {0})
+  pub beside : IsTrue old.told → MatchFault result (Unit {0}) (KeepsBeside store old new)
+  pub images : IsTrue old.told → LeavesOnly old new (IsBeside store old)
+  pub fits : NeverLong result
+  pub kept : IfRotten result (λ named found. after ≡ store)
+  pub stays : IfRotten result (λ named found. Stays old new)
+  pub further : MatchStep result
+      (length (shares_so_far store from) + length (entries_so_far store from) < length (shares_so_far store to) + length (entries_so_far store to))
+      (Unit {0}) (to ≡ from) (to ≡ from)
+  pub slots : (from.place_slot ≤ to.place_slot) × (from.file_slot ≤ to.file_slot)
+  pub laid : MatchFault result (Unit {0}) (IsLaid after to)
+  pub rotten : IsTrue old.told → IfRotten result (SomeRotten store.memory (reads old.now))
+  pub same : after ≡ record store { disk = after.disk }
+  pub settled : IsSettled after
+  pub stage : after.disk.journal.stage ≡ stage_after result
