@@ -1,6 +1,8 @@
+mod Appending
 mod Areas
 mod Bounds
 mod Bytes
+mod Copied
 mod Executed
 mod Headers
 pub mod NoCommands

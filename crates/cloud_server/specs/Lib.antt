@@ -1,5 +1,8 @@
+pub mod BlobCopy
+pub mod Blobs
 pub mod CloudAreas
 pub mod CloudMemory
+pub mod Copies
 pub mod Keeping
 pub mod Names
 pub mod OpenStore

@@ -2,11 +2,16 @@
 //! its disk, and after each crash a prefix of it that has every acknowledged command.
 #![tactic(auto)]
 
+mod blobs;
+mod copies;
 mod damage;
 pub mod laws;
 mod server;
 mod serving;
 
+pub use blob_copy::Reclaimed;
+pub use blobs::BlobErr;
+pub use copies::ReclaimErr;
 pub use damage::damage_of;
 pub use half_journal::OpenErr;
 pub use server::Server;

@@ -3,6 +3,7 @@
 ghost use Rattle.std.specs.Prelude.{vec_len};
 ghost use Rattle.cloud_server.specs.Keeping.{IsKept, kept_prop};
 
+use crate::copies::Copies;
 use crate::serving::answer;
 use cd_base::{CloudNo, NoMemory, RECIPE_LIMIT, Shape};
 use cd_edges::Shelf;
@@ -19,8 +20,9 @@ use std::alloc::Global;
 /// cloud at the first request; after a Fault it is closed again.
 #[derive(Drop)]
 pub struct Server {
-    store: OpenStore,
-    buffer: Vec<u8>,
+    pub(crate) store: OpenStore,
+    pub(crate) buffer: Vec<u8>,
+    pub(crate) copies: Copies,
     ghost kept: { IsKept store (vec_len buffer) } by { kept_prop store (vec_len buffer) },
 }
 
@@ -79,7 +81,11 @@ impl Server {
         };
         let store = OpenStore::make(alloc, header)?;
         let buffer = vec![in alloc; 0u8; RECIPE_LIMIT as usize]?;
-        Ok(Server { store, buffer })
+        Ok(Server {
+            store,
+            buffer,
+            copies: Copies::none(),
+        })
     }
 
     /// The header of its cloud: its store's shape and rooms, and the cloud's number.

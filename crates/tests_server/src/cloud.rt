@@ -49,8 +49,9 @@ pub fn server_of(alloc: Global, rooms: Rooms) -> Result<Server, NoMemory> {
 pub struct Cloud {
     /// The clouds in memory, of which it is the third.
     pub shelf: MemShelf,
+    /// The server of it.
+    pub server: Server,
     reply: ReplyBuf,
-    server: Server,
 }
 
 impl Cloud {

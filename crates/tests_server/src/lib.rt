@@ -6,6 +6,7 @@ mod alike;
 #[cfg(test)]
 mod answers;
 mod cloud;
+pub mod dice;
 #[cfg(test)]
 mod greatest;
 #[cfg(test)]
