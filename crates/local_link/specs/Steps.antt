@@ -28,7 +28,7 @@ use Rattle.cloud_server.specs.CloudMemory.Rooms.{memory_of}
 use Rattle.cloud_server.specs.ServerCommands.Leaving.{IsFound, LeavesAll}
 use Rattle.cloud_server.specs.declared.server.Server.{Server}
 use Rattle.user_dedup.specs.Cloud.{counted}
-use Rattle.cloud_server.specs.Serving.{number_of, IsServing, server_serves, settled_with, ReopensAs, CanOpen, Refused, ChangesBehind, OpensFirst}
+use Rattle.cloud_server.specs.Serving.{number_of, IsServing, server_serves, settled_with, ReopensAs, CanOpen, Refused, ChangesBehind, EntersBy, OpensFirst}
 use Rattle.local_link.specs.declared.servers.Servers.{Servers}
 use Rattle.local_link.specs.Tells.{server_at}
 
@@ -92,6 +92,8 @@ pub record Executes (before after : Server) (old new : ℕ → Cloud) (faults_be
       ⊎ Refused before.store (old (number_of before)) (new (number_of before)) reply
   pub behind : (request : Request) → IsOpen before.store → asked_at before.store.header.shape content ≡ Ok request
       → ChangesBehind before.store after.store (old (number_of before)) (new (number_of before)) request
+  pub enters : (request : Request) → IsOpen before.store → asked_at before.store.header.shape content ≡ Ok request
+      → EntersBy before.store after.store request reply
   pub opened : (request : Request) → IsOpen before.store → asked_at before.store.header.shape content ≡ Ok request
       → RepliesOpen old new faults_before faults_after request reply
   pub found : (request : Request) (named what : Fp) → asked_at before.store.header.shape content ≡ Ok request

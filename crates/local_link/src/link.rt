@@ -65,7 +65,7 @@ impl<'a, V: Shelf> LocalLink<'a, V> {
     ghost use Rattle.cloud_server.specs.declared.server.Server.{Server};
     ghost use Rattle.journal_start.specs.declared.rooms.Rooms.{Rooms};
     ghost use Rattle.user_dedup.specs.Cloud.{counted};
-    ghost use Rattle.cloud_server.specs.Serving.{ReopensAs, settled_with, CanOpen, Refused, ChangesBehind, OpensFirst};
+    ghost use Rattle.cloud_server.specs.Serving.{ReopensAs, settled_with, CanOpen, Refused, ChangesBehind, EntersBy, OpensFirst};
     ghost use Rattle.cloud_server.specs.CloudAreas.Standing.{StandsFor};
     ghost use Rattle.cd_edges.specs.Disk.{reads};
     ghost use Rattle.local_link.specs.declared.fate.Fate.TheVariants.{Deliver, LoseRequest};
@@ -451,6 +451,13 @@ impl<'a, V: Shelf> LocalLink<'a, V> {
             → IsSomeAnd (server_at self.old.servers cloud.0) (λ before. IsOpen before.store
             → IsSomeAnd (server_at self.new.servers cloud.0) (λ after. ChangesBehind before.store after.store
             (V.cloud_at self.old.shelf.now cloud.0) (V.cloud_at self.new.shelf.now cloud.0) r)) }
+        // What an open server replies follows from its memory, and says what that is then.
+        ensures enters { self.old.fate ≢ LoseRequest → (r : Request)
+            → asked_at ((telling V.cloud_at).shape self.old) request.now ≡ Ok r
+            → (content : List ℕ) × OnOk result (reply.new ≡ content)
+            × IsSomeAnd (server_at self.old.servers cloud.0) (λ before. IsOpen before.store
+            → IsSomeAnd (server_at self.new.servers cloud.0) (λ after.
+            EntersBy before.store after.store r content)) }
         ensures first { self.old.fate ≢ LoseRequest → (r : Request)
             → IsTrue ((telling V.cloud_at).told self.old cloud.0)
             → asked_at ((telling V.cloud_at).shape self.old) request.now ≡ Ok r

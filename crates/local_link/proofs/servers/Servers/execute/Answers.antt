@@ -21,6 +21,7 @@ returns g c = (
     closed = c.execute.ensures.closed;
     first = c.execute.ensures.first;
     behind = c.execute.ensures.behind;
+    enters = c.execute.ensures.enters;
     opened = λ r is_open asked. record {
       undamaged = λ at byte damaged. c.execute.ensures.undamaged r at byte is_open asked damaged;
       untouched = λ answer leaves is.
