@@ -217,9 +217,23 @@ fn is_deletion_found(alloc: Global, cloud: &mut Cloud) -> Result<bool, NoMemory>
     Ok(cloud.answers(&[(delete.as_slice(), DELETED)]) && is_damage(cloud, (201, 8, 202)))
 }
 
+// Where the second region of Shares and Recipes begins.
+const REGION: u64 = 34_359_738_368;
+
+// Whether the share, and then the recipe, is found once its place is the same one of the second region, which no command brought so far
+// and the bytes of the recipe lie at.
+fn are_far_ones_found(cloud: &mut Cloud) -> bool {
+    let mut recipe = [0; 61];
+    let read = cloud.shelf.read(TWO, Area::Recipes, 0, &mut recipe) == Ok(61);
+    let share = cloud.shelf.write(TWO, Area::Shares, REGION, &[0; 11]);
+    let recipe = cloud.shelf.write(TWO, Area::Recipes, REGION, &recipe);
+    let written = share.is_ok() && recipe.is_ok();
+    read && written && is_damage(cloud, (89, 8, 86)) && is_damage(cloud, (151, 8, 148))
+}
+
 fn has_changes_of(alloc: Global, cloud: &mut Cloud, share: &[u8]) -> Result<bool, NoMemory> {
     let stored = is_stored(alloc, cloud, 7, share)?;
-    let well = are_damages(cloud) && is_recipe_found(cloud);
+    let well = are_damages(cloud) && is_recipe_found(cloud) && are_far_ones_found(cloud);
     let deleted = is_deletion_found(alloc, cloud)?;
     let cleared = cloud.is_cleared();
     let stored = is_stored(alloc, cloud, 7, share)? && stored && deleted && cleared;
@@ -228,7 +242,7 @@ fn has_changes_of(alloc: Global, cloud: &mut Cloud, share: &[u8]) -> Result<bool
     Ok(stored && well && second && same)
 }
 
-// Whether each change of a byte is found, one of the recipe and one of a deletion, and then a second version of the file that is made the first, and another
+// Whether each change of a byte is found, one of the recipe, a share and a recipe beyond what was spent, and one of a deletion, and then a second version of the file that is made the first, and another
 // user who is made the same.
 fn has_changes(alloc: Global, cloud: &mut Cloud) -> Result<bool, NoMemory> {
     let share = share_of(alloc, 1, 11)?;

@@ -5,3 +5,7 @@
 mod crashes;
 #[cfg(test)]
 mod damage;
+#[cfg(test)]
+mod reclaims;
+#[cfg(test)]
+mod summed;

@@ -1,0 +1,5 @@
+mod Ending
+mod Going
+mod Summed
+mod Unlike
+mod Whole

@@ -1,0 +1,2 @@
+-- What blob_audit says of areas, for callers.
+pub use Rattle.blob_audit.specs.Reading

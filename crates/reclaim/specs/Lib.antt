@@ -1,0 +1,7 @@
+pub mod AuditBase
+pub mod BlobAudit
+pub mod BlobCopy
+pub mod CloudServer
+pub mod Inner
+pub mod Reclaims
+pub mod Sums

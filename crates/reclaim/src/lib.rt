@@ -1,0 +1,8 @@
+//! The space of what is dead is given back: what is alive of an open server's cloud is copied, and a checkpoint switches to
+//! the copies.
+#![tactic(auto)]
+
+mod copying;
+
+pub use cloud_server::{ReclaimErr, Reclaimed};
+pub use copying::reclaim;
