@@ -104,7 +104,7 @@ module _ (none : NoneStands) (one : OneHeader) where
       ⊎_elim (λ cut. absurd (not_risen _ _ well.sink cut.sink)) (λ left. inr left.status_is) stopped.ends
   ends_well rooms status call is well (inr (inr refused)) =
       absurd (not_risen_since _ is.after _ well.ports
-      (run_later (RepliesOne call.shape) _ _ tt tt call.ports_before is.after is.all is.replied) refused.ports)
+      (run_later RepliesOne _ _ is.opened is.last call.ports_before is.after is.all is.replied) refused.ports)
 
   in_rooms_well : (rooms : Rooms) (status : ℕ) (call : Call) → HasIn call rooms → IsUnopenedOrServed rooms status call
       → GoesWell call → (status ≡ 0) ⊎ (status ≡ 6)

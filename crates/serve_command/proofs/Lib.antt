@@ -10,4 +10,5 @@ pub mod PassingOn
 pub mod Replied
 pub mod Rows
 pub mod Running
+pub mod StoreOpening
 pub mod Texts

@@ -1,5 +1,5 @@
 -- A cloud that was to be opened, and what comes of it.
-use Rattle.std.proofs.Common.{◌≡◌, ℕ, Bool, true, IsTrue, List, Result, Ok, Err, IfOk, None, refl, sym, ◌∙◌, subst}
+use Rattle.std.proofs.Common.{◌≡◌, ℕ, Bool, true, IsTrue, List, Result, Ok, Err, IfOk, OnOk, None, refl, sym, ◌∙◌, subst}
 use Rattle.std.specs.List.{Contains}
 use Rattle.cd_base.specs.declared.ids.CloudNo.{CloudNo}
 use Rattle.journal_start.specs.declared.rooms.Rooms.{Rooms}
@@ -19,18 +19,18 @@ use Rattle.cloud_server.specs.CloudMemory.Memory.{Memory}
 use Rattle.cloud_server.specs.CloudMemory.Rooms.{memory_of}
 use Rattle.cloud_server.specs.Openings.{OpensTo, OtherStoreIs}
 use Rattle.user_dedup.specs.Spending.{IsWithin}
-use Rattle.user_dedup.specs.Served.{served_by}
 use Rattle.cloud_areas.specs.Peers.{ImagesNow, ImagesSince, StandsAs}
 use Rattle.cloud_areas.specs.Standing.{StandsFor}
-use Rattle.serve_command.specs.Serving.{ServesOne}
+use Rattle.serve_command.specs.Serving.{ServesOne, standing}
 use Rattle.user_dedup.specs.Cloud.{counted}
 use Rattle.cloud_server.specs.Names.{header_of}
+use Rattle.cloud_server.specs.OpenStore.Store.{IsOpen}
 use Rattle.cloud_server.specs.Serving.{IsServing, an_error, settled_with}
 use Rattle.cloud_server.specs.declared.server.Server.{Server}
 use Rattle.serve_command.specs.Runs.{ServeRun}
-use Rattle.serve_command.specs.Served.{Call, Output, own_header, Refuses, HasServed, IsReported, IsUnopened, IsOpened}
+use Rattle.serve_command.specs.Served.{Call, Output, own_header, Refuses, HasServed, IsLeftOpen, IsReported, IsUnopened, IsOpened}
 use Rattle.serve_command.specs.Served.{IsUnopenedOrServed}
-use Rattle.serve_command.specs.Steps.{Moment, Closes, ServesAll}
+use Rattle.serve_command.specs.Steps.{Moment, Closes, ServesAll, held_at}
 
 -- what the bytes come to, with the memory that the opening leaves
 pub comes_to : (header : Header) (begin : Bool) (image : Image) (memory : Memory) (result : Result ℕ OpenErr)
@@ -47,6 +47,7 @@ pub record Reopened (header : Header) (server : Server) (old new : ℕ → Cloud
     (result : Result ℕ OpenErr)
     : Type 0 where
   pub header_is : server.store.header ≡ header
+  pub at_end : OnOk result (IsOpen server.store)
   pub kept : IsTrue (old header.cloud.0).told → (lists : List (List Command))
       → ImagesNow (old header.cloud.0) header (Contains lists)
       → ImagesSince (old header.cloud.0) (new header.cloud.0) header (Contains lists)
@@ -162,15 +163,18 @@ module _ (shape : Shape) (rooms : Rooms) (cloud : CloudNo) (address : List ℕ) 
 
     from_list : IsTrue (old cloud.0).told → (list : List Command)
         → StandsFor (reads (old cloud.0).now) (own_header rooms call_by) list → IsWithin shape rooms list
-        → HasServed rooms call_by all.all all.after list
+        → HasServed rooms call_by (opened.clouds cloud.0) all.all all.after list
     from_list told list stands fits =
         let told_still : IsTrue (opened.clouds cloud.0).told = rw opening.call.told told in
-        let served = all.went.served told_still (settled_with list (opened.clouds cloud.0))
-        (opening.loaded told list stands fits).1 in
-        let serves = ServesOne shape (served_by rooms shape cloud.0) in
+        let loaded = (opening.loaded told list stands fits).1 in
+        let served = all.went.served told_still (settled_with list (opened.clouds cloud.0)) loaded in
         record {
+          begins = subst (λ (p : Peer). StandsAs (opened.clouds cloud.0) (own_header rooms call_by) p) (same_peer list)
+              (subst (λ (h : Header). StandsAs (opened.clouds cloud.0) h (settled_with list (opened.clouds cloud.0)))
+              opening.header_is loaded.stands);
           left = served.0;
-          run = subst (λ (p : Peer). ServeRun serves opened.tells new.tells p before all.all served.0 all.after)
+          run = subst (λ (p : Peer). ServeRun (ServesOne (own_header rooms call_by)) opened.tells new.tells
+              (standing p (opened.clouds cloud.0)) before all.all (standing served.0 (new.clouds cloud.0)) all.after)
               (same_peer list) served.2;
           stands = subst (λ (h : Header). StandsAs (new.clouds cloud.0) h served.0)
               (all.went.same ∙ opening.header_is) served.1.stands;
@@ -179,12 +183,26 @@ module _ (shape : Shape) (rooms : Rooms) (cloud : CloudNo) (address : List ℕ) 
               (served.1.within settled may);
         }
 
+    left_open : IsLeftOpen rooms call_by (held_at (own_header rooms call_by) opened)
+    left_open = record {
+      header = opening.header_is;
+      at_end = opening.at_end;
+      counts = opening.counts;
+      told = opening.call.told;
+      exact = λ told. (commands, opening.exact told, opening.areas told);
+      kept = opening.kept;
+    }
+
     is_opened : IsOpened rooms status call_by
     is_opened = record {
-      opens = λ told. (commands, (memory_of opened.server.store.memory, opening.exact told));
+      opened = held_at (own_header rooms call_by) opened;
+      opens = left_open;
       all = all.all;
       after = all.after;
+      last = held_at (own_header rooms call_by) new;
       replied = all.went.replied;
+      cloud = refl;
+      total = refl;
       served = from_list;
       ends = all.ends;
       told = all.went.told;

@@ -9,7 +9,7 @@ use Rattle.messages.specs.Replies.{reply_bytes}
 use Rattle.user_dedup.specs.Requests.{asked_at}
 use Rattle.cloud_server.specs.OpenStore.store.OpenStore.{OpenStore}
 use Rattle.cloud_server.specs.Serving.{Answered}
-use Rattle.serve_command.specs.Serving.{RepliesOne}
+use Rattle.serve_command.specs.Serving.{Held, RepliesOne, RepliesTo, held_of}
 
 -- each reply has its kind in front
 pub some_bytes : (r : Reply) → 1 ≤ length (reply_bytes r)
@@ -32,18 +32,29 @@ some_bytes (replies.Rotten named found) = omega arith
 some_bytes (replies.Malformed at) = omega arith
 some_bytes replies.NoMemory = omega arith
 
-module _ (shape : Shape) (content reply : List ℕ) where
-  -- content that is a request is answered by some server's reply, and other content by the place that is wrong
-  pub replied : (state : OpenStore) (old new : Cloud) (before now : ℕ)
-      → ((r : Request) → asked_at shape content ≡ Ok r → Answered shape r state old new before now reply)
-      → ((at : ℕ) → asked_at shape content ≡ Err at → reply ≡ reply_bytes (replies.Malformed at))
-      → RepliesOne shape tt content reply tt
-  replied state old new before now answered malformed = by_read (asked_at shape content) refl
+module _ (before after : Held) (content reply : List ℕ) where
+  -- content that is a request is replied to, and other content by the place that is wrong
+  pub replied : ((r : Request) → asked_at before.store.header.shape content ≡ Ok r → RepliesTo before after r reply)
+      → ((at : ℕ) → asked_at before.store.header.shape content ≡ Err at
+      → (reply ≡ reply_bytes (replies.Malformed at)) × (after ≡ before))
+      → RepliesOne before content reply after
+  replied answered malformed = by_read (asked_at before.store.header.shape content) refl
     where
-      by_read : (read : Result Request ℕ) → asked_at shape content ≡ read → RepliesOne shape tt content reply tt
-      by_read (Ok r) e = let a = answered r e in inl (r, a.0, e, a.1, a.2, a.3)
-      by_read (Err at) e = inr (at, e, malformed at e)
+      by_read : (read : Result Request ℕ) → asked_at before.store.header.shape content ≡ read
+          → RepliesOne before content reply after
+      by_read (Ok r) e = inl (r, e, answered r e)
+      by_read (Err at) e = let m = malformed at e in inr ((at, e, m.0), m.1)
 
-  pub some_content : RepliesOne shape tt content reply tt → 1 ≤ length reply
-  some_content (inl one) = subst (λ (l : List ℕ). 1 ≤ length l) (sym one.3.spelled) (some_bytes one.1)
-  some_content (inr wrong) = subst (λ (l : List ℕ). 1 ≤ length l) (sym wrong.2) (some_bytes (replies.Malformed wrong.0))
+-- each reply has some bytes
+pub some_content : (shape : Shape) (content reply : List ℕ) (store : OpenStore) (old new : Cloud) (before now : ℕ)
+    → ((r : Request) → asked_at shape content ≡ Ok r → Answered shape r store old new before now reply)
+    → ((at : ℕ) → asked_at shape content ≡ Err at → reply ≡ reply_bytes (replies.Malformed at)) → 1 ≤ length reply
+some_content shape content reply store old new before now answered malformed = by_read (asked_at shape content) refl
+  where
+    by_read : (read : Result Request ℕ) → asked_at shape content ≡ read → 1 ≤ length reply
+    by_read (Ok r) e = let a = answered r e in subst (λ (l : List ℕ). 1 ≤ length l) (sym a.1.spelled) (some_bytes a.0)
+    by_read (Err at) e = subst (λ (l : List ℕ). 1 ≤ length l) (sym (malformed at e)) (some_bytes (replies.Malformed at))
+
+-- the parts of what is held are the same
+pub same_held : (s t : OpenStore) (c d : Cloud) (m n : ℕ) → t ≡ s → d ≡ c → n ≡ m → held_of t d n ≡ held_of s c m
+same_held s t c d m n stores clouds totals = λ i. record { store = stores i; cloud = clouds i; total = totals i }

@@ -8,13 +8,13 @@ use Rattle.cd_edges.proofs.Calls.{called_twice}
 use Rattle.messages.specs.declared.request.Request.{Request}
 use Rattle.user_dedup.specs.Exec.{Peer}
 use Rattle.user_dedup.specs.Requests.{asked_at}
-use Rattle.user_dedup.specs.Served.{served_by}
-use Rattle.cloud_server.specs.Serving.{IsServing, number_of, server_serves}
+use Rattle.cloud_areas.specs.Peers as peers
+use Rattle.cloud_server.specs.Serving.{IsServing, number_of}
 use Rattle.cloud_server.specs.declared.server.Server.{Server}
 use Rattle.serve_command.specs.declared.served.Served.{Served}
 use Rattle.serve_command.specs.Connection.{Responds, Serves}
-use Rattle.serve_command.proofs.Carrying.{Carried, carried}
-use Rattle.serve_command.specs.Serving.{Answers, Place, RepliesOne, ServesOne}
+use Rattle.serve_command.proofs.Carrying.{carried, mapped}
+use Rattle.serve_command.specs.Serving.{Answers, Held, Place, RepliesOne, ServesOne, Standing, held_of, standing}
 
 -- two names of loans are two names
 pub first_same : (a b c d : ℕ) → a ∷ b ∷ [] ≡ c ∷ d ∷ [] → a ≡ c
@@ -50,26 +50,32 @@ since_more first before after content reply since answers = record {
       (subst (λ (n : ℕ). IsCall before.clouds after.clouds n before.faults after.faults) (same_number first before since) answers.call);
 }
 
+-- what is held of a place's server
+abbrev pub held_in : Place → Place → Held
+held_in first place = held_of place.server.store (cloud_in first place) place.faults
+
 pub replied_since : (first before after : Place) (content reply : List ℕ) → Since first before → Answers before after content reply
-    → RepliesOne first.server.store.header.shape tt content reply tt
+    → RepliesOne (held_in first before) content reply (held_in first after)
 replied_since first before after content reply since answers =
-    subst (λ (h : Header). RepliesOne h.shape tt content reply tt) since.same answers.replied
+    subst (λ (h : Header). RepliesOne (held_of before.server.store (before.clouds h.cloud.0) before.faults) content reply
+    (held_of after.server.store (after.clouds h.cloud.0) after.faults)) since.same answers.replied
 
 -- ---- what becomes of a peer
 
 -- The cloud is told, and stands as the peer.
-pub record StandsAs (first place : Place) (p : Peer) : Type 0 where
+pub record StandsAs (first place : Place) (s : Standing) : Type 0 where
   pub since : Since first place
   pub told : IsTrue (cloud_in first place).told
-  pub serving : IsServing place.server (cloud_in first place) p
+  pub serving : IsServing place.server (cloud_in first place) s.peer
+  pub cloud : s.cloud ≡ cloud_in first place
 
 -- what an answer leaves of a peer
-pub record Goes (first after : Place) (p : Peer) (content reply : List ℕ) : Type 0 where
+pub record Goes (first before after : Place) (p : Peer) (content reply : List ℕ) : Type 0 where
   pub left : Peer
-  pub stands : StandsAs first after left
-  pub does : ServesOne first.server.store.header.shape (server_serves first.server) p content reply left
+  pub stands : StandsAs first after (standing left (cloud_in first after))
+  pub does : ServesOne first.server.store.header (standing p (cloud_in first before)) content reply (standing left (cloud_in first after))
 
-module _ (first before after : Place) (p : Peer) (content reply : List ℕ) (stands : StandsAs first before p) (answers : Answers before after content reply) where
+module _ (first before after : Place) (p : Standing) (content reply : List ℕ) (stands : StandsAs first before p) (answers : Answers before after content reply) where
   number : number_of before.server ≡ number_of first.server
   number = same_number first before stands.since
 
@@ -79,41 +85,63 @@ module _ (first before after : Place) (p : Peer) (content reply : List ℕ) (sta
   told_before : IsTrue (before.clouds (number_of before.server)).told
   told_before = subst (λ (n : ℕ). IsTrue (before.clouds n).told) (sym number) stands.told
 
-  serving_before : IsServing before.server (before.clouds (number_of before.server)) p
-  serving_before = subst (λ (n : ℕ). IsServing before.server (before.clouds n) p) (sym number) stands.serving
+  serving_before : IsServing before.server (before.clouds (number_of before.server)) p.peer
+  serving_before = subst (λ (n : ℕ). IsServing before.server (before.clouds n) p.peer) (sym number) stands.serving
 
   told_after : IsTrue (cloud_in first after).told
   told_after = subst (λ (n : ℕ). IsTrue (after.clouds n).told) number (rw answers.call.told told_before)
 
   -- what the server before it serves, the first one serves
-  from_first : (q : Peer) → ServesOne before.server.store.header.shape (server_serves before.server) p content reply q
-      → ServesOne first.server.store.header.shape (server_serves first.server) p content reply q
+  from_first : (q : Peer) → ServesOne before.server.store.header (standing p.peer (before.clouds (number_of before.server))) content reply
+      (standing q (after.clouds (number_of before.server)))
+      → ServesOne first.server.store.header (standing p.peer (cloud_in first before)) content reply (standing q (cloud_in first after))
   from_first q one =
-      subst (λ (h : Header). ServesOne h.shape (served_by h.rooms h.shape h.cloud.0) p content reply q) stands.since.same one
+      subst (λ (h : Header). ServesOne h (standing p.peer (before.clouds h.cloud.0)) content reply (standing q (after.clouds h.cloud.0))) stands.since.same one
 
-  pub goes : Goes first after p content reply
+  pub goes : Goes first before after p.peer content reply
   goes = by_read (asked_at before.server.store.header.shape content) refl
     where
-      by_read : (read : Result Request ℕ) → asked_at before.server.store.header.shape content ≡ read → Goes first after p content reply
+      by_read : (read : Result Request ℕ) → asked_at before.server.store.header.shape content ≡ read → Goes first before after p.peer content reply
       by_read (Ok r) e =
-          let x = answers.exec p r told_before serving_before e in
+          let x = answers.exec p.peer r told_before serving_before e in
           record {
             left = x.0;
-            stands = record { since = since; told = told_after; serving = subst (λ (n : ℕ). IsServing after.server (after.clouds n) x.0) number x.2 };
-            does = from_first x.0 (inl (r, x.1, e, x.3, x.4));
+            stands = record {
+              since = since;
+              told = told_after;
+              serving = subst (λ (n : ℕ). IsServing after.server (after.clouds n) x.0) number x.2;
+              cloud = refl;
+            };
+            does = from_first x.0 (inl (
+              r,
+              e,
+              record {
+                answer = x.1;
+                content_is = x.3;
+                exec = x.4;
+                images = answers.images p.peer r told_before serving_before e;
+                stands = subst (λ (h : Header). peers.StandsAs (after.clouds (number_of before.server)) h x.0) answers.same x.2.stands;
+              },
+            ));
           }
       by_read (Err at) e =
           let m = answers.malformed at e in
           record {
-            left = p;
+            left = p.peer;
             stands = record {
               since = since;
               told = told_after;
-              serving = subst (λ (c : ℕ → Cloud). IsServing after.server (c (number_of first.server)) p) (sym m.2)
-                  (subst (λ (s : Server). IsServing s (before.clouds (number_of first.server)) p) (sym m.1) stands.serving);
+              serving = subst (λ (c : ℕ → Cloud). IsServing after.server (c (number_of first.server)) p.peer) (sym m.2)
+                  (subst (λ (s : Server). IsServing s (before.clouds (number_of first.server)) p.peer) (sym m.1) stands.serving);
+              cloud = refl;
             };
-            does = from_first p (inr ((at, e, m.0), refl));
+            does = from_first p.peer (inr ((at, e, m.0), ap (λ (c : ℕ → Cloud). standing p.peer (c (number_of before.server))) m.2));
           }
+
+  -- the same from what stands before it
+  pub goes_on : ServesOne first.server.store.header p content reply (standing goes.left (cloud_in first after))
+  goes_on = subst (λ (c : Cloud). ServesOne first.server.store.header (standing p.peer c) content reply (standing goes.left (cloud_in first after)))
+      (sym stands.cloud) goes.does
 
 -- ---- a row of answers
 
@@ -126,27 +154,34 @@ module _ {S : Type 0} (place : S → Place) where
     by_row : {T : Type 0} (does : T → List ℕ → List ℕ → T → Type 0) (t u : T) → Responds does t serves.requests serves.replies u → Serves does old new port t u ended
     by_row does t u run = record { requests = serves.requests; replies = serves.replies; responds = run; bytes = serves.bytes }
 
-    row : Carried Step (λ (t : Unit {0}) content reply u. RepliesOne (place first).server.store.header.shape t content reply u) (λ s t. Since (place first) (place s))
-        (λ before request reply after t lawful answers since. (tt, since_more (place first) (place before) (place after) request reply since answers, replied_since (place first) (place before) (place after) request reply since answers))
-        tt serves.requests serves.replies last
-    row = carried Step (λ (t : Unit {0}) content reply u. RepliesOne (place first).server.store.header.shape t content reply u) (λ s t. Since (place first) (place s))
-        (λ before request reply after t lawful answers since. (tt, since_more (place first) (place before) (place after) request reply since answers, replied_since (place first) (place before) (place after) request reply since answers))
-        first last serves.requests serves.replies tt (since_none (place first)) serves.responds
+    row : Since (place first) (place last) × Responds RepliesOne (held_in (place first) (place first)) serves.requests serves.replies (held_in (place first) (place last))
+    row = mapped Step RepliesOne (λ s. held_in (place first) (place s)) (λ s. Since (place first) (place s))
+        (λ before request reply after lawful answers since. (since_more (place first) (place before) (place after) request reply since answers, replied_since (place first) (place before) (place after) request reply since answers))
+        first last serves.requests serves.replies (since_none (place first)) serves.responds
 
     pub was_called : Since (place first) (place last)
-    was_called = row.stands
+    was_called = row.0
 
-    pub was_replied : Serves (RepliesOne (place first).server.store.header.shape) old new port tt tt ended
-    was_replied = by_row (RepliesOne (place first).server.store.header.shape) tt tt row.run
+    pub was_replied : Serves RepliesOne old new port (held_in (place first) (place first)) (held_in (place first) (place last)) ended
+    was_replied = by_row RepliesOne (held_in (place first) (place first)) (held_in (place first) (place last)) row.1
 
     pub was_served : (p : Peer) → IsTrue (cloud_in (place first) (place first)).told → IsServing (place first).server (cloud_in (place first) (place first)) p
         → (q : Peer) × IsServing (place last).server (cloud_in (place first) (place last)) q
-        × Serves (ServesOne (place first).server.store.header.shape (server_serves (place first).server)) old new port p q ended
+        × Serves (ServesOne (place first).server.store.header) old new port (standing p (cloud_in (place first) (place first))) (standing q (cloud_in (place first) (place last))) ended
     was_served p told serving =
-        let peers = carried Step (ServesOne (place first).server.store.header.shape (server_serves (place first).server)) (λ s t. StandsAs (place first) (place s) t)
-        (λ before request reply after t lawful answers stands. let g = goes (place first) (place before) (place after) t request reply stands answers in (g.left, g.stands, g.does))
-        first last serves.requests serves.replies p (record { since = since_none (place first); told = told; serving = serving }) serves.responds in (
-          peers.left,
-          peers.stands.serving,
-          by_row (ServesOne (place first).server.store.header.shape (server_serves (place first).server)) p peers.left peers.run,
+        let start = standing p (cloud_in (place first) (place first)) in
+        let does = ServesOne (place first).server.store.header in
+        let ends = carried Step does (λ s t. StandsAs (place first) (place s) t)
+        (λ before request reply after t lawful answers stands.
+        let g = goes (place first) (place before) (place after) t request reply stands answers in (
+          standing g.left (cloud_in (place first) (place after)),
+          g.stands,
+          goes_on (place first) (place before) (place after) t request reply stands answers,
+        ))
+        first last serves.requests serves.replies start
+        (record { since = since_none (place first); told = told; serving = serving; cloud = refl }) serves.responds in (
+          ends.left.peer,
+          ends.stands.serving,
+          subst (λ (c : Cloud). Serves does old new port start (standing ends.left.peer c) ended) ends.stands.cloud
+              (by_row does start ends.left ends.run),
         )

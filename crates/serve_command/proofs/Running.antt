@@ -4,13 +4,12 @@ use Rattle.std.proofs.lemmas.List.{map-append}
 use Rattle.cd_edges.specs.Ports.{Telling}
 use Rattle.cd_edges.proofs.Calls.{called_twice}
 use Rattle.journal_start.specs.declared.start.Header.{Header}
-use Rattle.user_dedup.specs.Served.{served_by}
-use Rattle.serve_command.specs.Serving.{RepliesOne, ServesOne}
+use Rattle.serve_command.specs.Serving.{RepliesOne, ServesOne, standing}
 use Rattle.serve_command.specs.declared.served.Served.{Served}
 use Rattle.serve_command.specs.declared.served.Served.TheVariants as ends
 use Rattle.serve_command.specs.Connection.{EndsWithCause}
 use Rattle.serve_command.specs.Runs.{Connection, Runs, None, More, ServeRun}
-use Rattle.serve_command.specs.Steps.{Moment, OneServed, Goes, Went}
+use Rattle.serve_command.specs.Steps.{Moment, OneServed, Goes, Went, held_at}
 use Rattle.serve_command.proofs.Passing.{passed_none, passed_more}
 
 module _ {S : Type 0} (step : S → List ℕ → List ℕ → S → Type 0) where
@@ -68,12 +67,11 @@ went_none header old before = record {
     total_later = omega arith;
   };
   told = refl;
-  replied = run_none (RepliesOne header.shape) old.tells tt before;
+  replied = run_none RepliesOne old.tells (held_at header old) before;
   served = λ told p serving. (
     p,
     serving,
-    run_none
-        (ServesOne header.shape (served_by header.rooms header.shape header.cloud.0)) old.tells p before,
+    run_none (ServesOne header) old.tells (standing p (old.clouds header.cloud.0)) before,
   );
 }
 
@@ -86,16 +84,17 @@ module _ (header : Header) (old mid new : Moment) (before count after : ℕ) (al
     call = called_twice old.clouds mid.clouds new.clouds header.cloud.0 old.total mid.total new.total went.call
         goes.call;
     told = goes.told ∙ went.told;
-    replied = run_more (RepliesOne header.shape) old.tells mid.tells new.tells tt tt tt before count after all ended
-        went.replied went.told goes.replied cause;
+    replied = run_more RepliesOne old.tells mid.tells new.tells (held_at header old) (held_at header mid)
+        (held_at header new) before count after all ended went.replied went.told goes.replied cause;
     served = λ told p serving.
         let so_far = went.served told p serving in
         let told_mid : IsTrue (mid.clouds header.cloud.0).told = rw went.call.told told in
         let more = goes.served told_mid so_far.0 so_far.1 in (
           more.0,
           more.1,
-          run_more (ServesOne header.shape (served_by header.rooms header.shape header.cloud.0)) old.tells mid.tells new.tells
-              p so_far.0 more.0 before count after all ended
+          run_more (ServesOne header) old.tells mid.tells new.tells
+              (standing p (old.clouds header.cloud.0)) (standing so_far.0 (mid.clouds header.cloud.0))
+              (standing more.0 (new.clouds header.cloud.0)) before count after all ended
               so_far.2 went.told more.2 cause,
         );
   }

@@ -21,16 +21,18 @@ use Rattle.journal_halves.specs.Halves.{IsCurrent}
 use Rattle.half_journal.specs.Openings.{OnFault}
 use Rattle.user_dedup.specs.declared.command.Command.{Command}
 use Rattle.user_dedup.specs.Exec.{Peer, MaySettleAs}
+use Rattle.cloud_server.specs.CloudMemory.Rooms.{memory_of}
+use Rattle.cloud_server.specs.StoreOpening.Exact.{Opens}
 use Rattle.cloud_server.specs.StoreOpening.Spared.{IsOkOrFault, Spares}
 use Rattle.cloud_server.specs.Openings.{OpensTo, OtherStoreIs}
 use Rattle.user_dedup.specs.Spending.{IsWithin}
-use Rattle.user_dedup.specs.Served.{served_by}
 use Rattle.cloud_areas.specs.Peers.{ImagesNow, ImagesSince, StandsAs}
 use Rattle.cloud_areas.specs.Standing.{StandsFor}
-use Rattle.serve_command.specs.Serving.{RepliesOne, ServesOne}
+use Rattle.serve_command.specs.Serving.{Held, RepliesOne, ServesOne, standing}
 use Rattle.serve_command.specs.declared.served.Served.{Served}
 use Rattle.cloud_server.specs.Names.{header_of}
-use Rattle.cloud_server.specs.Serving.{an_error, settled_with}
+use Rattle.cloud_server.specs.OpenStore.Store.{IsOpen}
+use Rattle.cloud_server.specs.Serving.{an_error, settled_with, some_commands}
 use Rattle.transcript.specs.Endings.{ending_text}
 use Rattle.transcript.specs.declared.ending.Ending.TheVariants as endings
 use Rattle.serve_command.specs.Lines.{ready_text, connection_text, serving_text}
@@ -193,27 +195,50 @@ abbrev pub Ends : ℕ → List ℕ → ℕ → Output → List Served → ℕ �
 Ends status address count out all after now = IsDone status address count out all after now
     ⊎ (IsStopped status address count out all after now ⊎ IsRefused status address count out all after now)
 
--- Where the areas of a told cloud stood for a list: the first connection begins with it, and each image now stands for
--- the list that the last one left, or for it with its pending command, all within the rooms.
-pub record HasServed (rooms : Rooms) (call : Call) (all : List Served) (after : ℕ) (list : List Command) : Type 0 where
+-- What the opening left, of an open server: no count rose. Over a told cloud its memory is what the bytes of the areas
+-- came to, record by record; they are spared; and each image since stands for one of the lists that the images stood
+-- for.
+pub record IsLeftOpen (rooms : Rooms) (call : Call) (opened : Held) : Type 0 where
+  pub header : opened.store.header ≡ own_header rooms call
+  pub at_end : IsOpen opened.store
+  pub counts : KeepsCounts (old_cloud call) opened.cloud call.total_before opened.total
+  pub told : opened.cloud.told ≡ (old_cloud call).told
+  pub exact : IsTrue (old_cloud call).told → (commands : ℕ)
+      × Opens (own_header rooms call) true (reads (old_cloud call).now) (memory_of opened.store.memory) (Ok commands)
+      × Spares (own_header rooms call) true (old_cloud call) opened.cloud (some_commands commands)
+  pub kept : IsTrue (old_cloud call).told → (lists : List (List Command))
+      → ImagesNow (old_cloud call) (own_header rooms call) (Contains lists)
+      → ImagesSince (old_cloud call) opened.cloud (own_header rooms call) (Contains lists)
+
+-- Where the areas of a told cloud stood for a list: behind the opening they stand for it, with nothing pending, and the
+-- first connection begins so. Each image between two requests stands for a list that the cloud has there, or for that
+-- list with the command of the request that is answered next; and each image now stands for the list that the last
+-- connection left, or for it with its pending command, all within the rooms.
+pub record HasServed (rooms : Rooms) (call : Call) (opened : Cloud) (all : List Served) (after : ℕ)
+    (list : List Command)
+    : Type 0 where
+  pub begins : StandsAs opened (own_header rooms call) (settled_with list (old_cloud call))
   pub left : Peer
-  pub run : ServeRun (ServesOne call.shape (served_by rooms call.shape call.cloud.0)) call.tells_before
-      call.tells_after
-      (settled_with list (old_cloud call)) call.ports_before all left after
+  pub run : ServeRun (ServesOne (own_header rooms call)) call.tells_before call.tells_after
+      (standing (settled_with list (old_cloud call)) opened) call.ports_before all
+      (standing left (new_cloud call)) after
   pub stands : StandsAs (new_cloud call) (own_header rooms call) left
   pub within : (settled : List Command) → MaySettleAs left settled → IsWithin call.shape rooms settled
 
--- The cloud was opened, and connections that ended so were served: over a list by its rules; and whatever the cloud
--- holds, by replies that some server gives.
+-- The cloud was opened, and connections that ended so were served, from what the opening left to what is held now: each
+-- request was replied to as a server does whatever the cloud holds, and over a list by its rules.
 pub record IsOpened (rooms : Rooms) (status : ℕ) (call : Call) : Type 0 where
-  pub opens : IsTrue (old_cloud call).told
-      → (commands : ℕ) × OpensTo (own_header rooms call) true (reads (old_cloud call).now) (Ok commands)
+  pub opened : Held
+  pub opens : IsLeftOpen rooms call opened
   pub all : List Served
   pub after : ℕ
-  pub replied : ServeRun (RepliesOne call.shape) call.tells_before call.tells_after tt call.ports_before all tt after
+  pub last : Held
+  pub replied : ServeRun RepliesOne call.tells_before call.tells_after opened call.ports_before all last after
+  pub cloud : last.cloud ≡ new_cloud call
+  pub total : last.total ≡ call.total_after
   pub served : IsTrue (old_cloud call).told → (list : List Command)
       → StandsFor (reads (old_cloud call).now) (own_header rooms call) list
-      → IsWithin call.shape rooms list → HasServed rooms call all after list
+      → IsWithin call.shape rooms list → HasServed rooms call opened.cloud all after list
   pub ends : Ends status call.address call.count call.out all after call.ports_after
   pub told : call.tells_after.told ≡ call.tells_before.told
 

@@ -1,36 +1,114 @@
 -- What requests on a connection do to a cloud.
-use Rattle.std.specs.Prelude.{◌≡◌, ◌≢◌, ◌⊎◌, ℕ, List, Ok, Err, true, IsTrue}
+use Rattle.std.specs.Prelude.{◌≡◌, ◌⊎◌, ℕ, List, None, Ok, Err, true, IsTrue}
+use Rattle.cd_base.specs.declared.ids.Fp.{Fp}
 use Rattle.cd_base.specs.declared.shape.Shape.{Shape}
 use Rattle.cd_edges.specs.Disk.{Cloud}
 use Rattle.cd_edges.specs.Shelf.{IsCall}
+use Rattle.cd_edges.specs.Shelf.{Stays as StaysIn}
+use Rattle.journal_start.specs.declared.start.Header.{Header}
 use Rattle.messages.specs.declared.request.Request.{Request}
 use Rattle.messages.specs.declared.reply.Reply.{Reply}
 use Rattle.messages.specs.declared.reply.Reply.TheVariants as replies
-use Rattle.messages.specs.Answering.{IsReplyTo}
 use Rattle.messages.specs.Replies.{IsReply, reply_bytes}
 use Rattle.user_dedup.specs.declared.command.Command.{Command}
-use Rattle.user_dedup.specs.Dedup.{Outcome}
-use Rattle.user_dedup.specs.Exec.{Peer, Exec, items_of}
+use Rattle.user_dedup.specs.Exec.{Peer, Exec}
 use Rattle.user_dedup.specs.Requests.{asked_at}
-use Rattle.cloud_server.specs.Serving.{IsServing, ExecutesAs, number_of}
+use Rattle.user_dedup.specs.Served.{served_by}
+use Rattle.cloud_areas.specs.Peers.{ImagesSince, MayBecome, StandsAs}
+use Rattle.cloud_server.specs.CloudMemory.Rooms.{memory_of}
+use Rattle.cloud_server.specs.OpenStore.store.OpenStore.{OpenStore}
+use Rattle.cloud_server.specs.OpenStore.Store.{IsOpen, ServesSome}
+use Rattle.cloud_server.specs.ServerCommands.Leaving.{IsFound, LeavesAll}
+use Rattle.cloud_server.specs.Serving.{IsServing, ExecutesAs, number_of, server_serves}
+use Rattle.cloud_server.specs.Serving.{Answered, ChangesBehind, EntersBy, OpensFirst, Refused}
 use Rattle.cloud_server.specs.declared.server.Server.{Server}
+use Rattle.server_requests.specs.Asking.{IsForMemory}
 
 -- The content asks nothing, and is answered by the first place that is wrong.
 abbrev pub IsMalformed : Shape → List ℕ → List ℕ → Type 0
-IsMalformed shape content reply = (at : ℕ) × (asked_at shape content ≡ Err at) × (reply ≡ reply_bytes (replies.Malformed at))
+IsMalformed shape content reply =
+    (at : ℕ) × (asked_at shape content ≡ Err at) × (reply ≡ reply_bytes (replies.Malformed at))
+
+-- ---- a cloud that stands as a peer
+
+-- what a cloud stands for, and the cloud
+pub record Standing : Type 0 where
+  pub peer : Peer
+  pub cloud : Cloud
+
+abbrev pub standing : Peer → Cloud → Standing
+standing peer cloud = record { peer = peer; cloud = cloud }
+
+-- The peer executes the request, and the cloud stands as what is left of it. Whenever a crash comes in between, it leaves
+-- a list that the peer may settle as, or that list with the command that the request adds to it.
+pub record ServesRequest (header : Header) (p : Standing) (request : Request) (reply : List ℕ) (q : Standing)
+    : Type 0 where
+  pub answer : Reply
+  pub content_is : IsReply reply answer
+  pub exec : Exec header.shape true (served_by header.rooms header.shape header.cloud.0) p.peer request answer q.peer
+  pub images : ImagesSince p.cloud q.cloud header
+      (MayBecome (served_by header.rooms header.shape header.cloud.0) p.peer request)
+  pub stands : StandsAs q.cloud header q.peer
 
 -- The content is a request that the cloud executes, or it asks nothing and changes nothing.
-abbrev pub ServesOne : Shape → (List Command → Request → Outcome) → Peer → List ℕ → List ℕ → Peer → Type 0
-ServesOne shape serve p content reply q =
-    ((r : Request) × (answer : Reply) × (asked_at shape content ≡ Ok r) × IsReply reply answer × Exec shape true serve p r answer q)
-    ⊎ (IsMalformed shape content reply × (q ≡ p))
+abbrev pub ServesOne : Header → Standing → List ℕ → List ℕ → Standing → Type 0
+ServesOne header p content reply q =
+    ((r : Request) × (asked_at header.shape content ≡ Ok r) × ServesRequest header p r reply q)
+    ⊎ (IsMalformed header.shape content reply × (q ≡ p))
 
--- Whatever the cloud holds: the reply is one that some server gives to the request, or the content asks nothing.
-abbrev pub RepliesOne : Shape → Unit {0} → List ℕ → List ℕ → Unit {0} → Type 0
-RepliesOne shape before content reply after =
-    ((r : Request) × (answer : Reply) × (asked_at shape content ≡ Ok r) × IsReply reply answer
-    × IsReplyTo (items_of shape r) r answer × (answer ≢ replies.NoMemory))
-    ⊎ IsMalformed shape content reply
+-- ---- whatever the cloud holds
+
+-- a server's store, its cloud, and the shelf's count of faults in all
+pub record Held : Type 0 where
+  pub store : OpenStore
+  pub cloud : Cloud
+  pub total : ℕ
+
+abbrev pub held_of : OpenStore → Cloud → ℕ → Held
+held_of store cloud total = record { store = store; cloud = cloud; total = total }
+
+-- What a request whose reply has this content does, whatever the cloud holds.
+pub record RepliesTo (before after : Held) (request : Request) (reply : List ℕ) : Type 0 where
+  pub same : after.store.header ≡ before.store.header
+  pub told : after.cloud.told ≡ before.cloud.told
+  -- It is a reply that some server gives, and never that memory ran out. Fault comes only where the cloud's count rose and
+  -- that in all, and closes the server; with any other reply no count rose.
+  pub answered : Answered before.store.header.shape request after.store before.cloud after.cloud
+      before.total after.total reply
+  -- Behind it the server is open, but for Fault and the error of an opening. An open server never answers Damaged.
+  pub refusals : IsOpen after.store
+      ⊎ ((reply ≡ reply_bytes replies.Fault) ⊎ Refused before.store before.cloud after.cloud reply)
+  pub undamaged : (at byte : ℕ) → IsOpen before.store → IsReply reply (replies.Damaged at byte) → ⊥
+  -- Rotten names what lies where the memory has it.
+  pub rotten : (named found : Fp) → IsOpen before.store → IsReply reply (replies.Rotten named found)
+      → IsFound before.cloud (memory_of before.store.memory) request named found
+  pub found : (named found : Fp) → IsReply reply (replies.Rotten named found)
+      → IsFound after.cloud (memory_of after.store.memory) request named found
+  -- An open server leaves all as it was where it answers by its memory alone, and where the reply says that nothing is
+  -- added or read; a request that adds nothing to a list that is served leaves areas and memory; and what is added lies
+  -- behind what there was.
+  pub no_call : IsOpen before.store → IsForMemory request → after ≡ before
+  pub untouched : (answer : Reply) → IsOpen before.store → LeavesAll request answer → IsReply reply answer
+      → after ≡ before
+  pub stays : (list : List Command) → IsOpen before.store → ServesSome list before.store before.cloud
+      → (served_by before.store.header.rooms before.store.header.shape before.store.header.cloud.0 list
+      request).adds ≡ None
+      → StaysIn before.cloud after.cloud × (after.store.memory ≡ before.store.memory)
+  pub behind : IsOpen before.store → ChangesBehind before.store after.store before.cloud after.cloud request
+  -- What the reply says of a Put, a Commit or a Delete is so by the memory.
+  pub enters : IsOpen before.store → EntersBy before.store after.store request reply
+  -- A closed server opens a told cloud first, or its reply is the error of the opening, and the areas are spared.
+  pub first : IsTrue before.cloud.told → ¬ (IsOpen before.store)
+      → OpensFirst before.store after.store before.cloud after.cloud request reply
+      ⊎ Refused before.store before.cloud after.cloud reply
+
+-- The content is a request that is replied to so, or it asks nothing and changes nothing.
+abbrev pub RepliesOne : Held → List ℕ → List ℕ → Held → Type 0
+RepliesOne before content reply after =
+    ((r : Request) × (asked_at before.store.header.shape content ≡ Ok r) × RepliesTo before after r reply)
+    ⊎ (IsMalformed before.store.header.shape content reply × (after ≡ before))
+
+-- ---- a server
 
 -- a server, and the clouds of its shelf with the count of faults in all
 pub record Place : Type 0 where
@@ -45,9 +123,16 @@ place_of server clouds faults = record { server = server; clouds = clouds; fault
 pub record Answers (before after : Place) (content reply : List ℕ) : Type 0 where
   pub same : after.server.store.header ≡ before.server.store.header
   pub exec : (p : Peer) (r : Request) → IsTrue (before.clouds (number_of before.server)).told
-      → IsServing before.server (before.clouds (number_of before.server)) p → asked_at before.server.store.header.shape content ≡ Ok r
+      → IsServing before.server (before.clouds (number_of before.server)) p
+      → asked_at before.server.store.header.shape content ≡ Ok r
       → ExecutesAs before.server.store after.server.store (after.clouds (number_of before.server)) p r reply
+  pub images : (p : Peer) (r : Request) → IsTrue (before.clouds (number_of before.server)).told
+      → IsServing before.server (before.clouds (number_of before.server)) p
+      → asked_at before.server.store.header.shape content ≡ Ok r
+      → ImagesSince (before.clouds (number_of before.server)) (after.clouds (number_of before.server))
+      before.server.store.header (MayBecome (server_serves before.server) p r)
   pub malformed : (at : ℕ) → asked_at before.server.store.header.shape content ≡ Err at
       → (reply ≡ reply_bytes (replies.Malformed at)) × (after.server ≡ before.server) × (after.clouds ≡ before.clouds)
-  pub replied : RepliesOne before.server.store.header.shape tt content reply tt
+  pub replied : RepliesOne (held_of before.server.store (before.clouds (number_of before.server)) before.faults)
+      content reply (held_of after.server.store (after.clouds (number_of before.server)) after.faults)
   pub call : IsCall before.clouds after.clouds (number_of before.server) before.faults after.faults

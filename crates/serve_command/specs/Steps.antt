@@ -8,8 +8,7 @@ use Rattle.half_journal.specs.declared.errors.OpenErr.{OpenErr}
 use Rattle.half_journal.specs.Openings.{OnFault}
 use Rattle.journal_start.specs.declared.start.Header.{Header}
 use Rattle.user_dedup.specs.Exec.{Peer}
-use Rattle.user_dedup.specs.Served.{served_by}
-use Rattle.serve_command.specs.Serving.{RepliesOne, ServesOne}
+use Rattle.serve_command.specs.Serving.{Held, RepliesOne, ServesOne, held_of, standing}
 use Rattle.serve_command.specs.declared.served.Served.{Served}
 use Rattle.serve_command.specs.Connection.{Responds}
 use Rattle.cloud_server.specs.Serving.{IsServing}
@@ -29,6 +28,10 @@ pub record Moment : Type 0 where
 
 abbrev pub moment_of : Server → (ℕ → Cloud) → ℕ → Telling → Moment
 moment_of server clouds total tells = record { server = server; clouds = clouds; total = total; tells = tells }
+
+-- the server of this header with its cloud
+abbrev pub held_at : Header → Moment → Held
+held_at header m = held_of m.server.store (m.clouds header.cloud.0) m.total
 
 -- The next port was opened, and has the connection's bytes. No other port changes.
 pub record PassesNext (old new : Telling) (connection : Connection) : Type 0 where
@@ -50,10 +53,11 @@ pub record Goes (header : Header) (old new : Moment) (ended : Served) : Type 0 w
   pub same : new.server.store.header ≡ old.server.store.header
   pub call : IsCall old.clouds new.clouds header.cloud.0 old.total new.total
   pub told : new.tells.told ≡ old.tells.told
-  pub replied : OneServed (RepliesOne header.shape) old.tells new.tells tt tt ended
+  pub replied : OneServed RepliesOne old.tells new.tells (held_at header old) (held_at header new) ended
   pub served : IsTrue (old.clouds header.cloud.0).told → (p : Peer) → IsServing old.server (old.clouds header.cloud.0) p
       → (q : Peer) × IsServing new.server (new.clouds header.cloud.0) q
-      × OneServed (ServesOne header.shape (served_by header.rooms header.shape header.cloud.0)) old.tells new.tells p q ended
+      × OneServed (ServesOne header) old.tells new.tells
+      (standing p (old.clouds header.cloud.0)) (standing q (new.clouds header.cloud.0)) ended
 
 -- Connections that ended so were served, from a count of the ports' faults to a count.
 pub record Went (header : Header) (old new : Moment) (before : ℕ) (all : List Served) (after : ℕ)
@@ -61,11 +65,11 @@ pub record Went (header : Header) (old new : Moment) (before : ℕ) (all : List 
   pub same : new.server.store.header ≡ old.server.store.header
   pub call : IsCall old.clouds new.clouds header.cloud.0 old.total new.total
   pub told : new.tells.told ≡ old.tells.told
-  pub replied : ServeRun (RepliesOne header.shape) old.tells new.tells tt before all tt after
+  pub replied : ServeRun RepliesOne old.tells new.tells (held_at header old) before all (held_at header new) after
   pub served : IsTrue (old.clouds header.cloud.0).told → (p : Peer) → IsServing old.server (old.clouds header.cloud.0) p
       → (q : Peer) × IsServing new.server (new.clouds header.cloud.0) q
-      × ServeRun (ServesOne header.shape (served_by header.rooms header.shape header.cloud.0)) old.tells new.tells p before
-      all q after
+      × ServeRun (ServesOne header) old.tells new.tells
+      (standing p (old.clouds header.cloud.0)) before all (standing q (new.clouds header.cloud.0)) after
 
 -- What a search for rooms does to the counts: they rise where a read failed, and else they stay.
 abbrev pub Counts : {T : Type 0} → Cloud → Cloud → ℕ → ℕ → Result T OpenErr → Type 0

@@ -126,8 +126,12 @@ fn serve_in<K: Sink, V: Shelf, P: Ports>(
 ///
 /// On a told cloud whose areas stand for a list within the rooms the first connection begins with that list, and each
 /// later one with the list and the pending command that the one before left; each image now stands for what the last
-/// one left. Each reply is the one that the list gives, however the bytes came in pieces. The shelf's other clouds are
-/// as they were.
+/// one left, and each image between two requests for what the cloud has there, or for that with the command of the
+/// request that is answered next. Each reply is the one that the list gives, however the bytes came in pieces. The shelf's
+/// other clouds are as they were.
+///
+/// Whatever the cloud holds, each request is replied to as by `Server::execute`. So Fault comes only where the cloud's
+/// count rose, and Damaged only behind a Fault.
 pub fn serve<K: Sink, V: Shelf, P: Ports>(
     alloc: Global,
     shape: Shape,

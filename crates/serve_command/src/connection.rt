@@ -3,9 +3,9 @@
 ghost use Rattle.std.specs.Prelude.{◌≡◌, IsTrue};
 ghost use Rattle.cd_edges.specs.Shelf.{IsCall};
 ghost use Rattle.user_dedup.specs.Exec.{Peer};
-ghost use Rattle.cloud_server.specs.Serving.{IsServing, number_of, server_serves};
+ghost use Rattle.cloud_server.specs.Serving.{IsServing, number_of};
 ghost use Rattle.serve_command.specs.Connection.{EndsWithCause, Serves};
-ghost use Rattle.serve_command.specs.Serving.{RepliesOne, ServesOne, place_of};
+ghost use Rattle.serve_command.specs.Serving.{RepliesOne, ServesOne, held_of, place_of, standing};
 
 use crate::responder::CloudResponder;
 use crate::{Served, serve_frames};
@@ -27,10 +27,15 @@ fn serve_responder<V: Shelf, P: Ports>(
         → IsServing responder.old.server.now (V.cloud_at responder.old.shelf.now (number_of responder.old.server.now)) p
         → (q : Peer)
         × IsServing responder.new.server.now (V.cloud_at responder.new.shelf.now (number_of responder.old.server.now)) q
-        × Serves (ServesOne responder.old.server.now.store.header.shape (server_serves responder.old.server.now))
-        (P.tells ports.old) (P.tells ports.new) port p q result }
-    ensures replied { Serves (RepliesOne responder.old.server.now.store.header.shape)
-        (P.tells ports.old) (P.tells ports.new) port tt tt result }
+        × Serves (ServesOne responder.old.server.now.store.header) (P.tells ports.old) (P.tells ports.new) port
+        (standing p (V.cloud_at responder.old.shelf.now (number_of responder.old.server.now)))
+        (standing q (V.cloud_at responder.new.shelf.now (number_of responder.old.server.now))) result }
+    ensures replied { Serves RepliesOne (P.tells ports.old) (P.tells ports.new) port
+        (held_of responder.old.server.now.store
+        (V.cloud_at responder.old.shelf.now (number_of responder.old.server.now)) (V.faults responder.old.shelf.now))
+        (held_of responder.new.server.now.store
+        (V.cloud_at responder.new.shelf.now (number_of responder.old.server.now)) (V.faults responder.new.shelf.now))
+        result }
     ensures same { responder.new.server.now.store.header ≡ responder.old.server.now.store.header }
     ensures call { IsCall (V.cloud_at responder.old.shelf.now) (V.cloud_at responder.new.shelf.now)
         (number_of responder.old.server.now) (V.faults responder.old.shelf.now) (V.faults responder.new.shelf.now) }
@@ -45,8 +50,12 @@ fn serve_responder<V: Shelf, P: Ports>(
 ///
 /// Each frame that comes is a request's content, and is answered by one frame, in order, however the bytes come in
 /// pieces. On a cloud that stands as a peer each reply is the one that the peer's list gives, and the peer goes on by
-/// the requests; `Malformed` is the reply to content that asks nothing. On any other cloud each reply is one that some
-/// server gives to its request.
+/// the requests: whenever a crash comes between two of them, it leaves a list that the peer has there, or that list
+/// with the command of the request that is answered next. `Malformed` is the reply to content that asks nothing.
+///
+/// Whatever the cloud holds, each request is replied to as by `Server::execute`. Fault comes only where the cloud's
+/// count of faults rose, and any other reply leaves it; Damaged only from a closed server, that is behind a Fault or
+/// where the server was closed at first.
 ///
 /// Where the ports tell their bytes: for `End` the stream ended between frames, and for `Cut` inside one, of which
 /// `got` bytes came; for
@@ -65,10 +74,12 @@ pub fn serve_connection<V: Shelf, P: Ports>(
     ensures served { IsTrue (V.cloud_at shelf.old (number_of server.old)).told → (p : Peer)
         → IsServing server.old (V.cloud_at shelf.old (number_of server.old)) p
         → (q : Peer) × IsServing server.new (V.cloud_at shelf.new (number_of server.old)) q
-        × Serves (ServesOne server.old.store.header.shape (server_serves server.old))
-        (P.tells ports.old) (P.tells ports.new) port p q result }
-    ensures replied { Serves (RepliesOne server.old.store.header.shape)
-        (P.tells ports.old) (P.tells ports.new) port tt tt result }
+        × Serves (ServesOne server.old.store.header) (P.tells ports.old) (P.tells ports.new) port
+        (standing p (V.cloud_at shelf.old (number_of server.old)))
+        (standing q (V.cloud_at shelf.new (number_of server.old))) result }
+    ensures replied { Serves RepliesOne (P.tells ports.old) (P.tells ports.new) port
+        (held_of server.old.store (V.cloud_at shelf.old (number_of server.old)) (V.faults shelf.old))
+        (held_of server.new.store (V.cloud_at shelf.new (number_of server.old)) (V.faults shelf.new)) result }
     ensures same { server.new.store.header ≡ server.old.store.header }
     ensures call { IsCall (V.cloud_at shelf.old) (V.cloud_at shelf.new) (number_of server.old) (V.faults shelf.old)
         (V.faults shelf.new) }

@@ -18,6 +18,7 @@ returns-in-Ok-clause-served g c =
     (Ok c.in-Ok.field-0)
     c.requires.of c.in-Ok.is (record {
       header_is = r.same;
+      at_end = r.«open»;
       kept = r.kept;
       loaded = r.loaded;
       whole = r.whole;
@@ -53,6 +54,7 @@ returns-in-Err-clause-served g c =
     (g.V.Shelf.faults c.args.shelf.now) (g.V.Shelf.faults c.reopen.new.shelf) c.reopen.result (Err c.in-Err.error)
     c.requires.of c.in-Err.is (record {
       header_is = r.same;
+      at_end = r.«open»;
       kept = r.kept;
       loaded = r.loaded;
       whole = r.whole;
