@@ -101,7 +101,7 @@ nat_cases a b = elim (cases_eq a b) [
 line_set : (lines : List Line) (cloud : ℕ) (line : Line) → cloud < length lines → line_of (set lines cloud line) cloud ≡ line
 line_set lines cloud line within = get_or-set_same lines cloud line no_line within
 
-line_other : (lines : List Line) (cloud other : ℕ) (line : Line) → other ≢ cloud → line_of (set lines cloud line) other ≡ line_of lines other
+pub line_other : (lines : List Line) (cloud other : ℕ) (line : Line) → other ≢ cloud → line_of (set lines cloud line) other ≡ line_of lines other
 line_other lines cloud other line apart = get_or-set_other lines cloud other line no_line apart
 
 -- a line that keeps its port leaves every cloud's port

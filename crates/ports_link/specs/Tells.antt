@@ -1,5 +1,5 @@
 -- What a link over ports tells: which clouds it reaches, and what was said with them.
-use Rattle.std.specs.Prelude.{◌≡◌, ◌≤◌, ℕ, Bool, true, false, List, [], ◌++◌, Option, Some, None, IsTrue}
+use Rattle.std.specs.Prelude.{◌≡◌, ◌≢◌, ◌≤◌, ℕ, Bool, true, false, List, [], ◌++◌, Option, Some, None, IsTrue}
 use Rattle.user_dedup.specs.Link.{Exchange, LinkTelling, Talk}
 use Rattle.frames.specs.Frames.{AreContents, stream}
 use Rattle.cd_edges.specs.Ports.{Telling, OthersStay}
@@ -45,13 +45,14 @@ pub record PassesOn (old new : Telling) (before after : Line) (port : ℕ) (requ
   pub others : OthersStay old new port
   pub heard : IsHeard old new port before after request reply
 
--- What an ask leaves: the same ports, which tell as much as before and have failed as often or more, and of each cloud the port that it had.
--- Ports that tell their bytes say this of it.
+-- What an ask leaves: the same ports, which tell as much as before and have failed as often or more, of each cloud the port that it had, and
+-- the other clouds' lines. Ports that tell their bytes say this of it.
 pub record PassesOver {P : Type 0} (tells : P → Telling) (faults : P → ℕ) (old : PortsLink P) (e : Exchange) (new : PortsLink P) : Type 0 where
   pub same_reference : new.ports.ghost_name ≡ old.ports.ghost_name
   pub told : (tells new.ports.now).told ≡ (tells old.ports.now).told
   pub later : faults old.ports.now ≤ faults new.ports.now
   pub lines : (cloud : ℕ) → (line_of new.lines.items.items cloud).port ≡ (line_of old.lines.items.items cloud).port
+  pub apart : (cloud : ℕ) → cloud ≢ e.cloud → line_of new.lines.items.items cloud ≡ line_of old.lines.items.items cloud
   pub bytes : IsTrue (tells old.ports.now).told → (port : ℕ) → (line_of old.lines.items.items e.cloud).port ≡ Some port
       → PassesOn (tells old.ports.now) (tells new.ports.now)
       (line_of old.lines.items.items e.cloud) (line_of new.lines.items.items e.cloud) port e.content e.reply

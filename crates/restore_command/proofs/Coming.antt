@@ -97,7 +97,8 @@ module _ {P : Type 0} (tells : P → Telling) (faults : P → ℕ) (start : Port
     (rises : IsStrictlyIncreasing (clouds_of greeted.lines.items))
     (speak : IsTrue call.before.told
     → IsTrue (tells start.ports.now).told × HaveTalks (tells start.ports.now) greeted.lines.items)
-    (end : PortsLink P) (last : tells end.ports.now ≡ call.after) where
+    (end : PortsLink P) (last : tells end.ports.now ≡ call.after) (since : faults start.ports.now ≡ call.faults_before)
+    (until : faults end.ports.now ≡ call.faults_after) where
   abbrev items : List (CloudNo × ℕ)
   items = greeted.lines.items
 
@@ -156,8 +157,12 @@ module _ {P : Type 0} (tells : P → Telling) (faults : P → ℕ) (start : Port
         brought = subst (λ (c : List ℕ). Brought greeted.shape c [] file) (sym chosen.clouds)
             (subst (λ (b : List ℕ). Brought greeted.shape came.subset b file) none came.brought);
         from = tells came.mid.ports.now;
+        count = faults came.mid.ports.now;
+        later = subst (λ (n : ℕ). faults came.mid.ports.now ≤ n) until came.restored.asked.later;
         refused = λ told.
             let s = speak told in
+            subst (λ (n : ℕ). AreRefused call greeted behind n came.tries (tells came.mid.ports.now)
+            (faults came.mid.ports.now)) since
             (walk tells faults start greeted call bytes first reach rises s.0 s.1 came.front came.tries came.gone within
             came.mid came.refused).refused;
         fetched = fetched;
@@ -187,9 +192,12 @@ module _ {P : Type 0} (tells : P → Telling) (faults : P → ℕ) (start : Port
     each = came.each;
     refused = λ told.
         let s = speak told in
-        subst (λ (u : Telling). AreRefused call greeted behind came.tries u) last
+        subst (λ (n : ℕ). AreRefused call greeted behind call.faults_before came.tries call.after n) until
+        (subst (λ (n : ℕ). AreRefused call greeted behind n came.tries call.after (faults end.ports.now)) since
+        (subst (λ (u : Telling). AreRefused call greeted behind (faults start.ports.now) came.tries u
+        (faults end.ports.now)) last
         (walk tells faults start greeted call bytes first reach rises s.0 s.1 choices came.tries came.gone (λ x has. has) end
-        came.refused).refused;
+        came.refused).refused));
     exact = λ told few.
         let s = speak told in
         let only = one_only few in

@@ -10,7 +10,7 @@ use Rattle.cd_base.specs.declared.ids.Version.{Version}
 use Rattle.cd_base.specs.declared.shape.Shape.{Shape}
 use Rattle.frames.specs.Frames.{AreContents, frame, stream}
 use Rattle.cd_edges.specs.Ports.{Telling}
-use Rattle.messages.specs.ReplyReading.{reply_at, reply_left}
+use Rattle.messages.specs.ReplyReading.{reply_at}
 use Rattle.messages.specs.declared.reply.Reply.{Reply}
 use Rattle.recipe.specs.declared.recipe.Recipe.{Recipe}
 use Rattle.user_dedup.proofs.Owned.{contains_cases, contains_nothing}
@@ -32,6 +32,7 @@ use Rattle.restore_command.specs.Spoken.{HasTalked, HaveTalked, none_ended}
 use Rattle.restore_command.specs.Tried.{IsFetch, IsStop}
 use Rattle.restore_command.proofs.Choosing.{cloud_of, name_of}
 use Rattle.restore_command.proofs.Lines.{numbers_in, same_clouds}
+use Rattle.restore_command.proofs.Passing.{not_empty}
 
 -- ---- one cloud
 
@@ -143,11 +144,6 @@ module _ {L : Type 0} (tells : L → Telling) (lines_in : L → List Line) (old 
         }
 
 -- ---- lines that hadn't ended
-
--- no reply is empty
-not_empty : (r : Reply) → reply_at [] ≡ Ok r → ⊥
-unfolding reply_at reply_left
-not_empty r e = cc
 
 -- where a reply came the line hadn't ended
 unended : (b : Bool) (bytes : List ℕ) (coming sent received asks replies : List (List ℕ)) (ask reply : List ℕ) (r : Reply)

@@ -11,32 +11,39 @@ use Rattle.ports_link.specs.declared.link.PortsLink.{PortsLink}
 use Rattle.ports_link.specs.Lines.{line_of, lines_for}
 use Rattle.ports_link.specs.Tells.{HasTalk, telling}
 use Rattle.restore_job.proofs.Speaking.{unlost_as}
+use Rattle.restore_job.specs.Asking.{IsUnread}
 use Rattle.restore_job.specs.Exchanges.{LostSaid, RestoreSaid, behind_all}
 use Rattle.restore_job.specs.declared.error.RestoreErr.{RestoreErr}
 use Rattle.restore_job.specs.declared.error.RestoreErr.TheVariants as errors
 use Rattle.ports_link.specs.Hellos.{HaveTalks, clouds_of, hello}
 use Rattle.ports_link.specs.declared.greeting.Greeted.{Greeted}
 use Rattle.subset_restore.specs.Subsets.{IsSubset, subsets}
-use Rattle.subset_restore.specs.Tries.{Try, GoneThrough, NoneYet, Passed, Refused, HoldsRefuser, refuser}
+use Rattle.subset_restore.specs.Tries.{Try, GoneThrough, NoneYet, Passed, Refused, HasRefused, HoldsRefuser, refuser}
 use Rattle.subset_restore.specs.Ends.{Sought, AllRefused, OneRestore, WasLost}
 use Rattle.subset_restore.proofs.Choices.{each_is_subset, subset_among}
 use Rattle.subset_restore.proofs.Elements.{contains_end, contains_front, of_all}
 use Rattle.restore_command.specs.Calls.{Call, ports_of, tag_in}
 use Rattle.restore_command.specs.Tried.{AreRefused, IsFetch, IsRefused, IsStop, Heard}
-use Rattle.restore_command.proofs.Choosing.{Chosen, choose, line_at, port_of}
+use Rattle.restore_command.proofs.Choosing.{Chosen, choose, cloud_of, line_at, port_of}
 use Rattle.restore_command.proofs.Lines.{AreReachedBy, line_on}
-use Rattle.restore_command.proofs.Passing.{AreOn, Kept, kept, others}
-use Rattle.restore_command.proofs.Saying.{fetch_of, fetched_fresh, stop_of}
+use Rattle.restore_command.proofs.Passing.{AreOn, Kept, kept, open_on, others}
+use Rattle.restore_command.proofs.Saying.{fetch_of, fetched_fresh, stop_fresh, stop_of}
 use Rattle.restore_command.proofs.Lists.{apart}
 
 -- ---- refusals, one after another
 
-refused_on : (call : Call) (greeted : Greeted) (a b c : Telling) (tries : List Try) (x : Try)
-    → AreRefused call greeted a tries b → IsRefused call greeted b x c → AreRefused call greeted a (tries ++ x ∷ []) c
-refused_on call greeted a b c [] x all one =
-    (c, subst (λ (t : Telling). IsRefused call greeted t x c) all one, refl)
-refused_on call greeted a b c (y ∷ tries) x all one =
-    (all.0, all.1, refused_on call greeted all.0 b c tries x all.2 one)
+refused_on : (call : Call) (greeted : Greeted) (a b c : Telling) (m n o : ℕ) (tries : List Try) (x : Try)
+    → AreRefused call greeted a m tries b n → IsRefused call greeted b n x c o
+    → AreRefused call greeted a m (tries ++ x ∷ []) c o
+refused_on call greeted a b c m n o [] x all one = (
+  c,
+  o,
+  subst (λ (t : Telling). IsRefused call greeted t m x c o) all.0
+      (subst (λ (k : ℕ). IsRefused call greeted b k x c o) all.1 one),
+  (refl, refl),
+)
+refused_on call greeted a b c m n o (y ∷ tries) x all one =
+    (all.0, all.1, all.2, refused_on call greeted all.0 b c all.1 n o tries x all.3 one)
 
 -- the last of them
 pub record Last {L : Type 0} (t : LinkTelling L) (talk : L → ℕ → Talk → Type 0) (s : Sought) (bytes : List ℕ)
@@ -64,6 +71,25 @@ lost_more tries x cloud lost = (lost.0, contains_front tries (x ∷ []) lost.0 l
 lost_refuses : (tries : List Try) (subset : List ℕ) (cloud : ℕ) → Contains subset cloud → WasLost tries cloud
     → HoldsRefuser tries subset
 lost_refuses tries subset cloud has lost = (cloud, has, (lost.0, lost.1, ap refuser lost.2))
+
+refused_more : (tries : List Try) (x : Try) (cloud : ℕ) → HasRefused tries cloud → HasRefused (tries ++ x ∷ []) cloud
+refused_more tries x cloud has = (has.0, contains_front tries (x ∷ []) has.0 has.1, has.2)
+
+-- a cloud whose reply couldn't be read refused
+unread_refuses : (e : RestoreErr) (cloud : ℕ) → e ≢ errors.NoMemory → IsUnread e cloud → refuser e ≡ Some cloud
+unread_refuses (errors.Missing c) cloud plain is = absurd is
+unread_refuses (errors.Lost c) cloud plain is = ap (λ (n : ℕ). Some n) (sym is)
+unread_refuses (errors.CloudFault c) cloud plain is = absurd is
+unread_refuses (errors.CloudDamaged c at byte) cloud plain is = absurd is
+unread_refuses (errors.CloudRotten c named found) cloud plain is = absurd is
+unread_refuses (errors.CloudNoMemory c) cloud plain is = absurd is
+unread_refuses (errors.Strange c kind) cloud plain is = ap (λ (n : ℕ). Some n) (sym is)
+unread_refuses (errors.RecipesDiffer a b place) cloud plain is = absurd is
+unread_refuses (errors.ShareLength c secret found wanted) cloud plain is = absurd is
+unread_refuses (errors.BadShare c secret named found) cloud plain is = absurd is
+unread_refuses (errors.BadSecret secret named found) cloud plain is = absurd is
+unread_refuses (errors.BadPad secret at byte) cloud plain is = absurd is
+unread_refuses errors.NoMemory cloud plain is = absurd (plain refl)
 
 -- what is told of a cloud after a restore that was refused, unless its ask was lost
 module _ {L : Type 0} (talk : L → ℕ → Talk → Type 0) (old new : L) (P : RestoreErr → Type 0)
@@ -159,12 +185,16 @@ module _ {P : Type 0} (tells : P → Telling) (faults : P → ℕ) (start : Port
         port_of chosen.lines at.line at.has,
       )
 
-  -- so far: the ports are kept, and what is to come of each cloud is told but of those of which an ask was lost
+  -- so far: the ports are kept, and what is to come of each cloud is told but of those of which an ask was lost; and the line
+  -- of each that hasn't refused has not ended
   pub record Walked (tries : List Try) (l : PortsLink P) : Type 0 where
     pub keeps : Kept tells faults start l
     pub speaks : (cloud : ℕ) → Contains (clouds_of items) cloud → (WasLost tries cloud → ⊥)
         → (before : Talk) × talk l cloud before
-    pub refused : AreRefused call greeted (tells start.ports.now) tries (tells l.ports.now)
+    pub unended : (cloud : ℕ) → Contains (clouds_of items) cloud → (HasRefused tries cloud → ⊥)
+        → (line_of l.lines.items.items cloud).ended ≡ false
+    pub refused : AreRefused call greeted (tells start.ports.now) (faults start.ports.now) tries (tells l.ports.now)
+        (faults l.ports.now)
 
   module _ (told : IsTrue (tells start.ports.now).told) (talks : HaveTalks (tells start.ports.now) items) where
     pub walked_none : Walked [] start
@@ -176,7 +206,10 @@ module _ {P : Type 0} (tells : P → Telling) (faults : P → ℕ) (start : Port
             subst (λ (all : List Line). HasTalk (tells start.ports.now) all cloud
                 (record { asked = hello ∷ []; coming = there.0 })) (sym first) there.1,
           );
-      refused = refl;
+      unended = λ cloud has not.
+          let at = line_at items cloud has in
+          subst (λ (n : ℕ). (line_of start.lines.items.items n).ended ≡ false) at.is (open_line at.line at.has);
+      refused = (refl, refl);
     }
 
     -- one restore, behind some
@@ -233,6 +266,16 @@ module _ {P : Type 0} (tells : P → Telling) (faults : P → ℕ) (start : Port
             fetched_fresh call greeted.shape (tells l.ports.now) (tells new.ports.now) chosen.lines _ f.sent f.received
             file f.talked_so (f.fetched none)
 
+    -- no line of a choice had ended of which none had refused
+    fresh_in : (tries : List Try) (l : PortsLink P) → Walked tries l → (subset : List ℕ) (chosen : Chosen items subset)
+        → (HoldsRefuser tries subset → ⊥) → (line : CloudNo × ℕ) → Contains chosen.lines line
+        → (line_of l.lines.items.items line.0.0).ended ≡ false
+    fresh_in tries l w subset chosen free line has =
+        let within : Contains subset line.0.0 = subst (λ (c : List ℕ). Contains c line.0.0) chosen.clouds
+        (cloud_of chosen.lines line has) in
+        w.unended line.0.0 (cloud_of items line (of_all (Contains items) chosen.lines line chosen.among has))
+        (λ refused. free (line.0.0, within, refused))
+
     walked_on : (tries : List Try) (l new : PortsLink P) (subset : List ℕ) (e : RestoreErr) → Walked tries l
         → Contains choices subset → (HoldsRefuser tries subset → ⊥) → e ≢ errors.NoMemory
         → OneRestore t talk wanted subset bytes bytes l (Err e) new
@@ -250,16 +293,24 @@ module _ {P : Type 0} (tells : P → Telling) (faults : P → ℕ) (start : Port
               call.version subset bytes bytes (Err f))
               (λ f said c b is_so. let y = said.spoken c b is_so in (behind_all c said.log b, y.0)) e plain one.said
               one.beside cloud (λ same. not (x, contains_end tries x, same)) before.0 before.1;
-          refused = refused_on call greeted (tells start.ports.now) (tells l.ports.now) (tells new.ports.now) tries x
-              w.refused (record {
+          unended = λ cloud has not.
+              let at = line_at items cloud has in
+              let on = subst (λ (n : ℕ). (line_of l.lines.items.items n).port ≡ Some at.line.1) at.is
+              (on_port l w.keeps at.line at.has) in
+              open_on tells faults (IsUnread e) one.readable.0 l new one.readable.1 (subst IsTrue (sym w.keeps.told) told)
+              cloud at.line.1 on (λ is. not (x, contains_end tries x, unread_refuses e cloud plain is))
+              (w.unended cloud has (λ refused. not (refused_more tries x cloud refused)));
+          refused = refused_on call greeted (tells start.ports.now) (tells l.ports.now) (tells new.ports.now)
+              (faults start.ports.now) (faults l.ports.now) (faults new.ports.now) tries x w.refused (record {
                 lines = chosen.lines;
                 clouds = chosen.clouds;
                 among = chosen.among;
                 stopped = unlost_as (Unit {0}) (Unit {0}) e _ _
-                    (λ said. (
-                      λ cloud. (line_of l.lines.items.items cloud).ended,
-                      stop_on tries l new w subset chosen free (Err e) bytes one among rising e said,
-                    )) one.said;
+                    (λ said. stop_fresh call greeted.shape (tells l.ports.now) (tells new.ports.now) chosen.lines _ e
+                    (λ line has. fresh_in tries l w subset chosen free line has)
+                    (stop_on tries l new w subset chosen free (Err e) bytes one among rising e said)) one.said;
+                lost = one.asked.lost;
+                later = one.asked.later;
                 others = others_on tries l new w subset chosen free (Err e) bytes one;
               });
         }

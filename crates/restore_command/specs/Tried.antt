@@ -1,9 +1,11 @@
 -- Restores over ports from one choice of the clouds after another.
-use Rattle.std.specs.Prelude.{◌≡◌, ◌⊎◌, ℕ, Bool, IsTrue, List, [], ◌∷◌, ◌++◌, length, Result, Ok, Err, All}
+use Rattle.std.specs.Prelude.{◌≡◌, ◌≤◌, ◌⊎◌, ℕ, Bool, true, IsTrue, List, [], ◌∷◌, ◌++◌, length, Result, Ok, Err, All}
 use Rattle.std.specs.List.{Contains}
 use Rattle.cd_base.specs.declared.ids.CloudNo.{CloudNo}
 use Rattle.cd_base.specs.declared.shape.Shape.{Shape}
+use Rattle.cd_edges.specs.Causes.{Rose}
 use Rattle.cd_edges.specs.Ports.{Telling}
+use Rattle.restore_job.specs.Asking.{is_loss}
 use Rattle.restore_job.specs.Brought.{Brought}
 use Rattle.restore_job.specs.Exchanges.{Unlost}
 use Rattle.restore_job.specs.declared.error.RestoreErr.{RestoreErr}
@@ -39,21 +41,24 @@ pub record IsStop (call : Call) (shape : Shape) (lines : List (CloudNo × ℕ)) 
 abbrev pub Heard : RestoreErr → Type 0 → Type 0
 Heard e P = let came : Result (Unit {0}) RestoreErr = Err e in Unlost came P
 
--- A restore from a choice of the clouds was refused: by what was said with these, or since an ask was lost. Every port
--- but theirs is as it was.
-pub record IsRefused (call : Call) (greeted : Greeted) (before : Telling) (x : Try) (after : Telling) : Type 0 where
+-- A restore from a choice of the clouds was refused: by what was said with these, none of whose lines had ended before;
+-- or since an ask was lost, and then the ports' count of faults rose. Every port but theirs is as it was.
+pub record IsRefused (call : Call) (greeted : Greeted) (before : Telling) (count : ℕ) (x : Try) (after : Telling)
+    (count_after : ℕ) : Type 0 where
   pub lines : List (CloudNo × ℕ)
   pub clouds : clouds_of lines ≡ x.subset
   pub among : All (Contains greeted.lines.items) lines
-  pub stopped : Heard x.refusal
-      ((had_ended : ℕ → Bool) × IsStop call greeted.shape lines had_ended before after x.refusal)
+  pub stopped : Heard x.refusal (IsStop call greeted.shape lines none_ended before after x.refusal)
+  pub lost : is_loss x.refusal ≡ true → Rose count count_after
+  pub later : count ≤ count_after
   pub others : (port : ℕ) → ¬ Contains (ports_of lines) port → after.port port ≡ before.port port
 
 -- one such restore after another
-abbrev pub AreRefused : Call → Greeted → Telling → List Try → Telling → Type 0
-AreRefused call greeted before [] after = after ≡ before
-AreRefused call greeted before (x ∷ tries) after =
-    (mid : Telling) × IsRefused call greeted before x mid × AreRefused call greeted mid tries after
+abbrev pub AreRefused : Call → Greeted → Telling → ℕ → List Try → Telling → ℕ → Type 0
+AreRefused call greeted before count [] after count_after = (after ≡ before) × (count_after ≡ count)
+AreRefused call greeted before count (x ∷ tries) after count_after =
+    (mid : Telling) × (between : ℕ) × IsRefused call greeted before count x mid between
+    × AreRefused call greeted mid between tries after count_after
 
 -- ---- all of them
 
@@ -71,7 +76,9 @@ pub record FileFrom (call : Call) (greeted : Greeted) (behind : Telling) (bytes 
   pub free : HoldsRefuser tries (clouds_of chosen) → ⊥
   pub brought : Brought greeted.shape (clouds_of chosen) [] bytes
   pub from : Telling
-  pub refused : IsTrue call.before.told → AreRefused call greeted behind tries from
+  pub count : ℕ
+  pub later : count ≤ call.faults_after
+  pub refused : IsTrue call.before.told → AreRefused call greeted behind call.faults_before tries from count
   pub fetched : IsTrue call.before.told → IsFetch call greeted.shape chosen from call.after bytes
   pub exact : IsTrue call.before.told → length greeted.lines.items ≡ greeted.shape.k
       → IsFetch call greeted.shape greeted.lines.items behind call.after bytes
@@ -88,7 +95,8 @@ pub record NotFrom (call : Call) (greeted : Greeted) (behind : Telling) (e : Res
   pub gone : GoneThrough (subsets greeted.shape.k (clouds_of greeted.lines.items)) tries
   pub each : All (λ subset. WasTried tries subset ⊎ HoldsRefuser tries subset)
       (subsets greeted.shape.k (clouds_of greeted.lines.items))
-  pub refused : IsTrue call.before.told → AreRefused call greeted behind tries call.after
+  pub refused : IsTrue call.before.told
+      → AreRefused call greeted behind call.faults_before tries call.after call.faults_after
   pub exact : IsTrue call.before.told → length greeted.lines.items ≡ greeted.shape.k
       → Heard e (IsStop call greeted.shape greeted.lines.items none_ended behind call.after e)
 

@@ -69,7 +69,8 @@ pub fn restore_greeted<P: Ports>(
     ensures others { IsTrue (P.tells ports.old).told → (port : ℕ) → ¬ Contains (ports_of greeted.now.lines.items) port
         → (P.tells ports.new).port port ≡ (P.tells ports.old).port port }
     ensures came { (call : Call) → call.user ≡ user → call.path ≡ path.now → call.version ≡ version
-        → call.after ≡ P.tells ports.new
+        → call.after ≡ P.tells ports.new → call.faults_before ≡ P.faults ports.old
+        → call.faults_after ≡ P.faults ports.new
         → (IsTrue call.before.told → IsTrue (P.tells ports.old).told
         × HaveTalks (P.tells ports.old) greeted.now.lines.items)
         → CameBy call greeted.now (P.tells ports.old) result file.new }

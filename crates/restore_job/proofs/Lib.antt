@@ -10,3 +10,4 @@ pub mod Batches
 pub mod Ending
 pub mod Speaking
 pub mod Beside
+pub mod Readable

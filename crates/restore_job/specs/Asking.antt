@@ -1,7 +1,9 @@
 -- What reading does to the clouds of a link.
-use Rattle.std.specs.Prelude.{◌≡◌, ◌≢◌, ℕ, ◌≤◌, ◌⊎◌, Bool, true, false, IsTrue, List, [], ◌∷◌, ◌++◌, Result, Ok, Err}
+use Rattle.std.specs.Prelude.{◌≡◌, ◌≢◌, ℕ, ◌≤◌, ◌⊎◌, Bool, true, false, IsTrue, List, [], ◌∷◌, ◌++◌, Some, Result, Ok, Err}
 use Rattle.std.specs.List.{Contains}
 use Rattle.cd_edges.specs.Causes.{Rose}
+use Rattle.messages.specs.ReplyReading.{reply_at}
+use Rattle.messages.specs.declared.reply.Reply.{Reply}
 use Rattle.user_dedup.specs.Exec.{Peer, Settles, Stays, CountsOn}
 use Rattle.user_dedup.specs.Link.{LinkTelling, Exchange, Passes, ReadsFrom}
 use Rattle.restore_job.specs.declared.error.RestoreErr.{RestoreErr}
@@ -74,3 +76,22 @@ pub record Asked {L : Type 0} (t : LinkTelling L) (clouds : List ℕ) (old new :
   pub later : t.losses old ≤ t.losses new
   pub lost : loss ≡ true → Rose (t.losses old) (t.losses new)
   pub lossless : IsTrue (t.lossless old) → (loss ≡ false) × IsTrue (t.lossless new)
+
+-- a reply came, and it is one that can be read
+abbrev pub IsReadable : Exchange → Type 0
+IsReadable e = (content : List ℕ) × (answer : Reply) × (e.reply ≡ Some content) × (reply_at content ≡ Ok answer)
+
+-- The refusal says of this cloud that its reply was lost, or strange. Where memory ran out it may be any.
+abbrev pub IsUnread : RestoreErr → ℕ → Type 0
+IsUnread (errors.Lost c) cloud = cloud ≡ c.0
+IsUnread (errors.Strange c kind) cloud = cloud ≡ c.0
+IsUnread errors.NoMemory cloud = Unit {0}
+IsUnread e cloud = ⊥
+
+abbrev pub UnreadIn : {A : Type 0} → Result A RestoreErr → ℕ → Type 0
+UnreadIn (Ok x) cloud = ⊥
+UnreadIn (Err e) cloud = IsUnread e cloud
+
+-- Asks were made, and each brought a reply that can be read, but of the cloud whose reply the result calls lost or strange.
+abbrev pub Readable : {L A : Type 0} → LinkTelling L → L → L → Result A RestoreErr → Type 0
+Readable t old new result = (asks : List Exchange) × Passes t (λ e. UnreadIn result e.cloud ⊎ IsReadable e) old asks new

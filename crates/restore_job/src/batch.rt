@@ -8,7 +8,7 @@ ghost use Rattle.cd_base.specs.declared.ids.Version.{Version};
 ghost use Rattle.message_fields.specs.Fingerprints.{batch_limit};
 ghost use Rattle.recipe.specs.Spelling.{item_limit};
 ghost use Rattle.reed_solomon.specs.Dispersal.{AreChoice};
-ghost use Rattle.restore_job.specs.Asking.{Asked, Leads, is_lost};
+ghost use Rattle.restore_job.specs.Asking.{Asked, Leads, Readable, is_lost};
 ghost use Rattle.restore_job.specs.Reading.{Ends};
 ghost use Rattle.restore_job.specs.Brought.{AreSecrets, Extends};
 ghost use Rattle.restore_job.specs.Exchanges.{BatchRun, Exchange, HasSpoken, ItemsRun, LostSaid, Unlost};
@@ -83,6 +83,7 @@ fn restore_batch<L: Link>(
     ensures said { Unlost result ((log : List Exchange) × HasSpoken L.talk link.old link.new log
         × BatchRun shape user clouds.now points.now firsts.now recipes.now place count log out.old out.new result) }
     ensures beside { LostSaid L.talk link.old link.new result }
+    ensures readable { Readable L.tells link.old link.new result }
 {
     rooms.clear();
     match fetch_batch(
@@ -133,6 +134,7 @@ pub fn restore_items<L: Link>(
     ensures said { Unlost result ((log : List Exchange) × HasSpoken L.talk link.old link.new log
         × ItemsRun shape user clouds.now points.now firsts.now recipes.now 0 log out.old out.new result) }
     ensures beside { LostSaid L.talk link.old link.new result }
+    ensures readable { Readable L.tells link.old link.new result }
 {
     let mut rooms = match Rooms::make(alloc, BATCH_LIMIT) {
         Ok(rooms) => rooms,

@@ -14,10 +14,10 @@ ghost use Rattle.messages.specs.declared.request.Request.TheVariants as requests
 ghost use Rattle.messages.specs.Requests.{IsRequest};
 ghost use Rattle.recipe.specs.Spelling.{Fits, item_limit};
 ghost use Rattle.sha2.specs.Sha256.{sha256 as sha256_of};
-ghost use Rattle.user_dedup.specs.Link.{Asks, LeavesOthers, IsReading};
+ghost use Rattle.user_dedup.specs.Link.{Asks, LeavesOthers, IsReading, exchange_of};
 ghost use Rattle.user_dedup.specs.Owning.{fps_in};
 ghost use Rattle.user_dedup.specs.Requests.{IsAsked};
-ghost use Rattle.restore_job.specs.Asking.{Asked, Leads, is_lost};
+ghost use Rattle.restore_job.specs.Asking.{Asked, Leads, Readable, is_lost};
 ghost use Rattle.restore_job.specs.Brought.{HasShares};
 ghost use Rattle.restore_job.specs.Refusals.{Names};
 ghost use Rattle.restore_job.specs.Exchanges.{BatchSaid, Exchange, HasSpoken, LostSaid, RecipeSaid, RecipesSaid};
@@ -59,6 +59,7 @@ fn ask<L: Link>(
         (HasSpoken L.talk link.old link.new (record { cloud = cloud.0; request = request.now; reply = reply.new }
         ∷ [])) }
     ensures beside { LostSaid L.talk link.old link.new result }
+    ensures passes { L.tells.passes link.old (exchange_of cloud.0 request.now result reply.new) link.new }
 {
     match link.ask(cloud, request, reply) {
         Ok(()) => Ok(()),
@@ -91,6 +92,7 @@ fn fetch_recipe<L: Link>(
     ensures said { Unlost result ((x : Exchange) × HasSpoken L.talk link.old link.new (x ∷ [])
         × RecipeSaid shape request.now cloud x result) }
     ensures beside { LostSaid L.talk link.old link.new result }
+    ensures readable { Readable L.tells link.old link.new result }
 {
     match ask(link, cloud, request, reply) {
         Ok(()) => recipe_from(alloc, shape, cloud, reply.content()),
@@ -134,6 +136,7 @@ pub fn fetch_recipes<L: Link>(
     ensures said { Unlost result ((log : List Exchange) × HasSpoken L.talk link.old link.new log
         × RecipesSaid shape request.now clouds.now log result) }
     ensures beside { LostSaid L.talk link.old link.new result }
+    ensures readable { Readable L.tells link.old link.new result }
 {
     let mut recipes = Recipes::new(alloc);
     let mut rest = clouds;
@@ -227,6 +230,7 @@ fn fetch_shares<L: Link>(
     ensures said { Unlost result ((x : Exchange) × HasSpoken L.talk link.old link.new (x ∷ [])
         × SharesSaid shape user cloud firsts.now recipe.now place count x rooms.old rooms.new result) }
     ensures beside { LostSaid L.talk link.old link.new result }
+    ensures readable { Readable L.tells link.old link.new result }
 {
     let items = recipe.items.as_slice();
     let request = match shares_request(alloc, user, &items[place..place + count]) {
@@ -303,6 +307,7 @@ pub fn fetch_batch<L: Link>(
     ensures said { Unlost result ((log : List Exchange) × HasSpoken L.talk link.old link.new log
         × BatchSaid shape user firsts.now place count clouds.now recipes.now log rooms.old rooms.new result) }
     ensures beside { LostSaid L.talk link.old link.new result }
+    ensures readable { Readable L.tells link.old link.new result }
 {
     let Some((cloud, recipe, more, rest)) = next_pair(clouds, recipes) else {
         return Ok(());

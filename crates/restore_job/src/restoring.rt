@@ -12,7 +12,7 @@ ghost use Rattle.messages.specs.declared.request.Request.TheVariants as requests
 ghost use Rattle.messages.specs.Requests.{IsRequest};
 ghost use Rattle.recipe.specs.Spelling.{Fits};
 ghost use Rattle.reed_solomon.specs.Dispersal.{AreChoice};
-ghost use Rattle.restore_job.specs.Asking.{Asked, Leads, is_lost};
+ghost use Rattle.restore_job.specs.Asking.{Asked, Leads, Readable, is_lost};
 ghost use Rattle.restore_job.specs.Reading.{Ends, Restores};
 ghost use Rattle.restore_job.specs.Brought.{Agree, Appends, Brought};
 ghost use Rattle.restore_job.specs.Exchanges.{AgreedRun, Exchange, HasSpoken, LostSaid, RestoreRun, RestoreSaid, Unlost};
@@ -91,6 +91,7 @@ pub fn restore_agreed<L: Link>(
     ensures said { Unlost result ((log : List Exchange) × HasSpoken L.talk link.old link.new log
         × AgreedRun shape user clouds.now recipes.now log out.old out.new result) }
     ensures beside { LostSaid L.talk link.old link.new result }
+    ensures readable { Readable L.tells link.old link.new result }
 {
     let Some((first, recipe, others, rest)) = next_pair(clouds, recipes) else {
         return Ok(());
@@ -138,6 +139,7 @@ fn restore_into<L: Link>(
     ensures said { Unlost result ((log : List Exchange) × HasSpoken L.talk link.old link.new log
         × RestoreRun shape user (record { 0 = tag_at shape path.now }) version clouds.now log out.old out.new result) }
     ensures beside { LostSaid L.talk link.old link.new result }
+    ensures readable { Readable L.tells link.old link.new result }
 {
     let request = match recipe_request(alloc, shape, user, path, version) {
         Ok(request) => request,
@@ -216,6 +218,9 @@ pub fn restore<L: Link>(
 
     // Where an ask was lost: with each other cloud exchanges were had, which say what is to come of it.
     ensures beside { LostSaid L.talk link.old link.new result }
+
+    // Each other cloud's replies came and can be read, also where one cloud's is called lost or strange.
+    ensures readable { Readable L.tells link.old link.new result }
 {
     clouds.rises();
     let before = out.len();

@@ -8,7 +8,7 @@ use Rattle.cd_edges.specs.Causes.{Rose}
 use Rattle.user_dedup.specs.Exec.{Peer}
 use Rattle.user_dedup.specs.Link.{LinkTelling, Talk}
 use Rattle.user_dedup.proofs.Owned.{contains_here, contains_later, contains_nothing}
-use Rattle.restore_job.specs.Asking.{Asked, Leads, OnlyRead, AreRead, is_loss, is_lost}
+use Rattle.restore_job.specs.Asking.{Asked, Leads, OnlyRead, AreRead, Readable, is_loss, is_lost}
 use Rattle.restore_job.specs.Brought.{Brought}
 use Rattle.restore_job.specs.Exchanges.{LostSaid, RestoreSaid, Unlost}
 use Rattle.restore_job.specs.Reading.{Ends, ReadsBy, Restores}
@@ -178,6 +178,7 @@ module _ {L : Type 0} (t : LinkTelling L) (talk : L → ℕ → Talk → Type 0)
     pub restored : Leads t subset now new (Causes t now s.shape s.user (s.tag, s.version) result) (Restores s.shape s.user (s.tag, s.version) subset result bytes bytes')
     pub said : Unlost result (RestoreSaid talk now new s.shape s.user s.tag s.version subset bytes bytes' result)
     pub beside : LostSaid talk now new result
+    pub readable : Readable t now new result
 
   free_later : (tries : List Try) (subset : List ℕ) → (HoldsRefuser tries subset → ⊥) → (x : Try) → Contains tries x → (cloud : ℕ) → refuser x.refusal ≡ Some cloud → Contains subset cloud → ⊥
   free_later tries subset free x has cloud refused holds = free (cloud, holds, (x, has, refused))
@@ -199,7 +200,7 @@ module _ {L : Type 0} (t : LinkTelling L) (talk : L → ℕ → Talk → Type 0)
             (λ x has is. rose_off (t.losses start) (t.losses now) (t.losses new) (f.lost x has is) later)
             (λ is. rose_on (t.losses start) (t.losses now) (t.losses new) f.asked.later (step.asked.lost is));
         lossless = λ h. of_more (λ x. is_loss x.refusal ≡ false) tries y (f.lossless h) (step.asked.lossless (f.asked.lossless h).1).0;
-        refused = all_refused_more t talk s bytes start now new tries y f.refused (record { asked = step.asked; said = step.said; beside = step.beside });
+        refused = all_refused_more t talk s bytes start now new tries y f.refused (record { asked = step.asked; said = step.said; beside = step.beside; readable = step.readable });
         leads = leads_on t s.clouds subset s.clouds start now new _ _ (EachCaused t start s (tries ++ y ∷ [])) _ _ (AllStand s (tries ++ y ∷ []) bytes) f.leads f.asked.told step.restored
             (λ x has. has) step.among
             (λ a b c one two r q. of_more (λ x. Caused t start s.shape s.user (s.tag, s.version) x.refusal a c) tries y
@@ -273,7 +274,7 @@ module _ {L : Type 0} (t : LinkTelling L) (talk : L → ℕ → Talk → Type 0)
     brought = brought;
     mid = now;
     refused = f.refused;
-    restored = record { asked = step.asked; said = step.said; beside = step.beside };
+    restored = record { asked = step.asked; said = step.said; beside = step.beside; readable = step.readable };
     leads = leads_on t s.clouds subset s.clouds start now new _ _ (AllCaused t start s tries) _ _ (CameTold s tries done subset (t.losses start) (t.losses new) bytes bytes') f.leads f.asked.told step.restored
         (λ x has. has) step.among
         (λ a b c one two r q. all_of (λ x. Caused t start s.shape s.user (s.tag, s.version) x.refusal a c) tries
@@ -485,10 +486,11 @@ module _ {L : Type 0} (t : LinkTelling L) (talk : L → ℕ → Talk → Type 0)
     pub said : (clouds : List ℕ) → let s = sought shape user path version clouds in
         Unlost result (RestoreSaid talk old new s.shape s.user s.tag s.version subset bytes bytes' result)
     pub beside : LostSaid talk old new result
+    pub readable : Readable t old new result
 
   step_of : (old new : L) (start : L) (bytes bytes' subset : List ℕ) (result : Result (Unit {0}) RestoreErr) (clouds : List ℕ) → ((x : ℕ) → Contains subset x → Contains clouds x)
       → Restored old new bytes bytes' subset result → OneStep t talk (sought shape user path version clouds) start bytes old new subset bytes' result
-  step_of old new start bytes bytes' subset result clouds all r = record { among = all; asked = r.asked; restored = r.restored clouds; said = r.said clouds; beside = r.beside }
+  step_of old new start bytes bytes' subset result clouds all r = record { among = all; asked = r.asked; restored = r.restored clouds; said = r.said clouds; beside = r.beside; readable = r.readable }
 
   pub goes_refused : (old new : L) (bytes bytes' subset : List ℕ) (r r' : Refusals) (e : RestoreErr) → (HoldsMarked r.marks subset → ⊥) → e ≢ errors.NoMemory → bytes' ≡ bytes → Names (Contains subset) e
       → Restored old new bytes bytes' subset (Err e) → ((tries : List Try) (x : List ℕ) → Tracks tries r → Tracks (tries ++ record { subset = x; refusal = e } ∷ []) r')

@@ -8,7 +8,7 @@ use Rattle.cd_base.specs.declared.shape.Shape.{Shape}
 use Rattle.cd_edges.specs.Causes.{Rose}
 use Rattle.user_dedup.specs.Exec.{Peer}
 use Rattle.user_dedup.specs.Link.{LinkTelling, Talk}
-use Rattle.restore_job.specs.Asking.{Asked, Leads, AreRead, is_lost}
+use Rattle.restore_job.specs.Asking.{Asked, Leads, AreRead, Readable, is_lost}
 use Rattle.restore_job.specs.Brought.{Brought}
 use Rattle.restore_job.specs.Exchanges.{LostSaid, RestoreSaid, Unlost}
 use Rattle.restore_job.specs.Reading.{Ends, Restores}
@@ -67,12 +67,13 @@ pub record NoneFailed (s : Sought) (losses losses_after : ℕ) (before after : �
 -- ---- what was said with the clouds
 
 -- One restore from a choice of clouds: what was asked, and how its result follows from what came. Where an ask was lost,
--- what is to come of the other clouds is told.
+-- what is to come of the other clouds is told. Each reply can be read but that which the result calls lost or strange.
 pub record OneRestore {L : Type 0} (t : LinkTelling L) (talk : L → ℕ → Talk → Type 0) (s : Sought)
     (subset old new : List ℕ) (before : L) (result : Result (Unit {0}) RestoreErr) (after : L) : Type 0 where
   pub asked : Asked t subset before after (is_lost result)
   pub said : Unlost result (RestoreSaid talk before after s.shape s.user s.tag s.version subset old new result)
   pub beside : LostSaid talk before after result
+  pub readable : Readable t before after result
 
 -- One such restore after another, each of which was refused.
 abbrev pub AllRefused : {L : Type 0} → LinkTelling L → (L → ℕ → Talk → Type 0) → Sought → List ℕ → L → List Try → L

@@ -21,7 +21,7 @@ returns-in-Ok-restore_greeted-clause-fetches g c =
       greeted = c.in-Ok-meet_all.greeted;
       behind = tells c.meet_all.new.ports;
       met = c.in-Ok-meet_all.ensures.meets;
-      came = c.in-Ok-restore_greeted.ensures.came call refl refl refl refl (λ told. (
+      came = c.in-Ok-restore_greeted.ensures.came call refl refl refl refl (sym c.in-Ok-meet_all.ensures.cause) refl (λ told. (
         subst IsTrue (sym c.in-Ok-meet_all.ensures.told) told,
         c.in-Ok-meet_all.ensures.talks told,
       ));
@@ -46,7 +46,7 @@ returns-clause-fetches g c =
     c.in-Err-restore_greeted.ensures.named
     (λ yes. subst (λ (n : ℕ). Rose n (faults c.restore_greeted.new.ports)) c.in-Ok-meet_all.ensures.cause
     (c.in-Err-restore_greeted.ensures.lost yes))
-    (c.in-Err-restore_greeted.ensures.came call refl refl refl refl (λ told. (
+    (c.in-Err-restore_greeted.ensures.came call refl refl refl refl (sym c.in-Ok-meet_all.ensures.cause) refl (λ told. (
       subst IsTrue (sym c.in-Ok-meet_all.ensures.told) told,
       c.in-Ok-meet_all.ensures.talks told,
     )))

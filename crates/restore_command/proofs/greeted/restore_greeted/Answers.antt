@@ -84,7 +84,7 @@ returns-clause-others g c = λ told port not.
     ∙ ap (λ (p : g.row.P.Denot). (tells p).port port) c.of-link.ensures.ports
 
 pub returns-clause-came : goal.returns-clause-came
-returns-clause-came g c = λ call user path version after speak.
+returns-clause-came g c = λ call user path version after since until speak.
     let tells = g.P.Ports.tells in
     let faults = g.P.Ports.faults in
     let old = c.of-link.result in
@@ -111,7 +111,7 @@ returns-clause-came g c = λ call user path version after speak.
     let s = speak told in (
       subst (λ (p : g.row.P.Denot). IsTrue (tells p).told) (sym c.of-link.ensures.ports) s.0,
       subst (λ (p : g.row.P.Denot). HaveTalks (tells p) items) (sym c.of-link.ensures.ports) s.1,
-    )) new (ap tells back ∙ sym after) result file
+    )) new (ap tells back ∙ sym after) (ap faults c.of-link.ensures.ports ∙ sym since) (ap faults back ∙ sym until) result file
     (at_call (λ u p v. AnyEnds (telling tells faults) talk (sought greeted.shape u p v (clouds_of items)) old new
     c.args.file.now file result) call c.args.user c.args.path.now c.args.version user path version
     (subst (λ (l : List ℕ). AnyEnds (telling tells faults) talk (sought greeted.shape c.args.user c.args.path.now

@@ -14,6 +14,7 @@ use Rattle.restore_job.specs.declared.error.RestoreErr.{RestoreErr}
 use Rattle.restore_job.specs.Exchanges.{BatchOpened, BatchUnread}
 use Rattle.restore_job.proofs.Speaking.{unlost, unlost_as}
 use Rattle.restore_job.proofs.Beside.{lost_spoken}
+use Rattle.restore_job.proofs.Readable.{readable_end}
 use Rattle.restore_job.proofs.batch.restore_batch.Goals as goal
 
 abbrev bad : RestoreErr → Result (Unit {0}) RestoreErr
@@ -72,3 +73,7 @@ pub returns-in-Err-open_batch-clause-beside : goal.returns-in-Err-open_batch-cla
 returns-in-Err-open_batch-clause-beside g c =
     let said = c.in-Ok.ensures.said in
     lost_spoken g.L.Link.talk c.args.link.now c.fetch_batch.new.link said.0 (bad c.in-Err-open_batch.e) said.1
+
+pub returns-in-Err-open_batch-clause-readable : goal.returns-in-Err-open_batch-clause-readable
+returns-in-Err-open_batch-clause-readable g c =
+    readable_end g.L.Link.tells c.args.link.now c.fetch_batch.new.link c.in-Err-open_batch.e c.in-Ok.ensures.readable

@@ -8,6 +8,8 @@ use Rattle.restore_job.proofs.Taking.{grows_on, grows_none}
 use Rattle.restore_job.proofs.Ending.{restoring_none, restoring_more, restoring_stops, restoring_all}
 use Rattle.restore_job.proofs.Speaking.{unlost_as, items_none, items_more, items_end, items_stop}
 use Rattle.restore_job.proofs.Beside.{lost_on}
+use Rattle.restore_job.proofs.Readable.{none_asked, none_asked_to, readable_on, readable_stop}
+use Rattle.restore_job.specs.declared.error.RestoreErr.TheVariants as errors
 use Rattle.restore_job.proofs.batch.restore_items.Goals as goal
 
 pub returns-in-Err-clause-told : goal.returns-in-Err-clause-told
@@ -21,6 +23,7 @@ loop-place-init g c = record {
   extends = extends_none c.args.shape (numbers_of c.args.clouds.now) c.args.firsts.now c.args.recipes.now 0 0 c.args.out.now refl;
   rooms = c.in-Ok.ensures;
   said = items_none g.L.Link.talk c.args.shape c.args.user c.args.clouds.now c.args.points.now c.args.firsts.now c.args.recipes.now c.args.link.now c.args.out.now;
+  readable = none_asked g.L.Link.tells c.args.link.now;
 }
 
 pub returns-in-Err-restore_batch-clause-told : goal.returns-in-Err-restore_batch-clause-told
@@ -39,6 +42,8 @@ loop-place-preserved g c = record {
   rooms = c.in-Ok-restore_batch.ensures.rooms ∙ c.loop-place.invariant.rooms;
   said = items_more g.L.Link.talk c.args.shape c.args.user c.args.clouds.now c.args.points.now c.args.firsts.now c.args.recipes.now c.args.link.now c.loop-place.link c.restore_batch.new.link c.loop-place.place c.size_of-count.result
       c.args.out.now c.loop-place.out c.restore_batch.new.out c.loop-place-test.true c.size_of-count.ensures c.in-Ok-restore_batch.ensures.said c.loop-place.invariant.said;
+  readable = readable_on g.L.Link.tells c.args.link.now c.loop-place.link c.restore_batch.new.link
+      c.loop-place.invariant.readable c.in-Ok-restore_batch.ensures.readable;
 }
 
 pub returns-clause-told : goal.returns-clause-told
@@ -73,3 +78,14 @@ returns-in-Err-restore_batch-clause-beside g c =
     let said = c.loop-place.invariant.said in
     lost_on g.L.Link.talk (Unit {0}) (Unit {0}) c.args.link.now c.loop-place.link c.restore_batch.new.link said.log
     c.in-Err-restore_batch.e said.spoken c.in-Err-restore_batch.ensures.beside
+
+pub returns-in-Err-clause-readable : goal.returns-in-Err-clause-readable
+returns-in-Err-clause-readable g c = none_asked_to g.L.Link.tells c.args.link.now errors.NoMemory
+
+pub returns-in-Err-restore_batch-clause-readable : goal.returns-in-Err-restore_batch-clause-readable
+returns-in-Err-restore_batch-clause-readable g c =
+    readable_stop g.L.Link.tells c.args.link.now c.loop-place.link c.restore_batch.new.link c.in-Err-restore_batch.e
+    c.loop-place.invariant.readable c.in-Err-restore_batch.ensures.readable
+
+pub returns-clause-readable : goal.returns-clause-readable
+returns-clause-readable g c = c.loop-place.invariant.readable

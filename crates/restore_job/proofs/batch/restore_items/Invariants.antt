@@ -4,6 +4,7 @@ use Rattle.restore_job.specs.Brought.{Extends}
 use Rattle.restore_job.specs.Steps.{Grows}
 use Rattle.restore_job.proofs.Ending.{Restoring}
 use Rattle.restore_job.proofs.Speaking.{ItemsAlong}
+use Rattle.restore_job.proofs.Readable.{AllReadable}
 use Rattle.restore_job.proofs.batch.restore_items.Given as goal
 
 abbrev pub invariant-loop-place : goal.invariant-loop-place
@@ -14,6 +15,7 @@ invariant-loop-place g l = record {
   extends : Extends l.shape (numbers_of l.clouds) l.firsts l.recipes 0 l.place l.fn.out l.out;
   rooms : length l.rooms ≡ 256;
   said : ItemsAlong g.L.Link.talk l.shape l.user l.clouds l.points l.firsts l.recipes l.fn.link l.link l.place l.fn.out l.out;
+  readable : AllReadable g.L.Link.tells l.fn.link l.link;
 }
 
 abbrev pub decreases-loop-place : goal.decreases-loop-place

@@ -15,6 +15,7 @@ use Rattle.restore_job.specs.Asking.{Asked, is_loss}
 use Rattle.restore_job.proofs.Leading.{asked_on, asked_in, asked_at}
 use Rattle.restore_job.proofs.Speaking.{unlost_as, batch_said_none, batch_said_one, batch_said_stop}
 use Rattle.restore_job.proofs.Beside.{lost_on}
+use Rattle.restore_job.proofs.Readable.{none_asked, readable_on, readable_stop}
 use Rattle.restore_job.proofs.fetching.+fetch_batch.Goals as goal
 
 pub returns-in_default-clause-told : goal.returns-in_default-clause-told
@@ -132,3 +133,16 @@ returns-in-Err-fetch_batch-clause-beside g t c =
     let one = c.in-Ok.ensures.said in
     lost_on g.L.Link.talk (Unit {0}) (Unit {0}) c.args.link.now c.fetch_shares.new.link c.fetch_batch.new.link
     (one.0 ∷ []) c.in-Err-fetch_batch.e one.1 c.in-Err-fetch_batch.ensures.beside
+
+pub returns-in_default-clause-readable : goal.returns-in_default-clause-readable
+returns-in_default-clause-readable g t c = none_asked g.L.Link.tells c.args.link.now
+
+pub returns-in-Ok-fetch_batch-clause-readable : goal.returns-in-Ok-fetch_batch-clause-readable
+returns-in-Ok-fetch_batch-clause-readable g t c =
+    readable_on g.L.Link.tells c.args.link.now c.fetch_shares.new.link c.fetch_batch.new.link c.in-Ok.ensures.readable
+    c.in-Ok-fetch_batch.ensures.readable
+
+pub returns-in-Err-fetch_batch-clause-readable : goal.returns-in-Err-fetch_batch-clause-readable
+returns-in-Err-fetch_batch-clause-readable g t c =
+    readable_stop g.L.Link.tells c.args.link.now c.fetch_shares.new.link c.fetch_batch.new.link c.in-Err-fetch_batch.e
+    c.in-Ok.ensures.readable c.in-Err-fetch_batch.ensures.readable

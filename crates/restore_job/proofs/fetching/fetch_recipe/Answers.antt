@@ -17,6 +17,7 @@ use Rattle.restore_job.proofs.Leading.{one_step}
 use Rattle.restore_job.proofs.Held.{recipe_moves, lost_moves, lost_recipe, error_is}
 use Rattle.restore_job.specs.Exchanges.{Exchange}
 use Rattle.restore_job.proofs.Beside.{lost_as, lost_spoken}
+use Rattle.restore_job.proofs.Readable.{readable_lost, readable_recipe}
 use Rattle.restore_job.proofs.fetching.fetch_recipe.Goals as goal
 
 names : (shape : Shape) (cloud : CloudNo) (content : List ℕ) (res : Result Recipe RestoreErr) → RecipeFrom shape cloud (reply_at content) res → IfErr res (Names (λ x. x ≡ cloud.0))
@@ -70,3 +71,15 @@ returns-in-Ok-clause-beside g c =
 pub returns-in-Err-clause-beside : goal.returns-in-Err-clause-beside
 returns-in-Err-clause-beside g c =
     lost_as g.L.Link.talk (Unit {0}) Recipe c.args.link.now c.ask.new.link c.in-Err.e c.in-Err.ensures.beside
+
+pub returns-in-Ok-clause-readable : goal.returns-in-Ok-clause-readable
+returns-in-Ok-clause-readable g c =
+    readable_recipe g.L.Link.tells c.args.link.now c.ask.new.link c.args.cloud c.args.request.now c.ask.new.reply c.args.shape
+    c.recipe_from.result
+    (subst (λ (l : List ℕ). RecipeFrom c.args.shape c.args.cloud (reply_at l) c.recipe_from.result) c.content.ensures.value
+    c.recipe_from.ensures.from) c.in-Ok.ensures.passes
+
+pub returns-in-Err-clause-readable : goal.returns-in-Err-clause-readable
+returns-in-Err-clause-readable g c =
+    readable_lost g.L.Link.tells c.args.link.now c.ask.new.link c.args.cloud c.args.request.now [] c.in-Err.e
+    (error_is c.in-Err.e (errors.Lost c.args.cloud) c.in-Err.ensures.lost) c.in-Err.ensures.passes

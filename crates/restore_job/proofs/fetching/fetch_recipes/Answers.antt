@@ -8,6 +8,8 @@ use Rattle.restore_job.proofs.Leading.{asked_on, asked_at}
 use Rattle.cd_base.specs.declared.ids.CloudNo.{CloudNo}
 use Rattle.restore_job.proofs.Speaking.{SaidAlong, along_none, along_more, along_end, stops_unlost}
 use Rattle.restore_job.proofs.Beside.{lost_on}
+use Rattle.restore_job.proofs.Readable.{none_asked, readable_end, readable_on, readable_stop}
+use Rattle.restore_job.specs.declared.error.RestoreErr.TheVariants as errors
 use Rattle.restore_job.proofs.fetching.fetch_recipes.Goals as goal
 use Rattle.cd_base.specs.Numbers.{numbers_of}
 
@@ -17,6 +19,7 @@ clouds-init g c = record {
       (fetched_none g.L.Link.tells c.args.shape c.args.link.now c.args.request.now (numbers_of c.args.clouds.now));
   said = subst (λ (l : List Recipe). SaidAlong g.L.Link.talk c.args.shape c.args.request.now c.args.clouds.now c.args.clouds.now c.args.link.now c.args.link.now l) (sym c.new-recipes.ensures)
       (along_none g.L.Link.talk c.args.shape c.args.request.now c.args.clouds.now c.args.link.now);
+  readable = none_asked g.L.Link.tells c.args.link.now;
 }
 
 pub returns-in_default-clause-told : goal.returns-in_default-clause-told
@@ -54,6 +57,8 @@ clouds-preserved g c =
           (fetched_more t c.args.shape c.args.link.now c.clouds.link c.fetch_recipe.new.link c.args.request.now (numbers_of c.args.clouds.now) c.in-Some.cloud (numbers_of c.in-Some.more.now) c.clouds.recipes c.in-Ok.recipe f c.in-Ok.ensures.asked c.in-Ok.ensures.fits c.in-Ok.ensures.told);
       said = subst (λ (l : List Recipe). SaidAlong g.L.Link.talk c.args.shape c.args.request.now c.args.clouds.now c.in-Some.more.now c.args.link.now c.fetch_recipe.new.link l) (sym c.in-Ok-push.ensures.ok)
           (along_more g.L.Link.talk c.args.shape c.args.request.now c.args.clouds.now c.args.link.now c.clouds.link c.fetch_recipe.new.link c.in-Some.cloud c.in-Some.more.now c.clouds.recipes c.in-Ok.recipe came.0 so_far came.1 came.2);
+      readable = readable_on t c.args.link.now c.clouds.link c.fetch_recipe.new.link c.clouds.invariant.readable
+          c.in-Ok.ensures.readable;
     }
 
 pub returns-in-Err-clause-named : goal.returns-in-Err-clause-named
@@ -93,3 +98,17 @@ pub returns-in-Err-clause-beside : goal.returns-in-Err-clause-beside
 returns-in-Err-clause-beside g c =
     lost_on g.L.Link.talk Recipe (List Recipe) c.args.link.now c.clouds.link c.fetch_recipe.new.link
     c.clouds.invariant.said.log c.in-Err.e c.clouds.invariant.said.spoken c.in-Err.ensures.beside
+
+pub returns-in_default-clause-readable : goal.returns-in_default-clause-readable
+returns-in_default-clause-readable g c = c.clouds.invariant.readable
+
+pub returns-in-Err-push-clause-readable : goal.returns-in-Err-push-clause-readable
+returns-in-Err-push-clause-readable g c =
+    readable_end g.L.Link.tells c.args.link.now c.fetch_recipe.new.link errors.NoMemory
+    (readable_on g.L.Link.tells c.args.link.now c.clouds.link c.fetch_recipe.new.link c.clouds.invariant.readable
+    c.in-Ok.ensures.readable)
+
+pub returns-in-Err-clause-readable : goal.returns-in-Err-clause-readable
+returns-in-Err-clause-readable g c =
+    readable_stop g.L.Link.tells c.args.link.now c.clouds.link c.fetch_recipe.new.link c.in-Err.e
+    c.clouds.invariant.readable c.in-Err.ensures.readable

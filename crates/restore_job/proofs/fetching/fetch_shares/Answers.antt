@@ -19,6 +19,7 @@ use Rattle.restore_job.proofs.Held.{error_is}
 use Rattle.restore_job.proofs.Sharing.{part, shares_taken, shares_unread, shares_lost, shares_unasked}
 use Rattle.restore_job.specs.Exchanges.{Exchange}
 use Rattle.restore_job.proofs.Beside.{lost_spoken}
+use Rattle.restore_job.proofs.Readable.{none_asked_to, readable_lost, readable_refusal, readable_shares}
 use Rattle.restore_job.proofs.fetching.fetch_shares.Goals as goal
 
 abbrev bad : RestoreErr → Result (Unit {0}) RestoreErr
@@ -130,3 +131,25 @@ returns-in-Ok-ask-clause-beside g c =
     let x : Exchange = record { cloud = c.args.cloud.0; request = c.as_slice.result.now; reply = c.ask.new.reply } in
     lost_spoken g.L.Link.talk c.args.link.now c.ask.new.link (x ∷ []) (bad c.in-Err-shares_from.e)
     c.in-Ok-ask.ensures.spoken
+
+pub returns-in-Err-clause-readable : goal.returns-in-Err-clause-readable
+returns-in-Err-clause-readable g c = none_asked_to g.L.Link.tells c.args.link.now errors.NoMemory
+
+pub returns-in-Ok-shares_from-clause-readable : goal.returns-in-Ok-shares_from-clause-readable
+returns-in-Ok-shares_from-clause-readable g c =
+    readable_shares g.L.Link.tells c.args.link.now c.ask.new.link c.args.cloud c.as_slice.result.now c.ask.new.reply
+    c.args.count c.in-Ok-shares_from.shares c.take_shares.result
+    (subst (λ (l : List ℕ). SharesFrom c.args.cloud c.args.count (reply_at l) (Ok c.in-Ok-shares_from.shares))
+    c.content.ensures.value c.in-Ok-shares_from.ensures.from) c.in-Ok-ask.ensures.passes
+
+pub returns-in-Ok-ask-clause-readable : goal.returns-in-Ok-ask-clause-readable
+returns-in-Ok-ask-clause-readable g c =
+    readable_refusal g.L.Link.tells c.args.link.now c.ask.new.link c.args.cloud c.as_slice.result.now c.ask.new.reply
+    c.args.count c.in-Err-shares_from.e
+    (subst (λ (l : List ℕ). SharesFrom c.args.cloud c.args.count (reply_at l) (Err c.in-Err-shares_from.e))
+    c.content.ensures.value c.in-Err-shares_from.ensures.from) c.in-Ok-ask.ensures.passes
+
+pub returns-clause-readable : goal.returns-clause-readable
+returns-clause-readable g c =
+    readable_lost g.L.Link.tells c.args.link.now c.ask.new.link c.args.cloud c.as_slice.result.now [] c.in-Err-ask.e
+    (error_is c.in-Err-ask.e (errors.Lost c.args.cloud) c.in-Err-ask.ensures.lost) c.in-Err-ask.ensures.passes

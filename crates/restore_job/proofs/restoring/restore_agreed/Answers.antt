@@ -24,6 +24,8 @@ use Rattle.restore_job.specs.Steps.{Compares}
 use Rattle.restore_job.specs.Exchanges.{Exchange, AgreedRun, NothingAsked, Differ, Compared, ItemsRun}
 use Rattle.restore_job.proofs.Speaking.{unlost, unlost_as, spoken_none}
 use Rattle.restore_job.proofs.Beside.{lost_spoken}
+use Rattle.restore_job.proofs.Readable.{none_asked, none_asked_to}
+use Rattle.restore_job.specs.declared.error.RestoreErr.TheVariants as errors
 use Rattle.restore_job.proofs.restoring.restore_agreed.Goals as goal
 
 abbrev bad : RestoreErr → Result (Unit {0}) RestoreErr
@@ -155,3 +157,12 @@ pub returns-in-Err-clause-beside : goal.returns-in-Err-clause-beside
 returns-in-Err-clause-beside g c =
     let link = c.args.link.now in
     lost_spoken g.L.Link.talk link link [] (bad c.in-Err.e) (spoken_none g.L.Link.talk link)
+
+pub returns-in_default-clause-readable : goal.returns-in_default-clause-readable
+returns-in_default-clause-readable g c = none_asked g.L.Link.tells c.args.link.now
+
+pub returns-in-Err-clause-readable : goal.returns-in-Err-clause-readable
+returns-in-Err-clause-readable g c = none_asked_to g.L.Link.tells c.args.link.now c.in-Err.e
+
+pub returns-in-Err-points_of-clause-readable : goal.returns-in-Err-points_of-clause-readable
+returns-in-Err-points_of-clause-readable g c = none_asked_to g.L.Link.tells c.args.link.now errors.NoMemory

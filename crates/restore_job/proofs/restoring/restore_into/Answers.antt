@@ -13,6 +13,8 @@ use Rattle.std.proofs.Common.{◌++◌}
 use Rattle.restore_job.specs.Exchanges.{AgreedRun, HasRecipes, NoRecipes}
 use Rattle.restore_job.proofs.Speaking.{unlost_as, spoken_twice}
 use Rattle.restore_job.proofs.Beside.{lost_as, lost_on}
+use Rattle.restore_job.proofs.Readable.{none_asked_to, readable_on, readable_stop}
+use Rattle.restore_job.specs.declared.error.RestoreErr.TheVariants as errors
 use Rattle.restore_job.proofs.restoring.restore_into.Goals as goal
 
 pub returns-in-Err-clause-restored : goal.returns-in-Err-clause-restored
@@ -102,3 +104,19 @@ pub returns-clause-beside : goal.returns-clause-beside
 returns-clause-beside g c =
     lost_as g.L.Link.talk (List Recipe) (Unit {0}) c.args.link.now c.fetch_recipes.new.link c.in-Err-fetch_recipes.e
     c.in-Err-fetch_recipes.ensures.beside
+
+pub returns-in-Err-clause-readable : goal.returns-in-Err-clause-readable
+returns-in-Err-clause-readable g c = none_asked_to g.L.Link.tells c.args.link.now errors.NoMemory
+
+pub returns-in-Err-make-clause-readable : goal.returns-in-Err-make-clause-readable
+returns-in-Err-make-clause-readable g c = none_asked_to g.L.Link.tells c.args.link.now errors.NoMemory
+
+pub returns-in-Ok-restore_agreed-clause-readable : goal.returns-in-Ok-restore_agreed-clause-readable
+returns-in-Ok-restore_agreed-clause-readable g c =
+    readable_on g.L.Link.tells c.args.link.now c.fetch_recipes.new.link c.restore_agreed.new.link
+    c.in-Ok-fetch_recipes.ensures.readable c.in-Ok-restore_agreed.ensures.readable
+
+pub returns-in-Ok-fetch_recipes-clause-readable : goal.returns-in-Ok-fetch_recipes-clause-readable
+returns-in-Ok-fetch_recipes-clause-readable g c =
+    readable_stop g.L.Link.tells c.args.link.now c.fetch_recipes.new.link c.restore_agreed.new.link
+    c.in-Err-restore_agreed.e c.in-Ok-fetch_recipes.ensures.readable c.in-Err-restore_agreed.ensures.readable

@@ -3,7 +3,7 @@ use Rattle.user_dedup.specs.Link.{first_reply, said}
 use Rattle.ports_link.specs.declared.lines.Line.{Line}
 use Rattle.ports_link.specs.Lines.{AsksOn, line_of}
 use Rattle.ports_link.specs.Tells.{HasTalk}
-use Rattle.ports_link.proofs.Talks.{passed, passed_lost, port_kept, says, said_else, still_said}
+use Rattle.ports_link.proofs.Talks.{line_other, passed, passed_lost, port_kept, says, said_else, still_said}
 use Rattle.ports_link.proofs.link.PortsLinkLink.ask.Goals as goal
 
 pub returns-in-Ok-clause-says : goal.returns-in-Ok-clause-says
@@ -45,6 +45,8 @@ returns-in-Ok-clause-passes g c =
       later = c.ask_on.ensures.cause.later;
       lines = λ cloud. ap (λ (l : List Line). (line_of l cloud).port) c.set.ensures
           ∙ port_kept lines c.args.cloud.0 c.in-Ok.after within (c.in-Ok.ensures.port ∙ ap (λ (l : Line). l.port) c.get-line.ensures) cloud;
+      apart = λ cloud ne. ap (λ (l : List Line). line_of l cloud) c.set.ensures
+          ∙ line_other lines c.args.cloud.0 cloud c.in-Ok.after ne;
       bytes = λ told. passed (g.P.Ports.tells c.args.self.now.ports.now) (g.P.Ports.tells c.ask_on.new.ports) lines c.args.cloud.0 c.in-Some.port within there
           (c.in-Ok.ensures.others told) _ c.in-Ok.after c.args.request.now c.ask_on.new.reply c.set.ensures
           (subst (λ (l : Line). AsksOn (g.P.Ports.tells c.args.self.now.ports.now) (g.P.Ports.tells c.ask_on.new.ports) c.in-Some.port l c.in-Ok.after c.args.request.now c.ask_on.new.reply) c.get-line.ensures (c.in-Ok.ensures.asks told));
@@ -60,6 +62,7 @@ returns-in-Err-clause-passes g c =
       told = c.in-Err.ensures.told;
       later = c.ask_on.ensures.cause.later;
       lines = λ cloud. refl;
+      apart = λ cloud ne. refl;
       bytes = λ told. passed_lost (g.P.Ports.tells c.args.self.now.ports.now) (g.P.Ports.tells c.ask_on.new.ports) lines c.args.cloud.0 c.in-Some.port within there
           (c.in-Err.ensures.others told) lines c.args.request.now;
     }
