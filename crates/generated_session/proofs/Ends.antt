@@ -20,10 +20,11 @@ use Rattle.replay_core.specs.SessionModel.Headline.{Session, Begun, IsRun, IsPar
 use Rattle.replay_core.specs.ScriptLines.At.{header_in}
 use Rattle.replay_core.specs.declared.end.ReplayEnd.{ReplayEnd}
 use Rattle.replay_core.specs.declared.end.ReplayEnd.TheVariants as ends
-use Rattle.replay_core.specs.Endings.{IsEmptyAt}
+use Rattle.replay_core.specs.Endings.{IsEmptyAt, AreEmptyBelow, AreSpared}
 use Rattle.replay_core.specs.Replayed.{Replayed, status_of}
-use Rattle.replay_core.specs.Opening.{PreparesAll, EndsUnopened, OpensTo, before_first}
+use Rattle.replay_core.specs.Opening.{AreSame, PreparesAll, EndsUnopened, OpensTo, before_first}
 use Rattle.replay_core.specs.Going.{WritesFront, EndsSink, IsReady}
+use Rattle.replay_core.proofs.Clouds.{spared_by, spared_same}
 use Rattle.replay_core.proofs.Sessions.{Later, Here, Part, Holds, holds_between, holds_cut, appends_none}
 use Rattle.replay_core.proofs.Whole.{Laws, session_of, replayed, apart}
 use Rattle.replay_core.proofs.Begins.{unopened_of, replayed_unopened, come_first}
@@ -47,13 +48,15 @@ Opens s = (s.shape.n ≡ 4) × (s.shape.k ≡ 3) × (s.rooms ≡ usual_rooms)
 
 module _ (laws : Laws) (order : Order) (call : Passing) (s : Setting) (four : Opens s) (told : (cloud : ℕ) → s.told cloud ≡ (call.old cloud).told)
     (prepares : PreparesAll (header_in s) s.shape call.old call.new) (sank : call.sink_after ≡ call.sink_before) (still : call.after ≡ call.before) where
-  unopened : (end : ReplayEnd) → (status_of end ≡ 0 → ⊥) → IsCaused end order call (unopened_of s call.old) → IsSummed end order call (unopened_of s call.old) → Generates end order call
-  unopened end some cause summed = record {
+  unopened : (end : ReplayEnd) → (status_of end ≡ 0 → ⊥) → AreSpared s.shape.n call.old call.new → IsCaused end order call (unopened_of s call.old) → IsSummed end order call (unopened_of s call.old) → Generates end order call
+  unopened end some spared cause summed = record {
     run = unopened_of s call.old;
     replayed = replayed_unopened laws (status_of end) (start_of call.old) s call.new some told prepares;
     shape = (four.0, four.1);
     rooms = four.2;
     lines = (lines_of order, refl);
+    began = λ o. absurd (let f : false ≡ true = o in cc);
+    spared = subst (λ (n : ℕ). AreSpared n call.old call.new) four.0 spared;
     cause = cause;
     summed = summed;
   }
@@ -64,16 +67,19 @@ module _ (laws : Laws) (order : Order) (call : Passing) (s : Setting) (four : Op
   below : (cloud : ℕ) → cloud < s.shape.n → cloud < 4
   below cloud lt = subst (λ (n : ℕ). cloud < n) four.0 lt
 
-  pub ends_unmade : Generates ends.NoMemory order call
-  ends_unmade = unopened ends.NoMemory (λ e. apart 6 0 refl e) sank nothing
+  pub ends_unmade : AreSame call.old call.new → Generates ends.NoMemory order call
+  ends_unmade same = unopened ends.NoMemory (λ e. apart 6 0 refl e) (spared_same s.shape.n call.old call.new same) sank nothing
 
   pub ends_unopened : (end : ReplayEnd) → EndsUnopened s.shape call.old call.new end → Generates end order call
   ends_unopened (ends.NotEmpty cloud area len) x =
-      unopened (ends.NotEmpty cloud area len) (λ e. apart 7 0 refl e) (record { opened = refl; below = below cloud.0 x.0; sink = sank }, x.1) nothing
+      unopened (ends.NotEmpty cloud area len) (λ e. apart 7 0 refl e) (spared_by s.shape call.old call.new (ends.NotEmpty cloud area len) x)
+      (record { opened = refl; below = below cloud.0 x.0; sink = sank }, x.1, x.2) nothing
   ends_unopened (ends.ShelfFault cloud) x =
-      unopened (ends.ShelfFault cloud) (λ e. apart 5 0 refl e) (record { opened = refl; below = below cloud.0 x.0; sink = sank }, x.1) nothing
+      unopened (ends.ShelfFault cloud) (λ e. apart 5 0 refl e) (spared_by s.shape call.old call.new (ends.ShelfFault cloud) x)
+      (record { opened = refl; below = below cloud.0 x.0; sink = sank }, x.1, x.2) nothing
   ends_unopened (ends.Damaged cloud at byte) x =
-      unopened (ends.Damaged cloud at byte) (λ e. apart 7 0 refl e) (record { opened = refl; below = below cloud.0 x.0; sink = sank }, x.1) nothing
+      unopened (ends.Damaged cloud at byte) (λ e. apart 7 0 refl e) (spared_by s.shape call.old call.new (ends.Damaged cloud at byte) x)
+      (record { opened = refl; below = below cloud.0 x.0; sink = sank }, x.1, subst (λ (n : ℕ). AreEmptyBelow call.old n) four.0 x.2) nothing
   ends_unopened (ends.Done events) x = absurd x
   ends_unopened (ends.Script line at found) x = absurd x
   ends_unopened ends.SourceFault x = absurd x
@@ -107,6 +113,8 @@ module _ {V : Type 0} (clouds : V → ℕ → Cloud) (laws : Laws) (order : Orde
     shape = (four.0, four.1);
     rooms = four.2;
     lines = (rest, lines);
+    began = λ o. subst (λ (n : ℕ). AreEmptyBelow call.old n) four.0 holds.began;
+    spared = inl (subst (λ (n : ℕ). AreEmptyBelow call.old n) four.0 holds.began);
     cause = cause;
     summed = summed;
   }

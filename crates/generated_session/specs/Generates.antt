@@ -11,7 +11,7 @@ use Rattle.replay_core.specs.SessionModel.Run.{script_of}
 use Rattle.replay_core.specs.SessionModel.Headline.{Session, script_in}
 use Rattle.replay_core.specs.declared.end.ReplayEnd.{ReplayEnd}
 use Rattle.replay_core.specs.declared.end.ReplayEnd.TheVariants as ends
-use Rattle.replay_core.specs.Endings.{IsEmptyAt, IsFirstFilled}
+use Rattle.replay_core.specs.Endings.{IsEmptyAt, AreEmptyBelow, AreSpared, IsFirstFilled}
 use Rattle.replay_core.specs.Replayed.{Replayed, status_of}
 use Rattle.generated_session.specs.declared.numbers.Numbers.{Numbers}
 use Rattle.generated_session.specs.Lines.{generated_lines}
@@ -53,10 +53,12 @@ IsCaused ends.SourceFault order call run = ⊥
 IsCaused ends.SinkFault order call run = IsWhole order run × Rose call.sink_before call.sink_after
 IsCaused (ends.ShelfFault cloud) order call run =
     IsUnopened call run cloud.0 × Rose (run.last cloud.0).faults (call.new cloud.0).faults
+    × AreEmptyBelow call.old cloud.0
 IsCaused (ends.NotEmpty cloud area len) order call run =
     IsUnopened call run cloud.0 × IsFirstFilled call.old cloud.0 area len
+    × ((other : ℕ) → call.new other ≡ call.old other)
 IsCaused (ends.Damaged cloud at byte) order call run =
-    IsUnopened call run cloud.0 × ((call.old cloud.0).told ≡ false)
+    IsUnopened call run cloud.0 × ((call.old cloud.0).told ≡ false) × AreEmptyBelow call.old 4
 IsCaused ends.NoMemory order call run = call.sink_after ≡ call.sink_before
 
 -- a front of the summary was written, and nothing behind it
@@ -81,6 +83,9 @@ pub record Generates (end : ReplayEnd) (order : Order) (call : Passing) : Type 0
   pub shape : (run.setting.shape.n ≡ 4) × (run.setting.shape.k ≡ 3)
   pub rooms : run.setting.rooms ≡ usual_rooms
   pub lines : (rest : List Event) × (script_in run ++ rest ≡ generated_lines order.seed order.files order.pieces)
+  pub began : IsTrue run.opened → AreEmptyBelow call.old 4
+  -- where a told cloud isn't empty, nothing was written, whatever the end
+  pub spared : AreSpared 4 call.old call.new
   pub cause : IsCaused end order call run
   pub summed : IsSummed end order call run
 

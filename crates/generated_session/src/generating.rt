@@ -125,8 +125,9 @@ fn make_session<K: Sink, V: Shelf>(
 /// sink that fails a front of the summary.
 ///
 /// NotEmpty names the first area that isn't empty. Damaged comes only of a cloud of which nothing is told, and ShelfFault and
-/// SinkFault only where that cloud's or the sink's count of faults rose. Whatever the end, there is a session of just the lines
-/// that were carried out, of which all holds that holds of a replay.
+/// SinkFault only where that cloud's or the sink's count of faults rose. Where a told cloud isn't empty no cloud is opened, and
+/// nothing is written to any. Whatever the end, there is a session of just the lines that were carried out, of which all holds
+/// that holds of a replay.
 pub fn generate<K: Sink, V: Shelf>(
     alloc: Global,
     seed: u64,

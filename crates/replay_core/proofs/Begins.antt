@@ -36,11 +36,11 @@ use Rattle.script_lines.specs.At.{header_in}
 use Rattle.script_lines.proofs.Going.{header_is}
 use Rattle.replay_core.specs.declared.end.ReplayEnd.{ReplayEnd}
 use Rattle.replay_core.specs.declared.end.ReplayEnd.TheVariants as ends
-use Rattle.replay_core.specs.Endings.{HasReadSome, HasHeader, IsDue}
+use Rattle.replay_core.specs.Endings.{AreSpared, HasReadSome, HasHeader, IsDue}
 use Rattle.replay_core.specs.Replayed.{Replayed, Replays, status_of, ending_of, IsPrinted}
-use Rattle.replay_core.specs.Opening.{IsThere, IsHead, Prepares, PreparesAll, EndsFirst, EndsUnopened, OpensTo}
+use Rattle.replay_core.specs.Opening.{AreSame, IsEmpty, IsThere, IsHead, Prepares, PreparesAll, EndsFirst, EndsUnopened, OpensTo}
 use Rattle.replay_core.specs.Going.{Start, call_of, IsReady, HasCome, EndsWriting}
-use Rattle.replay_core.proofs.Clouds.{EmptyStands, all_same}
+use Rattle.replay_core.proofs.Clouds.{EmptyStands, all_same, spared_by, spared_same}
 use Rattle.replay_core.proofs.Firsts.{map_told}
 use Rattle.replay_core.proofs.Sessions.{appends_none, grown, appends_grown, holds_between}
 use Rattle.replay_core.proofs.Whole.{Laws, session_of, CausedBy, cause_of, read_some, header_read, apart, ends_so, cut_lines, cut_none}
@@ -77,16 +77,17 @@ replayed_unopened laws status start s new some told prepares = record {
 
 -- the promise of such an end, which isn't Done
 unopened_so : (end : ReplayEnd) → Laws → (start : Start) (s : Setting) (left : Option (List ℕ)) (source sink total : ℕ) (new : ℕ → Cloud) (now : Option (List ℕ))
-    → (status_of end ≡ 0 → ⊥) → ((cloud : ℕ) → s.told cloud ≡ (start.old cloud).told) → PreparesAll (header_in s) s.shape start.old new
+    → (status_of end ≡ 0 → ⊥) → ((cloud : ℕ) → s.told cloud ≡ (start.old cloud).told) → PreparesAll (header_in s) s.shape start.old new → AreSpared s.shape.n start.old new
     → HasHeader (call_of start left source sink total new) (unopened_of s start.old)
     → IsDue (call_of start left source sink total new) (unopened_of s start.old) (ending_of end)
     → CausedBy (call_of start left source sink total new) (unopened_of s start.old) end
     → IsPrinted end (call_of start left source sink total new) (unopened_of s start.old) start.written now
     → Replays end (call_of start left source sink total new) start.written now
-unopened_so end laws start s left source sink total new now some told prepares header is_due by printed = record {
+unopened_so end laws start s left source sink total new now some told prepares spared header is_due by printed = record {
   run = unopened_of s start.old;
   replayed = replayed_unopened laws (status_of end) start s new some told prepares;
-  cause = cause_of end (call_of start left source sink total new) (unopened_of s start.old) header (λ o. absurd (let f : false ≡ true = o in cc)) is_due by;
+  cause = cause_of end (call_of start left source sink total new) (unopened_of s start.old) header (λ o. absurd (let f : false ≡ true = o in cc))
+      (λ o. absurd (let f : false ≡ true = o in cc)) spared is_due by;
   printed = printed;
 }
 
@@ -129,14 +130,14 @@ pub ends_first : EmptyStands → (end : ReplayEnd) → Laws → (start : Start) 
     → Replays end (call_of start left source sink total new) start.written now
 ends_first law (ends.Script line at found) laws start left source sink total new now same still sank x =
     unopened_so (ends.Script line at found) laws start (setting_of start) left source sink total new now (λ e. apart 2 0 refl e) (λ cloud. refl)
-    (all_same law (header_in (setting_of start)) (setting_of start).shape start.old new same) (says_header start.script)
+    (all_same law (header_in (setting_of start)) (setting_of start).shape start.old new same) (spared_same (setting_of start).shape.n start.old new same) (says_header start.script)
     (refl, x.0, wrong_first start.script _ (record { at = at; found = found }) x.1) sank (appends_none start.written now still)
 ends_first law ends.SourceFault laws start left source sink total new now same still sank x =
     unopened_so ends.SourceFault laws start (setting_of start) left source sink total new now (λ e. apart 3 0 refl e) (λ cloud. refl)
-    (all_same law (header_in (setting_of start)) (setting_of start).shape start.old new same) (says_header start.script) tt (refl, x, sank) (appends_none start.written now still)
+    (all_same law (header_in (setting_of start)) (setting_of start).shape start.old new same) (spared_same (setting_of start).shape.n start.old new same) (says_header start.script) tt (refl, x, sank) (appends_none start.written now still)
 ends_first law ends.NoMemory laws start left source sink total new now same still sank x =
     unopened_so ends.NoMemory laws start (setting_of start) left source sink total new now (λ e. apart 6 0 refl e) (λ cloud. refl)
-    (all_same law (header_in (setting_of start)) (setting_of start).shape start.old new same) (says_header start.script) tt tt
+    (all_same law (header_in (setting_of start)) (setting_of start).shape start.old new same) (spared_same (setting_of start).shape.n start.old new same) (says_header start.script) tt tt
     (cut_none (call_of start left source sink total new) (unopened_of (setting_of start) start.old) start.written now (appends_none start.written now still))
 ends_first law (ends.Done events) laws start left source sink total new now same still sank x = absurd x
 ends_first law ends.SinkFault laws start left source sink total new now same still sank x = absurd x
@@ -159,20 +160,24 @@ module _ (laws : Laws) (start : Start) (s : Setting) (reader : Lines) (left : Op
   header : HasHeader (call_of start left source sink total new) (unopened_of s start.old)
   header = header_read (call_of start left source sink total new) (unopened_of s start.old) [] reached
 
-  pub ends_unmade : Replays ends.NoMemory (call_of start left source sink total new) start.written now
-  ends_unmade = unopened_so ends.NoMemory laws start s left source sink total new now (λ e. apart 6 0 refl e) told prepares header tt tt
+  pub ends_unmade : AreSame start.old new → Replays ends.NoMemory (call_of start left source sink total new) start.written now
+  ends_unmade same = unopened_so ends.NoMemory laws start s left source sink total new now (λ e. apart 6 0 refl e) told prepares
+      (spared_same s.shape.n start.old new same) header tt tt
       (cut_none (call_of start left source sink total new) (unopened_of s start.old) start.written now (appends_none start.written now still))
 
   pub ends_closed : (end : ReplayEnd) → EndsUnopened s.shape start.old new end → Replays end (call_of start left source sink total new) start.written now
   ends_closed (ends.NotEmpty cloud area len) x =
-      unopened_so (ends.NotEmpty cloud area len) laws start s left source sink total new now (λ e. apart 7 0 refl e) told prepares header
-      (refl, x.0, read, x.1) sank (appends_none start.written now still)
+      unopened_so (ends.NotEmpty cloud area len) laws start s left source sink total new now (λ e. apart 7 0 refl e) told prepares
+      (spared_by s.shape start.old new (ends.NotEmpty cloud area len) x) header
+      (refl, x.0, read, x.1, x.2) sank (appends_none start.written now still)
   ends_closed (ends.ShelfFault cloud) x =
-      unopened_so (ends.ShelfFault cloud) laws start s left source sink total new now (λ e. apart 5 0 refl e) told prepares header
-      (x.0, read, x.1, inl refl) sank (appends_none start.written now still)
+      unopened_so (ends.ShelfFault cloud) laws start s left source sink total new now (λ e. apart 5 0 refl e) told prepares
+      (spared_by s.shape start.old new (ends.ShelfFault cloud) x) header
+      (x.0, read, x.1, inl (refl, x.2)) sank (appends_none start.written now still)
   ends_closed (ends.Damaged cloud at byte) x =
-      unopened_so (ends.Damaged cloud at byte) laws start s left source sink total new now (λ e. apart 7 0 refl e) told prepares header
-      (refl, x.0, read, x.1) sank (appends_none start.written now still)
+      unopened_so (ends.Damaged cloud at byte) laws start s left source sink total new now (λ e. apart 7 0 refl e) told prepares
+      (spared_by s.shape start.old new (ends.Damaged cloud at byte) x) header
+      (refl, x.0, read, x.1, x.2) sank (appends_none start.written now still)
   ends_closed (ends.Done events) x = absurd x
   ends_closed (ends.Script line at found) x = absurd x
   ends_closed ends.SourceFault x = absurd x
@@ -184,9 +189,9 @@ module _ (laws : Laws) (start : Start) (s : Setting) (reader : Lines) (left : Op
 pub ready_by : {V : Type 0} (clouds : V → ℕ → Cloud) (start : Start) (s : Setting) (link : LocalLink V) (servers : Servers) (shelf : V) (reader : Lines) (left : Option (List ℕ))
     (source : ℕ) (written : Option (List ℕ)) (sink : ℕ) → ((cloud : ℕ) → s.told cloud ≡ (start.old cloud).told) → link.servers ≡ servers → servers.shape ≡ s.shape
     → ((cloud : ℕ) (server : Server) → server_at servers cloud ≡ Some server → IsClosedIn s.rooms server) → link.fate ≡ Deliver → link.shelf.now ≡ shelf
-    → ((cloud : ℕ) → clouds shelf cloud ≡ start.old cloud) → IsHead start.script s.shape s.rooms reader left
+    → ((cloud : ℕ) → clouds shelf cloud ≡ start.old cloud) → ((cloud : ℕ) → cloud < s.shape.n → IsEmpty (start.old cloud)) → IsHead start.script s.shape s.rooms reader left
     → source ≡ start.source → written ≡ start.written → sink ≡ start.sink → IsReady clouds start s link reader left source written sink
-ready_by {V} clouds start s link servers shelf reader left source written sink told of shape closed fate shelf_is same head from wrote sank = record {
+ready_by {V} clouds start s link servers shelf reader left source written sink told of shape closed fate shelf_is same empty head from wrote sank = record {
   told = told;
   shape = ap (λ (sv : Servers). sv.shape) of ∙ shape;
   rooms = λ cloud lt.
@@ -195,6 +200,7 @@ ready_by {V} clouds start s link servers shelf reader left source written sink t
       ap (λ (sv : Servers). rooms_of (server_at sv cloud)) of ∙ ap rooms_of here.1 ∙ rooms;
   fate = fate;
   same = λ cloud. ap (λ (sh : V). clouds sh cloud) shelf_is ∙ same cloud;
+  empty = λ cloud area lt told. empty cloud lt told area;
   read = head;
   source_is = from;
   sink_is = sank;
@@ -239,6 +245,7 @@ module _ {V : Type 0} (clouds : V → ℕ → Cloud) (laws : Laws) (start : Star
   pub ends_unready : EmptyStands → (total : ℕ) → Replays ends.NoMemory (call_of start left source sink total (clouds old.shelf.now)) start.written written
   ends_unready law total =
       ends_unmade laws start s reader left source sink total (clouds old.shelf.now) written ready.told ready.read (all_same law (header_in s) s.shape start.old (clouds old.shelf.now) ready.same) ready.written_is ready.sink_is
+      ready.same
 
   module _ (new : LocalLink V) (to : OpensTo clouds old new old.servers.shape.n) where
     pub prepares_at : (cloud : ℕ) → cloud < s.shape.n → Prepares (header_in s cloud) (start.old cloud) (clouds new.shelf.now cloud)
@@ -258,6 +265,7 @@ module _ {V : Type 0} (clouds : V → ℕ → Cloud) (laws : Laws) (start : Star
       history = [];
       at = opening start.old;
       told = ready.told;
+      began = ready.empty;
       count = refl;
       is_at = record {
         link_at = record {

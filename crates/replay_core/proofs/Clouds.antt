@@ -20,7 +20,7 @@ use Rattle.cloud_server.specs.Names.{HasNoJournal}
 use Rattle.cloud_server.specs.Refusals.{IsDamage}
 use Rattle.replay_core.specs.declared.end.ReplayEnd.{ReplayEnd}
 use Rattle.replay_core.specs.declared.end.ReplayEnd.TheVariants as ends
-use Rattle.replay_core.specs.Endings.{IsFirstFilled}
+use Rattle.replay_core.specs.Endings.{AreEmptyBelow, AreSpared, IsFirstFilled}
 use Rattle.replay_core.specs.Opening.{IsBlank, Prepares, PreparesAll, AreSame, IsEmpty, EndsEmpty, EndsOpening, EndsUnopened, IsEndOf}
 
 -- areas that are all empty stand for no commands
@@ -34,6 +34,9 @@ empty_stands unbegun stands image header empty = stands image header (unbegun im
 pub blank_stands : EmptyStands → (header : Header) (cloud : Cloud) → IsBlank cloud → (image : Image) → IsImage cloud.now image
     → StandsForSome header (λ list. list ≡ []) image
 blank_stands law header cloud blank image is = ([], refl, law image header (λ area. blank image area is))
+
+pub stays_same : (old new : Cloud) → new ≡ old → Stays old new
+stays_same old new same = subst (Stays old) (sym same) (record { armed = refl; past = refl; now = refl })
 
 -- ---- an answer of Err
 
@@ -98,13 +101,13 @@ more_empty old mid number same before here cloud lt = elim (cases_eq cloud numbe
 ]
 
 pub ends_empty : (shape : Shape) (old mid new : ℕ → Cloud) (number : ℕ) → number < shape.n → AreSame old mid
-    → ((cloud : ℕ) → cloud < number → IsEmpty (old cloud)) → (end : ReplayEnd) → EndsEmpty number (mid number) (new number) end
+    → ((other : ℕ) → other ≢ number → new other ≡ mid other) → ((cloud : ℕ) → cloud < number → IsEmpty (old cloud)) → (end : ReplayEnd) → EndsEmpty number (mid number) (new number) end
     → EndsUnopened shape old new end
-ends_empty shape old mid new number below same before end is =
+ends_empty shape old mid new number below same others before end is =
     by_end end (subst (λ (c : Cloud). EndsEmpty number c (new number) end) (same number) is)
   where
     by_end : (end : ReplayEnd) → EndsEmpty number (old number) (new number) end → EndsUnopened shape old new end
-    by_end (ends.NotEmpty cloud area len) e = subst (λ (n : ℕ). (n < shape.n) × IsFirstFilled old n area len) (sym e.0) (
+    by_end (ends.NotEmpty cloud area len) e = subst (λ (n : ℕ). (n < shape.n) × IsFirstFilled old n area len × AreSame old new) (sym e.0) (
       below,
       record {
         some = e.1;
@@ -112,8 +115,20 @@ ends_empty shape old mid new number below same before end is =
         areas_before = λ told. (e.2 told).0;
         len_is = λ told. (e.2 told).1;
       },
+      λ other. elim (cases_eq other number) [
+        | inl at ↦ subst (λ (n : ℕ). new n ≡ old n) (sym at) e.3
+        | inr ne ↦ others other ne ∙ same other
+      ],
     )
-    by_end (ends.ShelfFault cloud) e = subst (λ (n : ℕ). (n < shape.n) × Rose (old n).faults (new n).faults) (sym e.0) (below, e.1)
+    by_end (ends.ShelfFault cloud) e = subst (λ (n : ℕ). (n < shape.n) × Rose (old n).faults (new n).faults × AreEmptyBelow old n × AreSpared shape.n old new) (sym e.0) (
+      below,
+      e.1,
+      λ other area lt told. before other lt told area,
+      inr (λ other. elim (cases_eq other number) [
+        | inl at ↦ subst (λ (n : ℕ). Stays (old n) (new n)) (sym at) e.2
+        | inr ne ↦ stays_same (old other) (new other) (others other ne ∙ same other)
+      ]),
+    )
     by_end (ends.Done events) e = absurd e
     by_end (ends.Script line at found) e = absurd e
     by_end ends.SourceFault e = absurd e
@@ -148,16 +163,38 @@ ends_opening cloud old new before now (errors.OtherStore found asked start) end 
 
 -- at one of the clouds
 pub ends_unopened : (shape : Shape) (old mid new : ℕ → Cloud) (number : ℕ) → number < shape.n → mid number ≡ old number
-    → (end : ReplayEnd) → EndsOpening number (mid number) (new number) end → EndsUnopened shape old new end
-ends_unopened shape old mid new number below same end is =
+    → ((cloud : ℕ) → cloud < shape.n → IsEmpty (old cloud)) → (end : ReplayEnd) → EndsOpening number (mid number) (new number) end → EndsUnopened shape old new end
+ends_unopened shape old mid new number below same empty end is =
     by_end end (subst (λ (c : Cloud). EndsOpening number c (new number) end) same is)
   where
+    front : AreEmptyBelow old number
+    front other area lt told = empty other (omega (arith, lt, below)) told area
+
+    all : AreEmptyBelow old shape.n
+    all other area lt told = empty other lt told area
+
     by_end : (end : ReplayEnd) → EndsOpening number (old number) (new number) end → EndsUnopened shape old new end
-    by_end (ends.ShelfFault cloud) e = subst (λ (n : ℕ). (n < shape.n) × Rose (old n).faults (new n).faults) (sym e.0) (below, e.1)
-    by_end (ends.Damaged cloud at byte) e = subst (λ (n : ℕ). (n < shape.n) × ((old n).told ≡ false)) (sym e.0) (below, e.1)
+    by_end (ends.ShelfFault cloud) e = subst (λ (n : ℕ). (n < shape.n) × Rose (old n).faults (new n).faults × AreEmptyBelow old n × AreSpared shape.n old new) (sym e.0)
+        (below, e.1, front, inl all)
+    by_end (ends.Damaged cloud at byte) e = subst (λ (n : ℕ). (n < shape.n) × ((old n).told ≡ false) × AreEmptyBelow old shape.n) (sym e.0) (below, e.1, all)
     by_end (ends.NotEmpty cloud area len) e = absurd e
     by_end (ends.Done events) e = absurd e
     by_end (ends.Script line at found) e = absurd e
     by_end ends.SourceFault e = absurd e
     by_end ends.SinkFault e = absurd e
     by_end ends.NoMemory e = absurd e
+
+-- ---- what an end before the openings leaves of the clouds
+
+pub spared_by : (shape : Shape) (old new : ℕ → Cloud) (end : ReplayEnd) → EndsUnopened shape old new end → AreSpared shape.n old new
+spared_by shape old new (ends.NotEmpty cloud area len) x = inr (λ other. stays_same (old other) (new other) (x.2 other))
+spared_by shape old new (ends.ShelfFault cloud) x = x.3
+spared_by shape old new (ends.Damaged cloud at byte) x = inl x.2
+spared_by shape old new (ends.Done events) x = absurd x
+spared_by shape old new (ends.Script line at found) x = absurd x
+spared_by shape old new ends.SourceFault x = absurd x
+spared_by shape old new ends.SinkFault x = absurd x
+spared_by shape old new ends.NoMemory x = absurd x
+
+pub spared_same : (count : ℕ) (old new : ℕ → Cloud) → AreSame old new → AreSpared count old new
+spared_same count old new same = inr (λ cloud. stays_same (old cloud) (new cloud) (same cloud))

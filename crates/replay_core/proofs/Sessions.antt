@@ -26,6 +26,7 @@ use Rattle.script_lines.specs.SessionModel.Headline.{Begun, IsPartOf, event_of, 
 use Rattle.script_lines.specs.At.{header_in, Leaves}
 use Rattle.script_lines.specs.Does.{Goes, Cut}
 use Rattle.script_lines.proofs.Going.{left_at}
+use Rattle.replay_core.specs.Endings.{AreEmptyBelow}
 use Rattle.replay_core.specs.Replayed.{BeginsEmpty}
 use Rattle.replay_core.specs.Opening.{IsThere}
 use Rattle.replay_core.specs.Going.{Start, HasCome, SaysNext, CanBe}
@@ -100,6 +101,7 @@ appends_grown (Some a) bytes = refl
 
 pub record Holds (start : Start) (s : Setting) (new : ℕ → Cloud) (history : List Answered) (at : Vault) (begun : Option Begun) (last : ℕ → Peer) : Type 0 where
   pub told : (cloud : ℕ) → s.told cloud ≡ (start.old cloud).told
+  pub began : AreEmptyBelow start.old s.shape.n
   pub turns : Turns s (opening start.old) history at
   pub are_lines : AreLines s.shape 0 (script_of history ++ event_of begun)
   pub begun_is : MatchOption begun (last ≡ at.peers) (λ b. IsPartOf s at b last)
@@ -134,6 +136,7 @@ module _ {V : Type 0} (clouds : V → ℕ → Cloud) (start : Start) (s : Settin
       let l = left_at clouds s link come.at.peers come.is_at.link_at in
       record {
         told = come.told;
+        began = come.began;
         turns = come.turns;
         are_lines = subst (AreLines s.shape 0) (sym (append-nil (script_of come.history))) come.are_lines;
         begun_is = refl;
@@ -168,6 +171,7 @@ module _ {V : Type 0} (clouds : V → ℕ → Cloud) (start : Start) (s : Settin
         → Holds start s (clouds new.shelf.now) come.history come.at (Some (record { event = event; moments = cut.moments })) cut.last
     holds_cut part here cut = record {
       told = come.told;
+      began = come.began;
       turns = come.turns;
       are_lines = lines_on;
       begun_is = cut.part;
@@ -212,6 +216,7 @@ module _ {V : Type 0} (clouds : V → ℕ → Cloud) (start : Start) (s : Settin
         history = come.history ++ one ∷ [];
         at = goes.after;
         told = come.told;
+        began = come.began;
         count = count_more come.history one ∙ ap (λ (n : ℕ). n + 1) come.count;
         is_at = goes.is_at;
         turns = turns_more s (opening start.old) come.at goes.after come.history event answers goes.moments come.turns goes.step;
@@ -232,6 +237,7 @@ module _ {V : Type 0} (clouds : V → ℕ → Cloud) (start : Start) (s : Settin
           let l = left_at clouds s new goes.after.peers goes.is_at.link_at in
           record {
             told = come.told;
+            began = come.began;
             turns = turns_more s (opening start.old) come.at goes.after come.history event answers goes.moments come.turns goes.step;
             are_lines = subst (AreLines s.shape 0) (sym (append-nil (script_of (come.history ++ one ∷ [])) ∙ script_more come.history one)) lines_on;
             begun_is = refl;

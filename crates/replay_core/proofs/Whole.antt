@@ -28,7 +28,7 @@ use Rattle.two_worlds.proofs.Two.{two_worlds}
 use Rattle.script_lines.specs.At.{Leaves}
 use Rattle.replay_core.specs.declared.end.ReplayEnd.{ReplayEnd}
 use Rattle.replay_core.specs.declared.end.ReplayEnd.TheVariants as ends
-use Rattle.replay_core.specs.Endings.{Call, HasReadSome, HasHeader, IsDue, HasCause}
+use Rattle.replay_core.specs.Endings.{Call, HasReadSome, HasHeader, AreEmptyBelow, AreSpared, IsDue, HasCause}
 use Rattle.replay_core.specs.Replayed.{Replayed, Replays, status_of, ending_of, IsCut, IsPrinted}
 use Rattle.replay_core.specs.Opening.{IsThere}
 use Rattle.replay_core.specs.Going.{Start, call_of, HasCome, SaysNext, CanBe, EndsReading, WritesFront, EndsWriting, Answers, EndsAnswering}
@@ -105,11 +105,14 @@ CausedBy call run ends.NoMemory = Unit {0}
 CausedBy call run end = call.sink_after ≡ call.sink_before
 
 pub cause_of : (end : ReplayEnd) (call : Call) (run : Session) → HasHeader call run → (IsTrue run.opened → HasReadSome call run)
+    → (IsTrue run.opened → AreEmptyBelow call.old run.setting.shape.n) → AreSpared run.setting.shape.n call.old call.new
     → IsDue call run (ending_of end) → CausedBy call run end → HasCause (status_of end) call run (ending_of end)
-cause_of (ends.Done events) call run header read due by = record {
+cause_of (ends.Done events) call run header read began spared due by = record {
   known = (omega arith, λ e. apart 0 1 refl e);
   header = header;
   read = read;
+  began = began;
+  spared = spared;
   due = due;
   done = λ e. tt;
   wrong = λ e. apart 0 2 refl e;
@@ -119,10 +122,12 @@ cause_of (ends.Done events) call run header read due by = record {
   shelf = λ e. apart 0 5 refl e;
   store = λ e. apart 0 7 refl e;
 }
-cause_of (ends.Script line at found) call run header read due by = record {
+cause_of (ends.Script line at found) call run header read began spared due by = record {
   known = (omega arith, λ e. apart 2 1 refl e);
   header = header;
   read = read;
+  began = began;
+  spared = spared;
   due = due;
   done = λ e. apart 2 0 refl e;
   wrong = λ e. tt;
@@ -132,10 +137,12 @@ cause_of (ends.Script line at found) call run header read due by = record {
   shelf = λ e. apart 2 5 refl e;
   store = λ e. apart 2 7 refl e;
 }
-cause_of ends.SourceFault call run header read due by = record {
+cause_of ends.SourceFault call run header read began spared due by = record {
   known = (omega arith, λ e. apart 3 1 refl e);
   header = header;
   read = read;
+  began = began;
+  spared = spared;
   due = due;
   done = λ e. apart 3 0 refl e;
   wrong = λ e. apart 3 2 refl e;
@@ -145,10 +152,12 @@ cause_of ends.SourceFault call run header read due by = record {
   shelf = λ e. apart 3 5 refl e;
   store = λ e. apart 3 7 refl e;
 }
-cause_of ends.SinkFault call run header read due by = record {
+cause_of ends.SinkFault call run header read began spared due by = record {
   known = (omega arith, λ e. apart 4 1 refl e);
   header = header;
   read = read;
+  began = began;
+  spared = spared;
   due = due;
   done = λ e. apart 4 0 refl e;
   wrong = λ e. apart 4 2 refl e;
@@ -158,10 +167,12 @@ cause_of ends.SinkFault call run header read due by = record {
   shelf = λ e. apart 4 5 refl e;
   store = λ e. apart 4 7 refl e;
 }
-cause_of (ends.ShelfFault cloud) call run header read due by = record {
+cause_of (ends.ShelfFault cloud) call run header read began spared due by = record {
   known = (omega arith, λ e. apart 5 1 refl e);
   header = header;
   read = read;
+  began = began;
+  spared = spared;
   due = due;
   done = λ e. apart 5 0 refl e;
   wrong = λ e. apart 5 2 refl e;
@@ -171,10 +182,12 @@ cause_of (ends.ShelfFault cloud) call run header read due by = record {
   shelf = λ e. inl tt;
   store = λ e. apart 5 7 refl e;
 }
-cause_of ends.NoMemory call run header read due by = record {
+cause_of ends.NoMemory call run header read began spared due by = record {
   known = (omega arith, λ e. apart 6 1 refl e);
   header = header;
   read = read;
+  began = began;
+  spared = spared;
   due = due;
   done = λ e. apart 6 0 refl e;
   wrong = λ e. apart 6 2 refl e;
@@ -184,10 +197,12 @@ cause_of ends.NoMemory call run header read due by = record {
   shelf = λ e. apart 6 5 refl e;
   store = λ e. apart 6 7 refl e;
 }
-cause_of (ends.NotEmpty cloud area len) call run header read due by = record {
+cause_of (ends.NotEmpty cloud area len) call run header read began spared due by = record {
   known = (omega arith, λ e. apart 7 1 refl e);
   header = header;
   read = read;
+  began = began;
+  spared = spared;
   due = due;
   done = λ e. apart 7 0 refl e;
   wrong = λ e. apart 7 2 refl e;
@@ -197,10 +212,12 @@ cause_of (ends.NotEmpty cloud area len) call run header read due by = record {
   shelf = λ e. apart 7 5 refl e;
   store = λ e. tt;
 }
-cause_of (ends.Damaged cloud at byte) call run header read due by = record {
+cause_of (ends.Damaged cloud at byte) call run header read began spared due by = record {
   known = (omega arith, λ e. apart 7 1 refl e);
   header = header;
   read = read;
+  began = began;
+  spared = spared;
   due = due;
   done = λ e. apart 7 0 refl e;
   wrong = λ e. apart 7 2 refl e;
@@ -289,7 +306,8 @@ module _ (laws : Laws) (start : Start) (s : Setting) (left : Option (List ℕ)) 
     replayed = replayed laws (status_of end) start s new history at begun last h same image told;
     cause = cause_of end (call_of start left source sink total new) (session_of s history at begun last)
         (header_read (call_of start left source sink total new) (session_of s history at begun last) (script_of history ++ event_of begun) h.read)
-        (λ o. read_some start.script (λ (script : List ℕ) (place : Place). Reaches script s.shape s.rooms (script_of history ++ event_of begun) place) h.read) is_due by;
+        (λ o. read_some start.script (λ (script : List ℕ) (place : Place). Reaches script s.shape s.rooms (script_of history ++ event_of begun) place) h.read)
+        (λ o. h.began) (inl h.began) is_due by;
     printed = printed;
   }
 
@@ -434,7 +452,7 @@ module _ {V : Type 0} (clouds : V → ℕ → Cloud) (laws : Laws) (start : Star
           subst (λ (e : Event). Fits s.shape (length jobs) e) x.0.0 can.fits,
           read_some start.script (λ (script : List ℕ) (place : Place). Reaches script s.shape s.rooms (script_of come.history ++ event_of begun) place) h.read,
           fault.rose,
-          inr x.0.0,
+          inr (x.0.0, fault.last_is),
         ) (x.2 ∙ come.sink_is) (subst (λ (o : Option (List ℕ)). Appends start.written o (text_so_far s come.history)) (sym x.1) come.printed)
     ends_answered (ends.NotEmpty cloud area len) now sink_now x = absurd x
     ends_answered (ends.Damaged cloud at byte) now sink_now x = absurd x

@@ -4,6 +4,7 @@ use Rattle.cd_edges.specs.declared.area.Area.{Area}
 use Rattle.cd_edges.specs.declared.area.Area.TheVariants as areas
 use Rattle.cd_edges.specs.Causes.{Rose}
 use Rattle.cd_edges.specs.Disk.{Cloud, reads}
+use Rattle.cd_edges.specs.Shelf.{Stays}
 use Rattle.session.specs.Fault.{Fault}
 use Rattle.cd_base.specs.declared.shape.Shape.{Shape}
 use Rattle.journal_start.specs.declared.rooms.Rooms.{Rooms}
@@ -55,7 +56,7 @@ HasHeader call run = IfSome call.script (λ script. (shape : Shape) (rooms : Roo
     → Begins script shape rooms place → (run.setting.shape ≡ shape) × (run.setting.rooms ≡ rooms))
 
 -- A line was begun in which the shelf may fail outside an execution and outside an opening: the replacement of this cloud,
--- whose areas couldn't be made empty.
+-- whose areas couldn't be made empty. The last state is then the one between the lines.
 abbrev pub MayFailIn : Option Begun → ℕ → Type 0
 MayFailIn None cloud = ⊥
 MayFailIn (Some b) cloud = b.event ≡ events.Replace (cloud_no cloud)
@@ -69,6 +70,15 @@ abbrev pub AreEmptyBefore : Area → Cloud → Type 0
 AreEmptyBefore areas.Journal cloud = Unit {0}
 AreEmptyBefore areas.Shares cloud = IsEmptyAt cloud areas.Journal
 AreEmptyBefore areas.Recipes cloud = IsEmptyAt cloud areas.Journal × IsEmptyAt cloud areas.Shares
+
+-- so many clouds from the first on read as nothing, where they are told
+abbrev pub AreEmptyBelow : (ℕ → Cloud) → ℕ → Type 0
+AreEmptyBelow clouds count =
+    (cloud : ℕ) (area : Area) → cloud < count → IsTrue (clouds cloud).told → IsEmptyAt (clouds cloud) area
+
+-- Either these clouds read as nothing, where they are told, or each cloud holds what it held, at all its moments.
+abbrev pub AreSpared : ℕ → (ℕ → Cloud) → (ℕ → Cloud) → Type 0
+AreSpared count old new = AreEmptyBelow old count ⊎ ((cloud : ℕ) → Stays (old cloud) (new cloud))
 
 -- the first area that isn't empty, and its length
 pub record IsFirstFilled (clouds : ℕ → Cloud) (cloud : ℕ) (area : Area) (len : ℕ) : Type 0 where
@@ -88,11 +98,14 @@ IsDue call run (ScriptEnding line fault) =
     (run.begun ≡ None) × (line ≡ (if run.opened then length run.history + 2 else 1)) × IsWrongAt call run fault
 IsDue call run (ShelfEnding cloud) =
     (cloud < run.setting.shape.n) × HasReadSome call run × Rose (run.last cloud).faults (call.new cloud).faults
-    × ((run.opened ≡ false) ⊎ MayFailIn run.begun cloud)
+    × (((run.opened ≡ false) × AreEmptyBelow call.old cloud)
+    ⊎ (MayFailIn run.begun cloud × (run.last ≡ run.between.peers)))
 IsDue call run (StoreEnding cloud area len) =
     (run.opened ≡ false) × (cloud < run.setting.shape.n) × HasReadSome call run × IsFirstFilled call.old cloud area len
+    × ((other : ℕ) → call.new other ≡ call.old other)
 IsDue call run (DamagedEnding cloud at byte) =
     (run.opened ≡ false) × (cloud < run.setting.shape.n) × HasReadSome call run × ((call.old cloud).told ≡ false)
+    × AreEmptyBelow call.old run.setting.shape.n
 
 abbrev pub IsDone : EndingLine → Type 0
 IsDone (DoneEnding events) = Unit {0}
@@ -111,15 +124,20 @@ IsOfStore (StoreEnding cloud area len) = Unit {0}
 IsOfStore (DamagedEnding cloud at byte) = Unit {0}
 IsOfStore line = ⊥
 
--- the place that the shelf was to name couldn't be made or found
+-- the place that the shelf was to name couldn't be made or found, and each cloud is as it was
 abbrev pub IsRootless : Call → Session → EndingLine → Type 0
-IsRootless call run line = (line ≡ NoEnding) × (run.opened ≡ false) × Rose call.total_before call.total_after
+IsRootless call run line =
+    (line ≡ NoEnding) × (run.opened ≡ false) × Rose call.total_before call.total_after
+    × ((cloud : ℕ) → call.new cloud ≡ call.old cloud)
 
 -- The status has its cause. Want of memory, 6, has none.
 pub record HasCause (status : ℕ) (call : Call) (run : Session) (line : EndingLine) : Type 0 where
   pub known : (status ≤ 7) × (status ≢ 1)
   pub header : HasHeader call run
   pub read : IsTrue run.opened → HasReadSome call run
+  pub began : IsTrue run.opened → AreEmptyBelow call.old run.setting.shape.n
+  -- where a told cloud isn't empty, nothing was written, whatever the status
+  pub spared : AreSpared run.setting.shape.n call.old call.new
   pub due : IsDue call run line
   pub done : status ≡ 0 → IsDone line
   pub wrong : status ≡ 2 → IsOfScript line

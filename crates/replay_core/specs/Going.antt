@@ -28,7 +28,7 @@ use Rattle.script_lines.specs.Does.{Goes, IsCutOff}
 use Rattle.script_lines.specs.Replacing.{IsShelfFault}
 use Rattle.replay_core.specs.declared.end.ReplayEnd.{ReplayEnd}
 use Rattle.replay_core.specs.declared.end.ReplayEnd.TheVariants as ends
-use Rattle.replay_core.specs.Endings.{Call}
+use Rattle.replay_core.specs.Endings.{Call, AreEmptyBelow}
 use Rattle.replay_core.specs.Opening.{IsHead, IsThere}
 use Rattle.replay_core.specs.Replayed.{BeginsEmpty}
 
@@ -66,6 +66,7 @@ pub record IsReady {V : Type 0} (clouds : V → ℕ → Cloud) (start : Start) (
   pub rooms : (cloud : ℕ) → cloud < s.shape.n → rooms_at link.servers cloud ≡ s.rooms
   pub fate : link.fate ≡ Deliver
   pub same : (cloud : ℕ) → clouds link.shelf.now cloud ≡ start.old cloud
+  pub empty : AreEmptyBelow start.old s.shape.n
   pub read : IsHead start.script s.shape s.rooms reader left
   pub source_is : source ≡ start.source
   pub sink_is : sink ≡ start.sink
@@ -78,6 +79,7 @@ pub record HasCome {V : Type 0} (clouds : V → ℕ → Cloud) (start : Start) (
   pub history : List Answered
   pub at : Vault
   pub told : (cloud : ℕ) → s.told cloud ≡ (start.old cloud).told
+  pub began : AreEmptyBelow start.old s.shape.n
   pub count : length history ≡ events
   pub is_at : IsAt clouds s link jobs at
   pub turns : Turns s (opening start.old) history at

@@ -6,6 +6,7 @@ use Rattle.cd_base.specs.declared.shape.Shape.{Shape}
 use Rattle.cd_edges.specs.declared.area.Area.{Area}
 use Rattle.cd_edges.specs.Causes.{Rose}
 use Rattle.cd_edges.specs.Disk.{Cloud, Image, IsImage, reads}
+use Rattle.cd_edges.specs.Shelf.{Stays}
 use Rattle.journal_start.specs.declared.start.Header.{Header}
 use Rattle.half_journal.specs.declared.errors.OpenErr.{OpenErr}
 use Rattle.half_journal.specs.declared.errors.OpenErr.TheVariants as open_errors
@@ -23,7 +24,7 @@ use Rattle.session.specs.Scripts.{Place, Begins, IsWrongFirst}
 use Rattle.cloud_server.specs.Refusals.{IsDamage}
 use Rattle.replay_core.specs.declared.end.ReplayEnd.{ReplayEnd}
 use Rattle.replay_core.specs.declared.end.ReplayEnd.TheVariants as ends
-use Rattle.replay_core.specs.Endings.{IsEmptyAt, AreEmptyBefore, IsFirstFilled}
+use Rattle.replay_core.specs.Endings.{IsEmptyAt, AreEmptyBefore, AreEmptyBelow, AreSpared, IsFirstFilled}
 
 -- ---- the first line
 
@@ -102,7 +103,9 @@ IsEmpty cloud = IsTrue cloud.told → (area : Area) → IsEmptyAt cloud area
 abbrev pub EndsEmpty : ℕ → Cloud → Cloud → ReplayEnd → Type 0
 EndsEmpty number old new (ends.NotEmpty cloud area len) =
     (cloud.0 ≡ number) × (len ≢ 0) × (IsTrue old.told → AreEmptyBefore area old × (len ≡ length (reads old.now area)))
-EndsEmpty number old new (ends.ShelfFault cloud) = (cloud.0 ≡ number) × Rose old.faults new.faults
+    × (new ≡ old)
+EndsEmpty number old new (ends.ShelfFault cloud) =
+    (cloud.0 ≡ number) × Rose old.faults new.faults × Stays old new
 EndsEmpty number old new end = ⊥
 
 -- how a replay ends at the first opening of a cloud
@@ -118,10 +121,13 @@ IsEndOf cloud error end = (at : ℕ) × (byte : ℕ) × IsDamage error at byte �
 
 -- how a replay ends before its clouds are opened, behind its first line
 abbrev pub EndsUnopened : Shape → (ℕ → Cloud) → (ℕ → Cloud) → ReplayEnd → Type 0
-EndsUnopened shape old new (ends.NotEmpty cloud area len) = (cloud.0 < shape.n) × IsFirstFilled old cloud.0 area len
+EndsUnopened shape old new (ends.NotEmpty cloud area len) =
+    (cloud.0 < shape.n) × IsFirstFilled old cloud.0 area len × AreSame old new
 EndsUnopened shape old new (ends.ShelfFault cloud) =
-    (cloud.0 < shape.n) × Rose (old cloud.0).faults (new cloud.0).faults
-EndsUnopened shape old new (ends.Damaged cloud at byte) = (cloud.0 < shape.n) × ((old cloud.0).told ≡ false)
+    (cloud.0 < shape.n) × Rose (old cloud.0).faults (new cloud.0).faults × AreEmptyBelow old cloud.0
+    × AreSpared shape.n old new
+EndsUnopened shape old new (ends.Damaged cloud at byte) =
+    (cloud.0 < shape.n) × ((old cloud.0).told ≡ false) × AreEmptyBelow old shape.n
 EndsUnopened shape old new end = ⊥
 
 -- ---- the link

@@ -111,7 +111,8 @@ fn carry_script<S: Source, K: Sink, V: Shelf>(
 ///
 /// Line 1 is read first. Then each area of the n clouds is asked, in order, whether it is empty; the clouds are opened in
 /// order; `open N K` is written; and each further line is carried out and answered before the next one is read. At the
-/// script's end `done E` is written. The last lines of all other ends are left to the caller.
+/// script's end `done E` is written. The last lines of all other ends are left to the caller. Where a told cloud isn't empty no cloud
+/// is opened, and nothing is written to any, whatever the end.
 ///
 /// Whatever the end, there is a session of just the lines that were carried out. Each get of it gives each version that
 /// its clouds acknowledged; each disk that a crash may leave stands for a list that its cloud had in some state of the

@@ -6,6 +6,8 @@ mod deleting;
 #[cfg(test)]
 mod ends;
 #[cfg(test)]
+mod filled;
+#[cfg(test)]
 mod generated;
 #[cfg(test)]
 mod gets;

@@ -29,7 +29,7 @@ returns-in_default-clause-generates g c = λ begun s ready rooms.
     ends_unmade (record { given = c.law_of_acknowledged.ensures.given; more = c.law_of_acknowledged.ensures.more; kept = c.law_of_acknowledged.ensures.kept; private = c.law_of_own_replies.ensures }) order call s
     (ap (λ (sh : Shape). sh.n) (sym ready.shape) ∙ c.requires.shape.0, ap (λ (sh : Shape). sh.k) (sym ready.shape) ∙ c.requires.shape.1, rooms) ready.told
     (all_same (empty_stands c.law_of_no_commands.ensures.unbegun c.law_of_no_commands.ensures.stands) (header_in s) s.shape begun
-    (clouds c.args.link.now.shelf.now) ready.same) refl refl
+    (clouds c.args.link.now.shelf.now) ready.same) refl refl ready.same
 
 pub returns-in-Err-clause-generates : goal.returns-in-Err-clause-generates
 returns-in-Err-clause-generates g c = λ begun s ready rooms.

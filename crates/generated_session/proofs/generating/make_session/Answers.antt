@@ -45,7 +45,7 @@ returns-in_default g c =
     } in
     ends_unmade (record { given = c.law_of_acknowledged.ensures.given; more = c.law_of_acknowledged.ensures.more; kept = c.law_of_acknowledged.ensures.kept; private = c.law_of_own_replies.ensures }) order call s
     (c.four_clouds-shape.ensures.0, c.four_clouds-shape.ensures.1, refl) (λ cloud. refl)
-    (all_same (empty_stands c.law_of_no_commands.ensures.unbegun c.law_of_no_commands.ensures.stands) (header_in s) s.shape (clouds c.args.shelf.now) (clouds c.empty_clouds.new.shelf) c.in-Ok.ensures.same) refl refl
+    (all_same (empty_stands c.law_of_no_commands.ensures.unbegun c.law_of_no_commands.ensures.stands) (header_in s) s.shape (clouds c.args.shelf.now) (clouds c.empty_clouds.new.shelf) c.in-Ok.ensures.same) refl refl c.in-Ok.ensures.same
 
 pub returns : goal.returns
 returns g c =
@@ -53,7 +53,7 @@ returns g c =
     let s : Setting = record { shape = c.four_clouds-shape.result; rooms = usual_rooms; told = λ cloud. (clouds c.args.shelf.now cloud).told } in
     let promise = c.carry_session-end.ensures.generates (clouds c.args.shelf.now) s
     (ready_by clouds (start_of (clouds c.args.shelf.now)) s c.of-link.result c.in-Ok-make.servers c.empty_clouds.new.shelf before_first None 0 None 0 (λ cloud. refl) c.of-link.ensures.servers c.in-Ok-make.ensures.shape
-    (subst (λ (r : Rooms). (cloud : ℕ) (server : Server) → server_at c.in-Ok-make.servers cloud ≡ Some server → IsClosedIn r server) c.usual.ensures.rooms c.in-Ok-make.ensures.closed) c.of-link.ensures.delivers.0 c.of-link.ensures.shelf c.in-Ok.ensures.same tt refl refl refl) refl in
+    (subst (λ (r : Rooms). (cloud : ℕ) (server : Server) → server_at c.in-Ok-make.servers cloud ≡ Some server → IsClosedIn r server) c.usual.ensures.rooms c.in-Ok-make.ensures.closed) c.of-link.ensures.delivers.0 c.of-link.ensures.shelf c.in-Ok.ensures.same c.in-Ok.ensures.empty tt refl refl refl) refl in
     let back : c.carry_session-end.new.link.shelf.now ≡ c.shelf-1.given.0 = search rules in
     subst (λ (shelf : g.row.V.Denot). Generates c.carry_session-end.result (record { seed = c.args.seed; files = c.args.files; pieces = c.args.pieces }) (record {
       sink_before = g.K.Sink.faults c.args.sink.now;

@@ -25,4 +25,4 @@ returns-in_err-empty_cloud-clause-end g c =
     let residual : c.from_residual.result ≡ Err c.in_err-empty_cloud.field-0.0 = search rules in
     if_err c.from_residual.result c.in_err-empty_cloud.field-0.0 _ residual
     (ends_empty c.args.shape (g.V.Shelf.cloud_at c.args.shelf.now) (g.V.Shelf.cloud_at c.loop-number.shelf) (g.V.Shelf.cloud_at c.empty_cloud.new.shelf) c.loop-number.number
-    (omega arith) c.loop-number.invariant.same c.loop-number.invariant.empty c.in_err-empty_cloud.field-0.0 c.in_err-empty_cloud.ensures.end)
+    (omega arith) c.loop-number.invariant.same c.empty_cloud.ensures.others c.loop-number.invariant.empty c.in_err-empty_cloud.field-0.0 c.in_err-empty_cloud.ensures.end)

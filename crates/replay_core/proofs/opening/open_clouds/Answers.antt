@@ -44,7 +44,7 @@ returns-in_err-open_cloud-clause-end g c =
     if_err c.from_residual.result c.in_err-open_cloud.field-0.0 _ residual
     (ends_unopened c.args.link.now.servers.shape (g.V.Shelf.cloud_at c.args.link.now.shelf.now) (g.V.Shelf.cloud_at c.loop-number.link.shelf.now)
     (g.V.Shelf.cloud_at c.open_cloud.new.link.shelf.now) c.loop-number.number (omega arith) (c.loop-number.invariant.to.clouds_wait c.loop-number.number (omega arith))
-    c.in_err-open_cloud.field-0.0 c.in_err-open_cloud.ensures.end)
+    c.requires.empty c.in_err-open_cloud.field-0.0 c.in_err-open_cloud.ensures.end)
 
 pub returns-clause-opens : goal.returns-clause-opens
 returns-clause-opens g c =

@@ -75,6 +75,7 @@ returns-in_default-make g c =
     start s c.first_line.new.reader (g.S.Source.left c.first_line.new.source) (g.S.Source.faults c.first_line.new.source) (g.K.Sink.faults c.args.sink.now) (g.V.Shelf.faults c.empty_clouds.new.shelf)
     (g.V.Shelf.cloud_at c.empty_clouds.new.shelf) (g.K.Sink.written c.args.sink.now) (λ cloud. refl) c.in-Ok-first_line.ensures.header
     (all_same (empty_stands c.law_of_no_commands.ensures.unbegun c.law_of_no_commands.ensures.stands) (header_in s) s.shape start.old (g.V.Shelf.cloud_at c.empty_clouds.new.shelf) c.in-Ok-empty_clouds.ensures.same) refl refl
+    c.in-Ok-empty_clouds.ensures.same
 
 pub returns : goal.returns
 returns g c =
@@ -94,7 +95,7 @@ returns g c =
     let promise = c.carry_script-end.ensures.replays start s
     (ready_by g.V.Shelf.cloud_at start s c.of-link.result c.in-Ok-make.servers c.empty_clouds.new.shelf c.first_line.new.reader (g.S.Source.left c.first_line.new.source)
     (g.S.Source.faults c.first_line.new.source) (g.K.Sink.written c.args.sink.now) (g.K.Sink.faults c.args.sink.now) (λ cloud. refl) c.of-link.ensures.servers c.in-Ok-make.ensures.shape
-    c.in-Ok-make.ensures.closed c.of-link.ensures.delivers.0 c.of-link.ensures.shelf c.in-Ok-empty_clouds.ensures.same c.in-Ok-first_line.ensures.header
+    c.in-Ok-make.ensures.closed c.of-link.ensures.delivers.0 c.of-link.ensures.shelf c.in-Ok-empty_clouds.ensures.same c.in-Ok-empty_clouds.ensures.empty c.in-Ok-first_line.ensures.header
     c.in-Ok-first_line.ensures.still refl refl) in
     let back : c.carry_script-end.new.link.shelf.now ≡ c.shelf-1.given.0 = search rules in
     subst (λ (shelf : g.row.V.Denot). Replays c.carry_script-end.result (call_of start (g.S.Source.left c.carry_script-end.new.source) (g.S.Source.faults c.carry_script-end.new.source)
