@@ -1,7 +1,7 @@
 -- An audit and a check by an open server, behind the opening.
-use Rattle.std.proofs.Common.{◌≡◌, ℕ, IsTrue, List, [], ◌++◌, Result, Ok, Err, sym, ap, ◌∙◌, subst}
+use Rattle.std.proofs.Common.{◌≡◌, ℕ, List, [], ◌++◌, Result, Ok, Err, sym, ap, ◌∙◌, subst}
 use Rattle.std.specs.Prelude.{OnOk}
-use Rattle.audit.specs.Audits.{Appends, AuditPasses, CheckPasses, IfRotten, OnAuditFault, OnCheckFault}
+use Rattle.audit.specs.Audits.{Appends, IfRotten, OnAuditFault, OnCheckFault}
 use Rattle.audit.specs.declared.errors.AuditErr.{AuditErr}
 use Rattle.audit.specs.declared.errors.AuditErr.TheVariants as audits
 use Rattle.audit_base.specs.Judged.{JudgedIs}
@@ -14,25 +14,26 @@ use Rattle.backup_command.specs.Writing.{Output, Writes}
 use Rattle.cd_base.specs.declared.ids.CloudNo.{CloudNo}
 use Rattle.cd_base.specs.declared.shape.Shape.{Shape}
 use Rattle.cd_edges.specs.Disk.{Cloud, reads}
-use Rattle.cd_edges.specs.Shelf.{IsCall, HasFailed, KeepsCounts, Stays}
+use Rattle.cd_edges.specs.Shelf.{HasFailed, KeepsCounts, Stays}
 use Rattle.certificate.specs.Lines.{Certificate, certificate_text}
-use Rattle.cloud_server.specs.CloudMemory.Rooms.{memory_of}
-use Rattle.cloud_server.specs.Names.{header_of}
-use Rattle.cloud_server.specs.Serving.{number_of}
-use Rattle.cloud_server.specs.declared.server.Server.{Server}
+use Rattle.cloud_opening.specs.CloudMemory.Rooms.{memory_of}
+use Rattle.cloud_opening.specs.CloudServer.Names.{header_of}
+use Rattle.cloud_opening.specs.CloudServer.Serving.{number_of}
+use Rattle.cloud_opening.specs.CloudServer.server.Server.{Server}
 use Rattle.journal_start.specs.declared.rooms.Rooms.{Rooms}
 use Rattle.journal_start.specs.declared.start.Header.{Header}
-use Rattle.user_dedup.specs.declared.command.Command.{Command}
 use Rattle.audit_command.specs.Audited.{IsAudited, Unmade, Unopened, Audited, IsAuditOf}
 use Rattle.audit_command.specs.Checked as ends_of
 use Rattle.audit_command.specs.Checked.{IsChecked, Checked, ChecksBy, IsCheckOf, Judged, ReadLacked, ReadFailed, ReadTooMuch}
-use Rattle.audit_command.specs.Opened.{Call, IsUntouched, StandsWithin, IsUnfailing, call_of, own_in, tables_in}
+use Rattle.cloud_opening.specs.Opened.{CloudCall, IsUnchanged, IsUnfailing, cloud_call}
 use Rattle.audit_command.specs.Said.{audit_status, audit_text, check_status, check_text}
-use Rattle.audit_command.specs.Steps.{AuditedBy, AnswersFor, CheckedBy, Unread, Answered, OpenedBy, OpensCloud, SaysUnopened}
-use Rattle.audit_command.specs.declared.opening.Unopened.{Unopened as OpeningErr}
-use Rattle.audit_command.specs.declared.opening.Unopened.TheVariants as unopened
+use Rattle.audit_command.specs.Steps.{AuditedBy, AnswersFor, CheckedBy, Unread, Answered}
+use Rattle.cloud_opening.specs.declared.opening.Unopened.{Unopened as OpeningErr}
+use Rattle.cloud_opening.specs.declared.opening.Unopened.TheVariants as unopened
 use Rattle.audit_command.specs.declared.reading.ReadErr.TheVariants as readings
-use Rattle.audit_command.proofs.Standing.{failed_since, kept_since, opened_still, stands_still}
+use Rattle.cloud_opening.proofs.Standing.{failed_since, kept_since, opened_still, stands_still, untouched_stays}
+use Rattle.cloud_opening.specs.Opens.{OpenedBy, OpensCloud}
+use Rattle.cloud_opening.specs.Said.{SaysUnopened}
 
 -- what an audit appended to no text is the certificate
 pub audit_said : (cloud : CloudNo) (certificate : Certificate) (result : Result ℕ AuditErr) (before text : List ℕ) (out : Output) (status : ℕ)
@@ -64,21 +65,13 @@ check_counts old mid new before middle now still (Err (checks.Rotten named found
 check_counts old mid new before middle now still (Err checks.Fault) counts = failed_since old mid new before middle now still counts
 check_counts old mid new before middle now still (Err checks.NoMemory) counts = kept_since old mid new before middle now still counts
 
--- a cloud that nothing changed stays
-pub untouched_stays : (call : Call) → IsUntouched call → Stays call.old call.new
-untouched_stays call u = record {
-  armed = ap (λ (k : Cloud). k.armed) u.cloud_is;
-  past = ap (λ (k : Cloud). k.past) u.cloud_is;
-  now = ap (λ (k : Cloud). k.now) u.cloud_is;
-}
-
 module _ (shape : Shape) (cloud : CloudNo) (rooms : Rooms) (server : Server) (old mid new : Cloud) (before middle now : ℕ) (out : Output)
-    (status : ℕ) (told : mid.told ≡ old.told) (first : OpenedBy rooms server (call_of shape cloud old mid before middle)) where
-  abbrev whole : Call
-  whole = call_of shape cloud old new before now
+    (status : ℕ) (told : mid.told ≡ old.told) (first : OpenedBy rooms server (cloud_call shape cloud old mid before middle)) where
+  abbrev whole : CloudCall
+  whole = cloud_call shape cloud old new before now
 
-  abbrev then_call : Call
-  then_call = call_of server.store.header.shape server.store.header.cloud mid new middle now
+  abbrev then_call : CloudCall
+  then_call = cloud_call server.store.header.shape server.store.header.cloud mid new middle now
 
   -- ---- an audit
 
@@ -115,7 +108,7 @@ module _ (shape : Shape) (cloud : CloudNo) (rooms : Rooms) (server : Server) (ol
     counts = check_counts old mid new before middle now first.still result by.counts;
   }
 
-  quiet_since : IsUntouched then_call → IsUnfailing whole
+  quiet_since : IsUnchanged then_call → IsUnfailing whole
   quiet_since u = kept_since old mid new before middle now first.still
       (record { cloud = ap (λ (k : Cloud). k.faults) u.cloud_is; total = u.total })
 
@@ -137,12 +130,12 @@ module _ (shape : Shape) (cloud : CloudNo) (rooms : Rooms) (server : Server) (ol
 
 -- ---- a cloud that isn't opened
 
-pub unopened_audit : (call : Call) (why : OpeningErr) (out : Output) (status : ℕ) → OpensCloud call (Err why)
+pub unopened_audit : (call : CloudCall) (why : OpeningErr) (out : Output) (status : ℕ) → OpensCloud call (Err why)
     → SaysUnopened call.cloud why out status → IsAudited status call out
 unopened_audit call unopened.NoMemory out status opens says = Unmade says.0 says.1 opens
 unopened_audit call (unopened.Refused error) out status opens says = Unopened error opens says
 
-pub unopened_check : (call : Call) (why : OpeningErr) (unread : Type 0) (input : Input) (out : Output) (status : ℕ) → unread
+pub unopened_check : (call : CloudCall) (why : OpeningErr) (unread : Type 0) (input : Input) (out : Output) (status : ℕ) → unread
     → OpensCloud call (Err why) → SaysUnopened call.cloud why out status → IsChecked status call unread input out
 unopened_check call unopened.NoMemory unread input out status still opens says = ends_of.Unmade still says.0 says.1 opens
 unopened_check call (unopened.Refused error) unread input out status still opens says = ends_of.Unopened error still opens says
@@ -151,18 +144,14 @@ unopened_check call (unopened.Refused error) unread input out status still opens
 
 pub audited_at : (rooms : Rooms) (server : Server) (shape : Shape) (cloud : CloudNo) (old new : ℕ → Cloud) (before now : ℕ) (out : Output)
     (status : ℕ) → server.store.header ≡ header_of shape rooms cloud.0
-    → AuditedBy server (call_of server.store.header.shape server.store.header.cloud (old (number_of server)) (new (number_of server)) before now) out status
-    → AuditedBy server (call_of server.store.header.shape server.store.header.cloud (old cloud.0) (new cloud.0) before now) out status
+    → AuditedBy server (cloud_call server.store.header.shape server.store.header.cloud (old (number_of server)) (new (number_of server)) before now) out status
+    → AuditedBy server (cloud_call server.store.header.shape server.store.header.cloud (old cloud.0) (new cloud.0) before now) out status
 audited_at rooms server shape cloud old new before now out status is by = subst (λ (h : Header). AuditedBy server
-    (call_of server.store.header.shape server.store.header.cloud (old h.cloud.0) (new h.cloud.0) before now) out status) is by
+    (cloud_call server.store.header.shape server.store.header.cloud (old h.cloud.0) (new h.cloud.0) before now) out status) is by
 
 pub checked_at : (rooms : Rooms) (server : Server) (shape : Shape) (cloud : CloudNo) (old new : ℕ → Cloud) (before now : ℕ) (input : Input)
     (out : Output) (status : ℕ) → server.store.header ≡ header_of shape rooms cloud.0
-    → CheckedBy server (call_of server.store.header.shape server.store.header.cloud (old (number_of server)) (new (number_of server)) before now) input out status
-    → CheckedBy server (call_of server.store.header.shape server.store.header.cloud (old cloud.0) (new cloud.0) before now) input out status
+    → CheckedBy server (cloud_call server.store.header.shape server.store.header.cloud (old (number_of server)) (new (number_of server)) before now) input out status
+    → CheckedBy server (cloud_call server.store.header.shape server.store.header.cloud (old cloud.0) (new cloud.0) before now) input out status
 checked_at rooms server shape cloud old new before now input out status is by = subst (λ (h : Header). CheckedBy server
-    (call_of server.store.header.shape server.store.header.cloud (old h.cloud.0) (new h.cloud.0) before now) input out status) is by
-
-pub call_at : (rooms : Rooms) (server : Server) (shape : Shape) (cloud : CloudNo) (old new : ℕ → Cloud) (before now : ℕ)
-    → server.store.header ≡ header_of shape rooms cloud.0 → IsCall old new (number_of server) before now → IsCall old new cloud.0 before now
-call_at rooms server shape cloud old new before now is call = subst (λ (h : Header). IsCall old new h.cloud.0 before now) is call
+    (cloud_call server.store.header.shape server.store.header.cloud (old h.cloud.0) (new h.cloud.0) before now) input out status) is by

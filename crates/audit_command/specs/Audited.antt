@@ -5,38 +5,30 @@ use Rattle.audit.specs.declared.errors.AuditErr.{AuditErr}
 use Rattle.backup_command.specs.Writing.{IsSilent, Output, Writes}
 use Rattle.cd_edges.specs.Disk.{reads}
 use Rattle.certificate.specs.Lines.{certificate_text}
-use Rattle.cloud_server.specs.CloudMemory.Memory.{Memory}
+use Rattle.cloud_opening.specs.CloudMemory.Memory.{Memory}
 use Rattle.half_journal.specs.declared.errors.OpenErr.{OpenErr}
 use Rattle.journal_start.specs.declared.rooms.Rooms.{Rooms}
-use Rattle.serve_command.specs.Complete.{IsStill}
 use Rattle.user_dedup.specs.declared.command.Command.{Command}
-use Rattle.audit_command.specs.Opened.{Call, Fails, IsOpened, IsUnfailing, IsUnopened, IsUntouched, StandsWithin, own_in, tables_in}
-use Rattle.audit_command.specs.Said.{audit_status, audit_text, opening_status, opening_text}
+use Rattle.cloud_opening.specs.Opened.{CloudCall, CloudFails, IsOpenedIn, IsUnfailing, IsNotOpened, IsUnchanged, StandsWithin}
+use Rattle.audit_command.specs.Said.{audit_status, audit_text}
+use Rattle.audit_command.specs.Tables.{certificate_in, tables_in}
+use Rattle.cloud_opening.specs.Said.{opening_status, opening_text}
 
 -- What the audit of an opened cloud answers. On a told cloud Ok says that each listed blob lies in the areas as they read at the end,
 -- and Rotten that one doesn't. Where the cloud stands for a list, Rotten never comes.
-pub record IsAuditOf (memory : Memory) (call : Call) (result : Result ℕ AuditErr) : Type 0 where
+pub record IsAuditOf (memory : Memory) (call : CloudCall) (result : Result ℕ AuditErr) : Type 0 where
   pub areas : IsTrue call.old.told → AuditIs (reads call.new.now) (tables_in memory) result
   pub passes : (own : Rooms) (list : List Command) → StandsWithin call own list → AuditPasses result
-  pub counts : OnAuditFault result (Fails call) (IsUnfailing call)
+  pub counts : OnAuditFault result (CloudFails call) (IsUnfailing call)
 
 -- The whole promise, by the way it ended. Memory ran out before the cloud was opened; or it wasn't opened; or it was audited, and what
 -- is written is the certificate by its records, or why there is none.
-pub data IsAudited (status : ℕ) (call : Call) (out : Output) : Type 0 where
-  Unmade : status ≡ 6 → IsSilent out → IsUntouched call → IsAudited status call out
-  Unopened : (error : OpenErr) → IsUnopened call error
+pub data IsAudited (status : ℕ) (call : CloudCall) (out : Output) : Type 0 where
+  Unmade : status ≡ 6 → IsSilent out → IsUnchanged call → IsAudited status call out
+  Unopened : (error : OpenErr) → IsNotOpened call error
       → Writes (opening_text call.cloud error) (opening_status error) out status
       → IsAudited status call out
-  Audited : (rooms : Rooms) (memory : Memory) (result : Result ℕ AuditErr) → IsOpened rooms memory call
+  Audited : (rooms : Rooms) (memory : Memory) (result : Result ℕ AuditErr) → IsOpenedIn rooms memory call
       → IsAuditOf memory call result
-      → Writes (audit_text call.cloud (certificate_text (own_in call memory)) result) (audit_status result) out status
+      → Writes (audit_text call.cloud (certificate_text (certificate_in call memory)) result) (audit_status result) out status
       → IsAudited status call out
-
--- Nothing fails in the call: the cloud stands for a list within rooms of its own, and no count rises.
-pub record GoesWell (call : Call) (out : Output) : Type 0 where
-  pub rooms : Rooms
-  pub list : List Command
-  pub stands : StandsWithin call rooms list
-  pub cloud : IsStill call.old.faults call.new.faults
-  pub total : call.total_after ≡ call.total_before
-  pub sink : IsStill out.faults_before out.faults_after

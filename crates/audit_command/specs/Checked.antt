@@ -9,29 +9,31 @@ use Rattle.backup_command.specs.Writing.{IsSilent, Output, Writes}
 use Rattle.cd_edges.specs.Causes.{Rose}
 use Rattle.cd_edges.specs.Disk.{reads}
 use Rattle.certificate.specs.Lines.{certificate_text}
-use Rattle.cloud_server.specs.CloudMemory.Memory.{Memory}
+use Rattle.cloud_opening.specs.CloudMemory.Memory.{Memory}
 use Rattle.half_journal.specs.declared.errors.OpenErr.{OpenErr}
 use Rattle.journal_start.specs.declared.rooms.Rooms.{Rooms}
 use Rattle.transcript.specs.declared.ending.Ending.TheVariants as endings
 use Rattle.transcript.specs.Endings.{ending_text}
 use Rattle.user_dedup.specs.declared.command.Command.{Command}
-use Rattle.audit_command.specs.Opened.{Call, Fails, IsOpened, IsUnfailing, IsUnopened, IsUntouched, StandsWithin, own_in, tables_in}
-use Rattle.audit_command.specs.Said.{check_status, check_text, opening_status, opening_text}
+use Rattle.cloud_opening.specs.Opened.{CloudCall, CloudFails, IsOpenedIn, IsUnfailing, IsNotOpened, IsUnchanged, StandsWithin}
+use Rattle.audit_command.specs.Said.{check_status, check_text}
 use Rattle.audit_command.specs.Source.{IsRead, IsTooLong}
+use Rattle.audit_command.specs.Tables.{certificate_in, tables_in}
+use Rattle.cloud_opening.specs.Said.{opening_status, opening_text}
 
 -- What the check of a text by an opened cloud answers: the order of refusals, each exactly (`judged`). On a told cloud Ok says that the
 -- cloud is whole in the areas as they read at the end, and Rotten that it isn't. Where the cloud stands for a list and the text
 -- is its certificate, it is Ok, a device failed, or memory ran out.
-pub record IsCheckOf (memory : Memory) (call : Call) (text : List ℕ) (result : Result ℕ CheckErr) : Type 0 where
-  pub judged : JudgedIs (own_in call memory) text result
+pub record IsCheckOf (memory : Memory) (call : CloudCall) (text : List ℕ) (result : Result ℕ CheckErr) : Type 0 where
+  pub judged : JudgedIs (certificate_in call memory) text result
   pub whole : IsTrue call.old.told → OnOk result (WholeNow call.shape (reads call.new.now) (tables_in memory))
   pub rotten : IsTrue call.old.told → IfRotten result (IsRottenNow call.shape (reads call.new.now) (tables_in memory))
   pub passes : (own : Rooms) (list : List Command) → StandsWithin call own list
-      → text ≡ certificate_text (own_in call memory) → CheckPasses result
-  pub counts : OnCheckFault result (Fails call) (IsUnfailing call)
+      → text ≡ certificate_text (certificate_in call memory) → CheckPasses result
+  pub counts : OnCheckFault result (CloudFails call) (IsUnfailing call)
 
 -- What comes of the source once the cloud is opened: it was only read.
-pub data ChecksBy (memory : Memory) (status : ℕ) (call : Call) (input : Input) (out : Output) : Type 0 where
+pub data ChecksBy (memory : Memory) (status : ℕ) (call : CloudCall) (input : Input) (out : Output) : Type 0 where
   ReadLacked : status ≡ 6 → IsSilent out → IsUnfailing call → ChecksBy memory status call input out
   ReadFailed : status ≡ 3 → Rose input.faults_before input.faults_after → IsSilent out → IsUnfailing call
       → ChecksBy memory status call input out
@@ -44,10 +46,10 @@ pub data ChecksBy (memory : Memory) (status : ℕ) (call : Call) (input : Input)
 
 -- The whole promise, by the way it ended. Memory ran out before the cloud was opened, or it wasn't opened: the source is unread. Or it was
 -- opened, and what the source has was checked.
-pub data IsChecked (status : ℕ) (call : Call) (unread : Type 0) (input : Input) (out : Output) : Type 0 where
-  Unmade : unread → status ≡ 6 → IsSilent out → IsUntouched call → IsChecked status call unread input out
-  Unopened : (error : OpenErr) → unread → IsUnopened call error
+pub data IsChecked (status : ℕ) (call : CloudCall) (unread : Type 0) (input : Input) (out : Output) : Type 0 where
+  Unmade : unread → status ≡ 6 → IsSilent out → IsUnchanged call → IsChecked status call unread input out
+  Unopened : (error : OpenErr) → unread → IsNotOpened call error
       → Writes (opening_text call.cloud error) (opening_status error) out status
       → IsChecked status call unread input out
-  Checked : (rooms : Rooms) (memory : Memory) → IsOpened rooms memory call → ChecksBy memory status call input out
+  Checked : (rooms : Rooms) (memory : Memory) → IsOpenedIn rooms memory call → ChecksBy memory status call input out
       → IsChecked status call unread input out

@@ -1,6 +1,7 @@
 pub mod Audited
 pub mod Checked
-pub mod Opened
+pub mod CloudOpening
 pub mod Said
 pub mod Source
 pub mod Steps
+pub mod Tables

@@ -6,29 +6,12 @@ use Rattle.audit_base.specs.declared.errors.CheckErr.{CheckErr}
 use Rattle.audit_base.specs.declared.errors.CheckErr.TheVariants as checks
 use Rattle.cd_base.specs.declared.ids.CloudNo.{CloudNo}
 use Rattle.cd_base.specs.declared.ids.Fp.{Fp}
-use Rattle.half_journal.specs.declared.errors.OpenErr.{OpenErr}
-use Rattle.half_journal.specs.declared.errors.OpenErr.TheVariants as errors
 use Rattle.transcript.specs.declared.ending.Ending.TheVariants as endings
 use Rattle.transcript.specs.declared.line.Line.TheVariants as lines
 use Rattle.transcript.specs.declared.refusal.Refusal.TheVariants as refusals
 use Rattle.transcript.specs.Endings.{ending_text}
 use Rattle.transcript.specs.Transcript.{ended, line_text}
 use Rattle.audit_command.specs.Source.{byte_in}
-
--- ---- a cloud that isn't opened
-
-abbrev pub opening_status : OpenErr → ℕ
-opening_status errors.Fault = 5
-opening_status (errors.NotBegun len) = 7
-opening_status (errors.Damaged at byte) = 7
-opening_status (errors.OtherStore found asked at) = 7
-
-abbrev pub opening_text : CloudNo → OpenErr → List ℕ
-opening_text cloud errors.Fault = ending_text (endings.Shelf cloud)
-opening_text cloud (errors.NotBegun len) = ending_text (endings.NotBegun cloud len)
-opening_text cloud (errors.Damaged at byte) = ending_text (endings.Damaged cloud at byte)
-opening_text cloud (errors.OtherStore found asked at) =
-    ending_text (endings.Other cloud found.format found.shape.n found.shape.k found.cloud)
 
 -- ---- lines
 

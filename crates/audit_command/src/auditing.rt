@@ -3,18 +3,18 @@
 ghost use Rattle.std.specs.Prelude.{◌≡◌, ◌⊎◌, ◌<◌};
 ghost use Rattle.cd_edges.specs.Shelf.{IsCall};
 ghost use Rattle.backup_command.specs.Writing.{output_of};
-ghost use Rattle.cloud_server.specs.OpenStore.Store.{IsOpen};
-ghost use Rattle.cloud_server.specs.Serving.{number_of};
-ghost use Rattle.audit_command.specs.Audited.{GoesWell, IsAudited};
-ghost use Rattle.audit_command.specs.Opened.{call_of};
+ghost use Rattle.cloud_opening.specs.OpenStore.Store.{IsOpen};
+ghost use Rattle.cloud_opening.specs.CloudServer.Serving.{number_of};
+ghost use Rattle.audit_command.specs.Audited.{IsAudited};
+ghost use Rattle.cloud_opening.specs.Opened.{cloud_call};
+ghost use Rattle.cloud_opening.specs.Unhindered.{IsUnhindered};
 ghost use Rattle.audit_command.specs.Steps.{AuditedBy};
 
-use crate::lines::{write_audited, write_unopened};
-use crate::opening::open_cloud;
+use crate::lines::write_audited;
 use audit::audit;
 use cd_base::{Bytes, CloudNo, Shape};
 use cd_edges::{Shelf, Sink};
-use cloud_server::Server;
+use cloud_opening::{Server, open_cloud, write_unopened};
 use std::alloc::Global;
 
 // Audits the cloud of an open server.
@@ -25,7 +25,7 @@ fn audit_opened<K: Sink, V: Shelf>(
     shelf: &mut V,
 ) -> u8
     requires { IsOpen server.old.store }
-    ensures audited { AuditedBy server.old (call_of server.old.store.header.shape server.old.store.header.cloud
+    ensures audited { AuditedBy server.old (cloud_call server.old.store.header.shape server.old.store.header.cloud
         (V.cloud_at shelf.old (number_of server.old)) (V.cloud_at shelf.new (number_of server.old))
         (V.faults shelf.old) (V.faults shelf.new))
         (output_of (K.written sink.old) (K.written sink.new) (K.faults sink.old) (K.faults sink.new)) result }
@@ -62,12 +62,12 @@ pub fn audit_cloud<K: Sink, V: Shelf>(
     shelf: &mut V,
 ) -> u8
     requires cloud { cloud.0 < shape.n }
-    ensures audited { IsAudited result (call_of shape cloud (V.cloud_at shelf.old cloud.0)
+    ensures audited { IsAudited result (cloud_call shape cloud (V.cloud_at shelf.old cloud.0)
         (V.cloud_at shelf.new cloud.0) (V.faults shelf.old) (V.faults shelf.new))
         (output_of (K.written sink.old) (K.written sink.new) (K.faults sink.old) (K.faults sink.new)) }
     ensures call { IsCall (V.cloud_at shelf.old) (V.cloud_at shelf.new) cloud.0
         (V.faults shelf.old) (V.faults shelf.new) }
-    ensures complete { GoesWell (call_of shape cloud (V.cloud_at shelf.old cloud.0)
+    ensures complete { IsUnhindered (cloud_call shape cloud (V.cloud_at shelf.old cloud.0)
         (V.cloud_at shelf.new cloud.0) (V.faults shelf.old) (V.faults shelf.new))
         (output_of (K.written sink.old) (K.written sink.new) (K.faults sink.old) (K.faults sink.new))
         → (result ≡ 0) ⊎ (result ≡ 6) }

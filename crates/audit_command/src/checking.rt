@@ -4,19 +4,18 @@ ghost use Rattle.std.specs.Prelude.{◌≡◌, ◌<◌};
 ghost use Rattle.cd_edges.specs.Shelf.{IsCall};
 ghost use Rattle.backup_command.specs.Reading.{input_of};
 ghost use Rattle.backup_command.specs.Writing.{output_of};
-ghost use Rattle.cloud_server.specs.OpenStore.Store.{IsOpen};
-ghost use Rattle.cloud_server.specs.Serving.{number_of};
+ghost use Rattle.cloud_opening.specs.OpenStore.Store.{IsOpen};
+ghost use Rattle.cloud_opening.specs.CloudServer.Serving.{number_of};
 ghost use Rattle.audit_command.specs.Checked.{IsChecked};
-ghost use Rattle.audit_command.specs.Opened.{call_of};
+ghost use Rattle.cloud_opening.specs.Opened.{cloud_call};
 ghost use Rattle.audit_command.specs.Steps.{AnswersBy, CheckedBy};
 
-use crate::lines::{write_checked, write_unopened, write_unread};
-use crate::opening::open_cloud;
+use crate::lines::{write_checked, write_unread};
 use crate::reading::read_text;
 use audit::check;
 use cd_base::{CloudNo, Shape};
 use cd_edges::{Shelf, Sink, Source};
-use cloud_server::Server;
+use cloud_opening::{Server, open_cloud, write_unopened};
 use std::alloc::Global;
 
 // Checks a text by an open server.
@@ -28,7 +27,7 @@ fn check_read<K: Sink, V: Shelf>(
     shelf: &mut V,
 ) -> u8
     requires { IsOpen server.old.store }
-    ensures answered { AnswersBy server.old (call_of server.old.store.header.shape server.old.store.header.cloud
+    ensures answered { AnswersBy server.old (cloud_call server.old.store.header.shape server.old.store.header.cloud
         (V.cloud_at shelf.old (number_of server.old)) (V.cloud_at shelf.new (number_of server.old))
         (V.faults shelf.old) (V.faults shelf.new)) text.now
         (output_of (K.written sink.old) (K.written sink.new) (K.faults sink.old) (K.faults sink.new)) result }
@@ -49,7 +48,7 @@ fn check_opened<S: Source, K: Sink, V: Shelf>(
     shelf: &mut V,
 ) -> u8
     requires { IsOpen server.old.store }
-    ensures checked { CheckedBy server.old (call_of server.old.store.header.shape server.old.store.header.cloud
+    ensures checked { CheckedBy server.old (cloud_call server.old.store.header.shape server.old.store.header.cloud
         (V.cloud_at shelf.old (number_of server.old)) (V.cloud_at shelf.new (number_of server.old))
         (V.faults shelf.old) (V.faults shelf.new))
         (input_of (S.left source.old) (S.faults source.old) (S.faults source.new))
@@ -92,7 +91,7 @@ pub fn check_cloud<S: Source, K: Sink, V: Shelf>(
     shelf: &mut V,
 ) -> u8
     requires cloud { cloud.0 < shape.n }
-    ensures checked { IsChecked result (call_of shape cloud (V.cloud_at shelf.old cloud.0)
+    ensures checked { IsChecked result (cloud_call shape cloud (V.cloud_at shelf.old cloud.0)
         (V.cloud_at shelf.new cloud.0) (V.faults shelf.old) (V.faults shelf.new)) (source.new ≡ source.old)
         (input_of (S.left source.old) (S.faults source.old) (S.faults source.new))
         (output_of (K.written sink.old) (K.written sink.new) (K.faults sink.old) (K.faults sink.new)) }

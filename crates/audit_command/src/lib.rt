@@ -6,7 +6,6 @@ mod auditing;
 mod checking;
 mod lines;
 mod marks;
-mod opening;
 mod reading;
 
 pub use auditing::audit_cloud;

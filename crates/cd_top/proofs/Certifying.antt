@@ -3,8 +3,9 @@ use Rattle.std.proofs.Common.{◌≡◌, ◌⊎◌, ℕ, refl, subst₂}
 use Rattle.cd_edges.specs.Causes.{Rose}
 use Rattle.cd_edges.specs.Disk.{Cloud}
 use Rattle.command_words.specs.Asked.{AskedCloud}
-use Rattle.audit_command.specs.Audited.{GoesWell, IsAudited}
+use Rattle.audit_command.specs.Audited.{IsAudited}
 use Rattle.audit_command.specs.Checked.{IsChecked}
+use Rattle.audit_command.specs.CloudOpening.Unhindered.{IsUnhindered}
 use Rattle.backup_command.specs.Reading.{Input}
 use Rattle.backup_command.specs.Writing.{Output}
 use Rattle.cd_top.specs.Audit.{Audits, InDirectory, Checks, ByCloud, Clouds, IsAloneAt, IsUnrooted, call_for, clouds_of}
@@ -24,7 +25,7 @@ module _ (status : ℕ) (c : AskedCloud) (old middle new : ℕ → Cloud) (total
   -- the naming of the place changed no cloud and no count
   pub audited_in : IsAudited status (call_for c (clouds_of middle new count total_after)) out
       → IsAloneAt c (clouds_of middle new count total_after)
-      → (GoesWell (call_for c (clouds_of middle new count total_after)) out → (status ≡ 0) ⊎ (status ≡ 6))
+      → (IsUnhindered (call_for c (clouds_of middle new count total_after)) out → (status ≡ 0) ⊎ (status ≡ 6))
       → Audits status c (clouds_of old new total total_after) out
   audited_in audited alone complete =
       subst₂ (λ (o : ℕ → Cloud) (n : ℕ). Audits status c (clouds_of o new n total_after) out)

@@ -136,8 +136,8 @@ module _ (call : Call) (run : Session) (well : GoesWell call) where
   not_of_shelf (due_lines.ScriptEnding number fault) carried same is of = of
   not_of_shelf (due_lines.ShelfEnding cloud) carried same is of = elim is.3 [
     | inl closed ↦ not_risen (call.old cloud).faults (call.new cloud).faults (well.counts cloud (below same cloud is.0))
-        (subst (λ (n : ℕ). Rose n (call.new cloud).faults) (counts_unopened call.old run carried closed cloud) is.2)
-    | inr may ↦ not_replaced carried cloud (below same cloud is.0) run.begun refl may is.2
+        (subst (λ (n : ℕ). Rose n (call.new cloud).faults) (counts_unopened call.old run carried closed.0 cloud) is.2)
+    | inr may ↦ not_replaced carried cloud (below same cloud is.0) run.begun refl may.0 is.2
   ]
   not_of_shelf (due_lines.StoreEnding cloud area len) carried same is of = of
   not_of_shelf (due_lines.DamagedEnding cloud at byte) carried same is of = of

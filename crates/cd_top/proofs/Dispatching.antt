@@ -2,7 +2,7 @@
 use Rattle.std.proofs.Common.{◌≡◌, ℕ, List, sym, subst}
 use Rattle.command_words.specs.Asked.{AskedRead, AskedServe, AskedFile, AskedSpool, AskedResume, AskedCloud, AskedSession, Asked}
 use Rattle.command_words.specs.Asked.{ForReplay, ForRead, ForServe, ForBackup, ForRestore, ForDelete, ForSpool, ForResume}
-use Rattle.command_words.specs.Asked.{ForAudit, ForCheck, ForGenerate}
+use Rattle.command_words.specs.Asked.{ForAudit, ForCheck, ForReclaim, ForGenerate}
 use Rattle.command_words.specs.Commands.{IsCommand}
 use Rattle.cd_top.specs.Dispatch.{Each, Promises}
 use Rattle.cd_top.specs.Replay.{IsReplay}
@@ -44,6 +44,9 @@ module _ (one : Law) (words : List (List ℕ)) (asked : Asked) (is : IsCommand w
 
   pub is_checked : (c : AskedCloud) → IsCommand words (ForCheck c) → each.checked c
   is_checked c other = promised (ForCheck c) other
+
+  pub is_reclaimed : (c : AskedCloud) → IsCommand words (ForReclaim c) → each.reclaimed c
+  is_reclaimed c other = promised (ForReclaim c) other
 
   pub is_generated : (g : AskedSession) → IsCommand words (ForGenerate g) → each.generated g
   is_generated g other = promised (ForGenerate g) other

@@ -45,6 +45,8 @@ module _ (order : Order) (call : Passing) (total total_after now : ℕ) (after :
     run = g.run;
     replayed = replayed;
     ordered = record { shape = g.shape; rooms = g.rooms; lines = g.lines };
+    began = g.began;
+    spared = g.spared;
     cause = cause;
     text = text;
     due = due;
@@ -88,9 +90,9 @@ module _ (order : Order) (call : Passing) (total total_after now : ℕ) (after :
 
   -- an end before the clouds are opened: its cause, the sink, and what was written
   cause_unopened : (end : ReplayEnd) (run : Session) → WantsLast end → generator.IsCaused end order call run → IsCaused end order around run
-  cause_unopened (ends.ShelfFault cloud) run wants x = (x.0.opened, x.0.below, x.1)
-  cause_unopened (ends.NotEmpty cloud area len) run wants x = (x.0.opened, x.0.below, x.1)
-  cause_unopened (ends.Damaged cloud at byte) run wants x = (x.0.opened, x.0.below, x.1)
+  cause_unopened (ends.ShelfFault cloud) run wants x = (x.0.opened, x.0.below, x.1, x.2)
+  cause_unopened (ends.NotEmpty cloud area len) run wants x = (x.0.opened, x.0.below, x.1, x.2)
+  cause_unopened (ends.Damaged cloud at byte) run wants x = (x.0.opened, x.0.below, x.1, x.2)
   cause_unopened (ends.Script line at found) run wants x = absurd x
   cause_unopened (ends.Done events) run wants x = absurd wants
   cause_unopened ends.SourceFault run wants x = absurd wants

@@ -1,10 +1,11 @@
-pub mod Texts
-pub mod Closing
-pub mod Unopened
-pub mod Completing
-mod ReadClosing
-mod Dispatching
-mod Placing
-mod Generating
-mod Spooling
 mod Certifying
+pub mod Closing
+pub mod Completing
+mod Dispatching
+mod Generating
+mod Placing
+mod ReadClosing
+mod Reclaiming
+mod Spooling
+pub mod Texts
+pub mod Unopened

@@ -7,6 +7,7 @@ use Rattle.journal_start.specs.declared.rooms.Rooms.{Rooms}
 use Rattle.cd_base.specs.declared.shape.Shape.{Shape}
 use Rattle.cd_edges.specs.Causes.{Rose}
 use Rattle.cd_edges.specs.Disk.{Cloud, Image, IsImage}
+use Rattle.cd_edges.specs.Shelf.{Stays}
 use Rattle.cd_edges.proofs.Moments.{left_alone, each_since}
 use Rattle.serve_command.specs.CloudAreas.Peers.{StandsForSome}
 use Rattle.serve_command.proofs.CloudServer.NoCommands.{empty_stands}
@@ -110,13 +111,15 @@ module _ (call : Call) (same : (cloud : ℕ) → call.new cloud ≡ call.old clo
     known = (omega arith, λ e. omega (arith, e));
     header = says_header call.script;
     read = λ opened. absurd (let e : false ≡ true = opened in cc);
+    began = λ opened. absurd (let e : false ≡ true = opened in cc);
+    spared = inr (λ cloud. subst (Stays (call.old cloud)) (sym (same cloud)) (record { armed = refl; past = refl; now = refl }));
     due = tt;
     done = λ e. absurd (omega (arith, e));
     wrong = λ e. absurd (omega (arith, e));
     source = λ e. absurd (omega (arith, e));
     sink = λ e. absurd (omega (arith, e));
     sink_still = λ other more. still;
-    shelf = λ e. inr (refl, refl, rose);
+    shelf = λ e. inr (refl, refl, rose, same);
     store = λ e. absurd (omega (arith, e));
   }
 

@@ -4,9 +4,10 @@ use Rattle.cd_edges.specs.Causes.{Rose}
 use Rattle.cd_edges.specs.Disk.{Cloud}
 use Rattle.cd_edges.specs.Shelf.{IsCall}
 use Rattle.command_words.specs.Asked.{AskedCloud}
-use Rattle.audit_command.specs.Audited.{GoesWell, IsAudited}
+use Rattle.audit_command.specs.Audited.{IsAudited}
 use Rattle.audit_command.specs.Checked.{IsChecked}
-use Rattle.audit_command.specs.Opened.{Call, call_of}
+use Rattle.audit_command.specs.CloudOpening.Opened.{CloudCall, cloud_call}
+use Rattle.audit_command.specs.CloudOpening.Unhindered.{IsUnhindered}
 use Rattle.backup_command.specs.Reading.{Input}
 use Rattle.backup_command.specs.Writing.{Output, IsSilent}
 
@@ -21,8 +22,8 @@ abbrev pub clouds_of : (ℕ → Cloud) → (ℕ → Cloud) → ℕ → ℕ → C
 clouds_of old new total total_after = record { old = old; new = new; total_before = total; total_after = total_after }
 
 -- the cloud that is asked for, amid these
-abbrev pub call_for : AskedCloud → Clouds → Call
-call_for c s = call_of c.shape c.cloud (s.old c.cloud.0) (s.new c.cloud.0) s.total_before s.total_after
+abbrev pub call_for : AskedCloud → Clouds → CloudCall
+call_for c s = cloud_call c.shape c.cloud (s.old c.cloud.0) (s.new c.cloud.0) s.total_before s.total_after
 
 -- DIR failed: nothing was written, and no cloud changed.
 pub record IsUnrooted (status : ℕ) (s : Clouds) (out : Output) : Type 0 where
@@ -40,7 +41,7 @@ IsAloneAt c s = IsCall s.old s.new c.cloud.0 s.total_before s.total_after
 pub data Audits (status : ℕ) (c : AskedCloud) (s : Clouds) (out : Output) : Type 0 where
   NoDirectory : IsUnrooted status s out → Audits status c s out
   InDirectory : IsAudited status (call_for c s) out → IsAloneAt c s
-      → (GoesWell (call_for c s) out → (status ≡ 0) ⊎ (status ≡ 6)) → Audits status c s out
+      → (IsUnhindered (call_for c s) out → (status ≡ 0) ⊎ (status ≡ 6)) → Audits status c s out
 
 -- That of `check`: DIR failed, and the source is unread; or the source's certificate was checked.
 pub data Checks (status : ℕ) (c : AskedCloud) (s : Clouds) (unread : Type 0) (input : Input) (out : Output) : Type 0 where

@@ -1,7 +1,7 @@
 -- What is promised of the words that are carried out.
 use Rattle.command_words.specs.Asked.{AskedRead, AskedServe, AskedFile, AskedSpool, AskedResume, AskedCloud, AskedSession, Asked}
 use Rattle.command_words.specs.Asked.{ForReplay, ForRead, ForServe, ForBackup, ForRestore, ForDelete, ForSpool, ForResume}
-use Rattle.command_words.specs.Asked.{ForAudit, ForCheck, ForGenerate}
+use Rattle.command_words.specs.Asked.{ForAudit, ForCheck, ForReclaim, ForGenerate}
 use Rattle.command_words.specs.Commands.{FitsRead, FitsServe, FitsFile, FitsResume, FitsCloud, FitsSession}
 
 -- what is asked for is within its ranges
@@ -16,6 +16,7 @@ IsFit (ForSpool s) = FitsFile 3 s.file
 IsFit (ForResume r) = FitsResume r
 IsFit (ForAudit c) = FitsCloud c
 IsFit (ForCheck c) = FitsCloud c
+IsFit (ForReclaim c) = FitsCloud c
 IsFit (ForGenerate g) = FitsSession g
 
 -- what each command promises
@@ -30,6 +31,7 @@ pub record Each : Type 1 where
   pub resumed : AskedResume → Type 0
   pub audited : AskedCloud → Type 0
   pub checked : AskedCloud → Type 0
+  pub reclaimed : AskedCloud → Type 0
   pub generated : AskedSession → Type 0
 
 -- what a call promises of what is asked for
@@ -44,4 +46,5 @@ Promises (ForSpool s) each = each.spooled s
 Promises (ForResume r) each = each.resumed r
 Promises (ForAudit c) each = each.audited c
 Promises (ForCheck c) each = each.checked c
+Promises (ForReclaim c) each = each.reclaimed c
 Promises (ForGenerate g) each = each.generated g

@@ -1,5 +1,5 @@
 -- What the words `gen SEED FILES PIECES DIR` promise.
-use Rattle.std.specs.Prelude.{◌≡◌, ◌⊎◌, ℕ, ◌<◌, false, List, ◌++◌, length, Option}
+use Rattle.std.specs.Prelude.{◌≡◌, ◌⊎◌, ℕ, ◌<◌, false, IsTrue, List, ◌++◌, length, Option}
 use Rattle.std.specs.Io.KnownBytes.{Appends}
 use Rattle.journal_start.specs.Ranges.{usual_rooms}
 use Rattle.cd_edges.specs.Causes.{Rose}
@@ -9,7 +9,7 @@ use Rattle.generated_session.specs.SessionModel.Run.{script_of}
 use Rattle.generated_session.specs.SessionModel.Headline.{Session, script_in}
 use Rattle.generated_session.specs.ReplayCore.end.ReplayEnd.{ReplayEnd}
 use Rattle.generated_session.specs.ReplayCore.end.ReplayEnd.TheVariants as ends
-use Rattle.generated_session.specs.ReplayCore.Endings.{IsFirstFilled}
+use Rattle.generated_session.specs.ReplayCore.Endings.{AreEmptyBelow, AreSpared, IsFirstFilled}
 use Rattle.generated_session.specs.ReplayCore.Replayed.{Replayed, status_of, ending_of}
 use Rattle.generated_session.specs.declared.numbers.Numbers.{Numbers}
 use Rattle.generated_session.specs.Lines.{generated_lines}
@@ -38,10 +38,12 @@ IsCaused (ends.Done events) order c run = IsWhole order run × (events ≡ lengt
 IsCaused ends.NoMemory order c run = Unit {0}
 IsCaused (ends.ShelfFault cloud) order c run =
     (run.opened ≡ false) × (cloud.0 < 4) × Rose (run.last cloud.0).faults (c.new cloud.0).faults
+    × AreEmptyBelow c.old cloud.0
 IsCaused (ends.NotEmpty cloud area len) order c run =
     (run.opened ≡ false) × (cloud.0 < 4) × IsFirstFilled c.old cloud.0 area len
+    × ((other : ℕ) → c.new other ≡ c.old other)
 IsCaused (ends.Damaged cloud at byte) order c run =
-    (run.opened ≡ false) × (cloud.0 < 4) × ((c.old cloud.0).told ≡ false)
+    (run.opened ≡ false) × (cloud.0 < 4) × ((c.old cloud.0).told ≡ false) × AreEmptyBelow c.old 4
 IsCaused (ends.Script line at found) order c run = ⊥
 IsCaused ends.SourceFault order c run = ⊥
 IsCaused ends.SinkFault order c run = ⊥
@@ -69,6 +71,10 @@ pub record IsMadeTo (status : ℕ) (c : Around) (order : Order) (before after : 
   pub run : Session
   pub replayed : Replayed status c.old c.new run
   pub ordered : IsOrdered order run
+  -- the clouds were opened only where the areas of each that is told were empty
+  pub began : IsTrue run.opened → AreEmptyBelow c.old 4
+  -- where one of them isn't empty, nothing was written, whatever the status
+  pub spared : AreSpared 4 c.old c.new
   pub cause : IsCaused end order c run
   pub text : List ℕ
   pub due : IsDue end order run text

@@ -6,6 +6,7 @@ mod clients;
 mod ending;
 mod generate;
 mod read;
+mod reclaims;
 mod serve;
 mod spool;
 mod top;

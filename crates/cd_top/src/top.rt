@@ -2,8 +2,8 @@
 
 ghost use Rattle.std.specs.Prelude.{◌≡◌, ◌≢◌, ◌≤◌, ◌⊎◌, ℕ, List, map, string_bytes};
 ghost use Rattle.command_words.specs.Asked.{AskedCloud, AskedFile, AskedRead, AskedResume, AskedServe, AskedSession, AskedSpool};
-ghost use Rattle.command_words.specs.Asked.{ForAudit, ForBackup, ForCheck, ForDelete, ForGenerate, ForRead, ForRestore, ForResume};
-ghost use Rattle.command_words.specs.Asked.{ForServe, ForSpool};
+ghost use Rattle.command_words.specs.Asked.{ForAudit, ForBackup, ForCheck, ForDelete, ForGenerate, ForRead, ForReclaim, ForRestore};
+ghost use Rattle.command_words.specs.Asked.{ForResume, ForServe, ForSpool};
 ghost use Rattle.command_words.specs.Commands.{IsAnyCommand, IsCommand};
 ghost use Rattle.command_words.specs.Views.{asked_of};
 ghost use Rattle.generated_session.specs.ReplayCore.Endings.{Call};
@@ -19,6 +19,7 @@ ghost use Rattle.cd_top.specs.Generate.{IsGenerated};
 ghost use Rattle.cd_top.specs.Serve.{Serves, serving};
 ghost use Rattle.cd_top.specs.Spool.{Resumes, Spools, beside};
 ghost use Rattle.cd_top.specs.Read.{Around, IsRead};
+ghost use Rattle.cd_top.specs.Reclaim.{Reclaims};
 ghost use Rattle.cd_top.specs.Replay.{IsReplay, IsReplayed};
 
 use crate::audits::{audit_in, check_in};
@@ -26,6 +27,7 @@ use crate::clients::{backup_to, delete_at, restore_from};
 use crate::ending::finish;
 use crate::generate::generate_in;
 use crate::read::read_in;
+use crate::reclaims::reclaim_in;
 use crate::serve::serve_in;
 use crate::spool::{resume_in, spool_in};
 use cd_base::NoMemory;
@@ -126,6 +128,9 @@ fn carry_out<S: Source, K: Sink, V: Shelf, P: Ports>(
           (source.new ≡ source.old)
           (input_of (S.left source.old) (S.faults source.old) (S.faults source.new))
           (output_by (K.written sink.old) (K.written sink.new) (K.faults sink.old) (K.faults sink.new));
+      reclaimed = λ asked. (source.new ≡ source.old) × (ports.new ≡ ports.old) × Reclaims result asked
+          (clouds_of (V.cloud_at shelf.old) (V.cloud_at shelf.new) (V.faults shelf.old) (V.faults shelf.new))
+          (output_by (K.written sink.old) (K.written sink.new) (K.faults sink.old) (K.faults sink.new));
       generated = λ asked. (source.new ≡ source.old) × (ports.new ≡ ports.old) × IsGenerated result (record {
         sink_before = K.faults sink.old;
         sink_after = K.faults sink.new;
@@ -147,6 +152,7 @@ fn carry_out<S: Source, K: Sink, V: Shelf, P: Ports>(
         Command::Resume(asked) => resume_in(alloc, asked, sink, shelf, ports),
         Command::Audit(asked) => audit_in(alloc, asked, sink, shelf),
         Command::Check(asked) => check_in(alloc, asked, source, sink, shelf),
+        Command::Reclaim(asked) => reclaim_in(alloc, asked, sink, shelf),
         Command::Generate(asked) => generate_in(alloc, asked, sink, shelf),
     }
 }
@@ -166,6 +172,7 @@ fn carry_out<S: Source, K: Sink, V: Shelf, P: Ports>(
 /// | `resume DIR ADDR..` | goes on with the job that is kept in DIR, at the n clouds behind the addresses |
 /// | `audit DIR CLOUD N K` | reads all that a cloud in DIR lists, and writes its certificate |
 /// | `check DIR CLOUD N K` | sees that the source has the cloud's own certificate, and that the cloud is whole |
+/// | `reclaim DIR CLOUD N K` | copies what is alive in a cloud in DIR, and gives back the space of the rest |
 /// | `gen SEED FILES PIECES DIR` | makes a session of FILES backups over four empty clouds in DIR, and writes its summary |
 ///
 /// | Status | Comes | Last line |
@@ -177,6 +184,7 @@ fn carry_out<S: Source, K: Sink, V: Shelf, P: Ports>(
 /// | 0 | the generated session was made to its end | `equal X`, the last of six lines |
 /// | 0 | audit: each blob that the cloud lists is where it was put | none behind the certificate |
 /// | 0 | check: that too, and the certificate is the cloud's own | `whole CLOUD COUNT` |
+/// | 0 | reclaim: the cloud stands for its compact list | `reclaimed CLOUD SHARES RECIPES DROPPED` |
 /// | 1 | exactly where the words are none of the above; nothing is done then | none |
 /// | 2 | a line that was reached is wrong, or a limit is passed; all before it are answered | `script LINE PLACE BYTE` |
 /// | 2 | check: the source has no certificate, or more than 134,217,728 bytes | `script LINE PLACE BYTE` |
@@ -186,15 +194,16 @@ fn carry_out<S: Source, K: Sink, V: Shelf, P: Ports>(
 /// | 6 | memory ran out | none |
 /// | 7 | replay, gen: an area of a cloud wasn't empty | `store CLOUD AREA LEN` |
 /// | 7 | replay, gen: the first opening found damage, of a cloud that isn't told | `damaged CLOUD AT BYTE` |
-/// | 7 | read, audit, check: a cloud has no store | `notbegun CLOUD LEN` |
-/// | 7 | read, audit, check: a cloud's journal is damaged | `damaged CLOUD AT BYTE` |
-/// | 7 | read, audit, check: a cloud is of another store, or another cloud of it | `other CLOUD FORMAT N K OWN`, as found |
+/// | 7 | read, audit, check, reclaim: a cloud has no store | `notbegun CLOUD LEN` |
+/// | 7 | read, audit, check, reclaim: a cloud's journal is damaged | `damaged CLOUD AT BYTE` |
+/// | 7 | read, audit, check, reclaim: a cloud is of another store, or another cloud of it | `other CLOUD FORMAT N K OWN`, as found |
 /// | 7 | spool: an area of DIR's cloud 0 isn't empty | `store 0 AREA LEN` |
 /// | 7 | resume: what is kept is damaged, or it was kept for clouds of another shape | `damaged 0 AT BYTE`, `other 0 FORMAT N K OWN` |
 /// | 7 | serve: as for a read, but that a store that isn't there is begun | likewise |
 /// | 8 | read, restore: the clouds gave no file; backup, restore, spool, resume: a cloud isn't as asked | `refused ..` |
 /// | 8 | resume: the kept file has changed | `refused rotten 0 NAMED FOUND` |
 /// | 8 | audit, check: a blob that the cloud lists isn't where it was put | `refused rotten CLOUD NAMED FOUND` |
+/// | 8 | reclaim: a blob that is alive isn't what it was; the cloud is as it was | `refused rotten CLOUD NAMED FOUND` |
 /// | 8 | check: the certificate is another cloud's, or has another line | `refused othercloud`, `refused differs LINE` |
 /// | 8 | delete: a cloud isn't as asked; or one replied something else | `refused ..`; the last cloud's line |
 /// | 8 | backup, spool, resume: not every cloud has entered the version | `end 1 open` |
@@ -312,6 +321,13 @@ pub fn run<S: Source, K: Sink, V: Shelf, P: Ports>(
         (clouds_of (V.cloud_at shelf.old) (V.cloud_at shelf.new) (V.faults shelf.old) (V.faults shelf.new))
         (source.new ≡ source.old)
         (input_of (S.left source.old) (S.faults source.old) (S.faults source.new))
+        (output_by (K.written sink.old) (K.written sink.new) (K.faults sink.old) (K.faults sink.new)) }
+    // What is alive of the cloud is copied and switched to: for each list that it stands for, a crash at any moment leaves what it
+    // might have left at the start, or the list, or its compact list; 0 says that it stands for the compact list; and what is written
+    // has the numbers, or why nothing was given back. No other cloud is touched. Source and ports aren't.
+    ensures reclaim { (asked : AskedCloud) → IsCommand (map string_bytes words.now) (ForReclaim asked)
+        → (source.new ≡ source.old) × (ports.new ≡ ports.old) × Reclaims result asked
+        (clouds_of (V.cloud_at shelf.old) (V.cloud_at shelf.new) (V.faults shelf.old) (V.faults shelf.new))
         (output_by (K.written sink.old) (K.written sink.new) (K.faults sink.old) (K.faults sink.new)) }
     // The session that is made is the generated one; the summary has its numbers, or what is written says why there is
     // none, and the status has its cause. Where nothing fails, it is made to its end or memory ran out. Source and ports

@@ -22,6 +22,7 @@ usage: cdstore serve DIR CLOUD N K ADDR COUNT           serve a cloud in DIR, be
        cdstore read DIR N K USER PATH VERSION CLOUDS    write the version from any k of these clouds' folders, such as 0,2,3
        cdstore audit DIR CLOUD N K                      read all that a cloud in DIR lists, and write its certificate
        cdstore check DIR CLOUD N K                      see that standard input is the cloud's certificate, and the cloud whole
+       cdstore reclaim DIR CLOUD N K                    copy what is alive in a cloud in DIR, and give the room of the rest back
        cdstore replay DIR                               run the script on standard input over empty clouds in DIR
        cdstore gen SEED FILES PIECES DIR                run a generated session over four empty clouds in DIR, and sum it up
 

@@ -22,7 +22,7 @@ use Rattle.session.proofs.Events.{u32_reads, u64_reads}
 use Rattle.session.proofs.CloudTexts.{sources_reads}
 use Rattle.command_words.specs.Asked.{AskedRead, AskedServe, AskedFile, AskedSpool, AskedResume, AskedCloud, AskedSession, Asked}
 use Rattle.command_words.specs.Asked.{ForReplay, ForRead, ForServe, ForBackup, ForRestore, ForDelete, ForSpool, ForResume}
-use Rattle.command_words.specs.Asked.{ForAudit, ForCheck, ForGenerate}
+use Rattle.command_words.specs.Asked.{ForAudit, ForCheck, ForReclaim, ForGenerate}
 use Rattle.command_words.specs.Commands.{read_words, serve_words, file_words, spool_words, resume_words, cloud_words, session_words}
 use Rattle.command_words.specs.Commands.{FitsRead, FitsServe, FitsFile, FitsResume, FitsCloud, FitsSession, IsCommand}
 use Rattle.command_words.specs.Reading.{◌>>=◌, ◌▷◌, ◌▷▷◌, Gives, word_at, any, user, version, path, shape_at}
@@ -262,7 +262,7 @@ unfolding resume_at word_at
 resume_again r h =
     keep_again has_clouds (Some r) r refl (and_from _ _ (le-leb _ _ h.some) (le-leb _ _ h.few))
 
--- ---- `audit` and `check`
+-- ---- `audit`, `check` and `reclaim`
 
 cloud_laws : Lawful (word_at any ▷ word_at (number 0 255) ▷ shape_at)
     (λ x. (x.0 ∷ []) ++ ((decimal x.1.0 ∷ []) ++ shape_words x.1.1))
@@ -337,6 +337,7 @@ named_again rows.Spool = refl
 named_again rows.Resume = refl
 named_again rows.Audit = refl
 named_again rows.Check = refl
+named_again rows.Reclaim = refl
 named_again rows.Generate = refl
 
 row_spells : Spells named name (λ _. Unit {0})
@@ -393,6 +394,10 @@ row_takes rows.Check words asked e =
     let a = as_some ForCheck (cloud_at words) asked e in
     let t = cloud_takes words a.0 a.1 in
     subst (IsCommand (name rows.Check ∷ words)) a.2 (ap (λ (ws : List (List ℕ)). codes "check" ∷ ws) t.0, t.1)
+row_takes rows.Reclaim words asked e =
+    let a = as_some ForReclaim (cloud_at words) asked e in
+    let t = cloud_takes words a.0 a.1 in
+    subst (IsCommand (name rows.Reclaim ∷ words)) a.2 (ap (λ (ws : List (List ℕ)). codes "reclaim" ∷ ws) t.0, t.1)
 row_takes rows.Generate words asked e =
     let a = as_some ForGenerate (session_at words) asked e in
     let t = session_takes words a.0 a.1 in
@@ -433,6 +438,8 @@ command_again words (ForAudit c) h = ap command_at h.0
     ∙ by_row rows.Audit (cloud_words c) (ForAudit c) (ap (read_as ForAudit) (cloud_again c h.1))
 command_again words (ForCheck c) h = ap command_at h.0
     ∙ by_row rows.Check (cloud_words c) (ForCheck c) (ap (read_as ForCheck) (cloud_again c h.1))
+command_again words (ForReclaim c) h = ap command_at h.0
+    ∙ by_row rows.Reclaim (cloud_words c) (ForReclaim c) (ap (read_as ForReclaim) (cloud_again c h.1))
 command_again words (ForGenerate g) h = ap command_at h.0
     ∙ by_row rows.Generate (session_words g) (ForGenerate g) (ap (read_as ForGenerate) (session_again g h.1))
 

@@ -64,4 +64,5 @@ pub data Asked : Type 0 where
   ForResume : (words : AskedResume) → Asked
   ForAudit : (words : AskedCloud) → Asked
   ForCheck : (words : AskedCloud) → Asked
+  ForReclaim : (words : AskedCloud) → Asked
   ForGenerate : (words : AskedSession) → Asked

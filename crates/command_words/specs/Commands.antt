@@ -6,7 +6,7 @@ use Rattle.cd_base.specs.declared.ids.Version.{Version}
 use Rattle.session.specs.Spelling.{cloud_list, AreSources}
 use Rattle.command_words.specs.Asked.{AskedRead, AskedServe, AskedFile, AskedSpool, AskedResume, AskedCloud, AskedSession, Asked}
 use Rattle.command_words.specs.Asked.{ForReplay, ForRead, ForServe, ForBackup, ForRestore, ForDelete, ForSpool, ForResume}
-use Rattle.command_words.specs.Asked.{ForAudit, ForCheck, ForGenerate}
+use Rattle.command_words.specs.Asked.{ForAudit, ForCheck, ForReclaim, ForGenerate}
 
 -- ---- the words behind the command's name
 
@@ -95,6 +95,7 @@ IsCommand words (ForSpool s) = (words ≡ codes "spool" ∷ spool_words s) × Fi
 IsCommand words (ForResume r) = (words ≡ codes "resume" ∷ resume_words r) × FitsResume r
 IsCommand words (ForAudit c) = (words ≡ codes "audit" ∷ cloud_words c) × FitsCloud c
 IsCommand words (ForCheck c) = (words ≡ codes "check" ∷ cloud_words c) × FitsCloud c
+IsCommand words (ForReclaim c) = (words ≡ codes "reclaim" ∷ cloud_words c) × FitsCloud c
 IsCommand words (ForGenerate g) = (words ≡ codes "gen" ∷ session_words g) × FitsSession g
 
 -- the words are one of the table

@@ -8,7 +8,7 @@ use Rattle.grammar.specs.Numerals.{number}
 use Rattle.session.specs.Reading.{names_file, needed, sources}
 use Rattle.command_words.specs.Asked.{AskedRead, AskedServe, AskedFile, AskedSpool, AskedResume, AskedCloud, AskedSession, Asked}
 use Rattle.command_words.specs.Asked.{ForReplay, ForRead, ForServe, ForBackup, ForRestore, ForDelete, ForSpool, ForResume}
-use Rattle.command_words.specs.Asked.{ForAudit, ForCheck, ForGenerate}
+use Rattle.command_words.specs.Asked.{ForAudit, ForCheck, ForReclaim, ForGenerate}
 use Rattle.command_words.specs.declared.rows.Row.{Row}
 use Rattle.command_words.specs.declared.rows.Row.TheVariants as rows
 
@@ -179,11 +179,12 @@ name rows.Spool = codes "spool"
 name rows.Resume = codes "resume"
 name rows.Audit = codes "audit"
 name rows.Check = codes "check"
+name rows.Reclaim = codes "reclaim"
 name rows.Generate = codes "gen"
 
 abbrev pub all_rows : List Row
 all_rows = rows.Replay ∷ rows.Read ∷ rows.Serve ∷ rows.Backup ∷ rows.Restore ∷ rows.Delete ∷ rows.Spool
-    ∷ rows.Resume ∷ rows.Audit ∷ rows.Check ∷ rows.Generate ∷ []
+    ∷ rows.Resume ∷ rows.Audit ∷ rows.Check ∷ rows.Reclaim ∷ rows.Generate ∷ []
 
 abbrev pub named : List ℕ → Option Row
 named word = find (λ row. bytes_eq word (name row)) all_rows
@@ -199,6 +200,7 @@ row_at rows.Spool words = read_as ForSpool (spool_at words)
 row_at rows.Resume words = read_as ForResume (resume_at words)
 row_at rows.Audit words = read_as ForAudit (cloud_at words)
 row_at rows.Check words = read_as ForCheck (cloud_at words)
+row_at rows.Reclaim words = read_as ForReclaim (cloud_at words)
 row_at rows.Generate words = read_as ForGenerate (session_at words)
 
 -- what all the words ask for

@@ -13,7 +13,7 @@ use Rattle.command_words.specs.declared.command.CloudWords.{CloudWords}
 use Rattle.command_words.specs.declared.command.GenerateWords.{GenerateWords}
 use Rattle.command_words.specs.Asked.{AskedRead, AskedServe, AskedFile, AskedSpool, AskedResume, AskedCloud, AskedSession, Asked}
 use Rattle.command_words.specs.Asked.{ForReplay, ForRead, ForServe, ForBackup, ForRestore, ForDelete, ForSpool, ForResume}
-use Rattle.command_words.specs.Asked.{ForAudit, ForCheck, ForGenerate}
+use Rattle.command_words.specs.Asked.{ForAudit, ForCheck, ForReclaim, ForGenerate}
 
 abbrev pub asked_read : ReadWords → AskedRead
 asked_read r = record {
@@ -81,4 +81,5 @@ asked_of (commands.Spool words) = ForSpool (asked_spool words)
 asked_of (commands.Resume words) = ForResume (asked_resume words)
 asked_of (commands.Audit words) = ForAudit (asked_cloud words)
 asked_of (commands.Check words) = ForCheck (asked_cloud words)
+asked_of (commands.Reclaim words) = ForReclaim (asked_cloud words)
 asked_of (commands.Generate words) = ForGenerate (asked_session words)

@@ -25,6 +25,8 @@ pub enum Command<'a> {
     Audit(CloudWords<'a>),
     /// The certificate in the source, by a cloud's store.
     Check(CloudWords<'a>),
+    /// What is alive of a cloud's store, in a fresh place.
+    Reclaim(CloudWords<'a>),
     /// A session that a number gives.
     Generate(GenerateWords<'a>),
 }
@@ -118,7 +120,7 @@ pub struct ResumeWords<'a> {
     pub addresses: &'a [String],
 }
 
-/// `audit DIR CLOUD N K` and `check DIR CLOUD N K`.
+/// `audit DIR CLOUD N K`, `check DIR CLOUD N K` and `reclaim DIR CLOUD N K`.
 #[derive(Clone, Copy, Debug)]
 pub struct CloudWords<'a> {
     /// Where the cloud lies: any word.

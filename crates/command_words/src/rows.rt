@@ -34,6 +34,7 @@ enum Row {
     Resume,
     Audit,
     Check,
+    Reclaim,
     Generate,
 }
 
@@ -61,6 +62,8 @@ fn named_by(word: &str) -> Option<Row>
         Some(Row::Audit)
     } else if word == "check" {
         Some(Row::Check)
+    } else if word == "reclaim" {
+        Some(Row::Reclaim)
     } else if word == "gen" {
         Some(Row::Generate)
     } else {
@@ -311,6 +314,7 @@ fn row_of(alloc: Global, row: Row, words: &[String]) -> Result<Option<Command<'_
         Row::Resume => Ok(resume_of(words).map(Command::Resume)),
         Row::Audit => Ok(cloud_of(words).map(Command::Audit)),
         Row::Check => Ok(cloud_of(words).map(Command::Check)),
+        Row::Reclaim => Ok(cloud_of(words).map(Command::Reclaim)),
         Row::Generate => Ok(session_of(words).map(Command::Generate)),
     }
 }

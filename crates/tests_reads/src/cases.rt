@@ -1,7 +1,7 @@
 //! What is tried over five empty clouds, which are dropped in one place.
 
 use crate::read_place::new_shelf;
-use crate::{audits, openings, read_damage, refusals, words};
+use crate::{audits, openings, read_damage, reclaims, refusals, words};
 use cd_fakes::MemShelf;
 use std::alloc::Global;
 use std::test::Fail;
@@ -19,6 +19,8 @@ pub enum Case {
     AnyPath,
     Certified,
     Found,
+    Reclaimed,
+    Rotten,
 }
 
 // Whether the clouds do as they have to.
@@ -34,6 +36,8 @@ fn tried(alloc: Global, case: Case, shelf: &mut MemShelf) -> Result<bool, Fail> 
         Case::AnyPath => words::are_read(alloc, shelf),
         Case::Certified => audits::are_certified(alloc, shelf),
         Case::Found => audits::are_found(alloc, shelf),
+        Case::Reclaimed => reclaims::are_given_back(alloc, shelf),
+        Case::Rotten => reclaims::are_rotten(alloc, shelf),
     }
 }
 

@@ -1,4 +1,4 @@
-//! Tests of the commands read, audit and check, and sessions over damaged and failing clouds.
+//! Tests of the commands read, audit, check and reclaim, and sessions over damaged and failing clouds.
 #![tactic(auto)]
 
 #[cfg(test)]
@@ -17,6 +17,8 @@ mod openings;
 mod read_damage;
 #[cfg(test)]
 mod read_place;
+#[cfg(test)]
+mod reclaims;
 #[cfg(test)]
 mod refusals;
 #[cfg(test)]

@@ -23,8 +23,8 @@ fn owned(alloc: Global, words: &[&str]) -> Result<Vec<String>, NoMemory> {
     Ok(all)
 }
 
-// What words come to over a script, a shelf and a sink: the status.
-fn status_of(
+/// What words come to over a script, a shelf and a sink: the status.
+pub fn status_of(
     alloc: Global,
     words: &[&str],
     script: &str,

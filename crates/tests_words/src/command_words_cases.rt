@@ -36,6 +36,7 @@ fn one_of_each(rt: HostRuntime) -> Result<(), Fail> {
         "resume d w x y",
         "audit d 0 4 3",
         "check d 15 16 2",
+        "reclaim d 3 4 3",
         "gen 18446744073709551615 1000 131 d",
     ] {
         assert!(rt; is_command(alloc, line)?);
@@ -77,6 +78,8 @@ fn one_word_wrong(rt: HostRuntime) -> Result<(), Fail> {
         "check d 0 3 3",
         "check d 00 4 3",
         "check d 0 4 3 0",
+        "reclaim d 4 4 3",
+        "reclaim d 0 4 3 16",
         "gen 1 0 1 d",
         "gen 1 1001 1 d",
         "gen 1 1 8193 d",

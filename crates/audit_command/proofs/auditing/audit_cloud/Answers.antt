@@ -1,7 +1,8 @@
-use Rattle.std.proofs.Common.{Err, subst}
+use Rattle.std.proofs.Common.{Err}
 use Rattle.cd_edges.proofs.Calls.{called_twice}
+use Rattle.cloud_opening.proofs.Standing.{call_at}
 use Rattle.audit_command.proofs.Completing.{completes}
-use Rattle.audit_command.proofs.Ends.{audited, audited_at, call_at, unopened_audit}
+use Rattle.audit_command.proofs.Ends.{audited, audited_at, unopened_audit}
 use Rattle.audit_command.proofs.auditing.audit_cloud.Goals as goal
 
 pub audit_opened-requires : goal.audit_opened-requires

@@ -1,6 +1,7 @@
 use Rattle.std.proofs.Common.{refl}
 use Rattle.cd_edges.proofs.Calls.{called_twice}
-use Rattle.audit_command.proofs.Ends.{checked, checked_at, call_at, unopened_check}
+use Rattle.cloud_opening.proofs.Standing.{call_at}
+use Rattle.audit_command.proofs.Ends.{checked, checked_at, unopened_check}
 use Rattle.audit_command.proofs.checking.check_cloud.Goals as goal
 
 pub check_opened-requires : goal.check_opened-requires

@@ -30,5 +30,8 @@ returns-in-Audit g c = promised_as _ _ (ap asked_of c.in-Audit.is) _ (refl, refl
 pub returns-in-Check : goal.returns-in-Check
 returns-in-Check g c = promised_as _ _ (ap asked_of c.in-Check.is) _ (refl, c.check_in.ensures)
 
+pub returns-in-Reclaim : goal.returns-in-Reclaim
+returns-in-Reclaim g c = promised_as _ _ (ap asked_of c.in-Reclaim.is) _ (refl, refl, c.reclaim_in.ensures)
+
 pub returns-in-Generate : goal.returns-in-Generate
 returns-in-Generate g c = promised_as _ _ (ap asked_of c.in-Generate.is) _ (refl, refl, c.generate_in.ensures)

@@ -1,8 +1,0 @@
-use Rattle.std.proofs.Common.{List, ℕ, ◌++◌, refl, ap, ◌∙◌}
-use Rattle.transcript.specs.Endings.{ending_text}
-use Rattle.audit_command.proofs.Written.{written_as}
-use Rattle.audit_command.proofs.lines.write_last.Goals as goal
-
-pub returns-in-Ok : goal.returns-in-Ok
-returns-in-Ok g c = written_as _ _ _ _ _ _ (c.as_slice.ensures ∙ (c.in-Ok.ensures.ok
-    ∙ ap (λ (l : List ℕ). l ++ ending_text c.args.ending.now) c.new-line.ensures)) refl c.write_text.ensures

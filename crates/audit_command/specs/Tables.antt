@@ -1,0 +1,14 @@
+-- What an opened cloud vouches for, by the memory.
+use Rattle.audit_base.specs.Own.{own}
+use Rattle.audit_base.specs.Whole.{Tables}
+use Rattle.certificate.specs.Lines.{Certificate}
+use Rattle.cloud_opening.specs.CloudMemory.Memory.{Memory}
+use Rattle.cloud_opening.specs.Opened.{CloudCall}
+
+-- where each share and each recipe lies, and who owns what, by the memory
+abbrev pub tables_in : Memory → Tables
+tables_in memory = record { places = memory.places; owners = memory.owners; files = memory.files }
+
+-- the certificate that the cloud writes by the memory
+abbrev pub certificate_in : CloudCall → Memory → Certificate
+certificate_in call memory = own call.shape call.cloud (tables_in memory)

@@ -1,0 +1,4 @@
+pub mod Completing
+mod Reopened
+pub mod Standing
+pub mod Written

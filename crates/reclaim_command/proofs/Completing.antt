@@ -1,0 +1,26 @@
+-- Where nothing fails, a reclaim answers 0 or runs out of memory: each other status has a cause that isn't there.
+use Rattle.std.proofs.Common.{◌≡◌, ◌⊎◌, inl, inr, ℕ, Result, Ok, Err}
+use Rattle.backup_command.specs.Writing.{Output}
+use Rattle.cloud_opening.specs.Opened.{CloudCall, CloudFails, IsUnfailing}
+use Rattle.cloud_opening.specs.Unhindered.{IsUnhindered}
+use Rattle.cloud_opening.proofs.Completing.{not_risen, opens, status_of}
+use Rattle.reclaim.specs.CloudServer.Copies.{IsDoneOrFault, OnReclaimFault}
+use Rattle.reclaim.specs.CloudServer.copies.ReclaimErr.{ReclaimErr}
+use Rattle.reclaim.specs.CloudServer.copies.ReclaimErr.TheVariants as errors
+use Rattle.compact_memories.specs.declared.alive.Reclaimed.{Reclaimed}
+use Rattle.reclaim_command.specs.GivenBack.{IsReclaimed, Opened, Unmade, Unopened}
+use Rattle.reclaim_command.specs.Said.{reclaim_status}
+
+module _ (call : CloudCall) (out : Output) (well : IsUnhindered call out) where
+  due_of : (result : Result Reclaimed ReclaimErr) → IsDoneOrFault result → OnReclaimFault result (CloudFails call) (IsUnfailing call)
+      → (reclaim_status result ≡ 0) ⊎ (reclaim_status result ≡ 6)
+  due_of (Ok sum) done counts = inl (λ i. 0)
+  due_of (Err errors.Fault) done counts = absurd (not_risen call.old.faults call.new.faults well.cloud counts.cloud)
+  due_of (Err (errors.Rotten named found)) done counts = absurd done
+  due_of (Err errors.NoMemory) done counts = absurd done
+
+  pub completes : (status : ℕ) → IsReclaimed status call out → (status ≡ 0) ⊎ (status ≡ 6)
+  completes status (Unmade same silent unchanged) = inr same
+  completes status (Unopened error unopened writes) = absurd (opens call out well error unopened)
+  completes status (Opened rooms memory region between total after result opened of writes) =
+      status_of call out well _ (reclaim_status result) status (due_of result (of.answers well.rooms well.list well.stands) of.counts) writes

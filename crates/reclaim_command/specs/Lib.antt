@@ -1,0 +1,4 @@
+pub mod CloudOpening
+pub mod GivenBack
+pub mod Said
+pub mod Steps

@@ -1,0 +1,45 @@
+-- What a reclaim comes to, by the server that was opened. No public clause cites this module.
+use Rattle.std.specs.Prelude.{◌≡◌, ℕ, IsTrue, List, Result, IfOk, OnOk}
+use Rattle.backup_command.specs.Writing.{Output, Writes}
+use Rattle.cd_edges.specs.Disk.{LeavesOnly, reads}
+use Rattle.cloud_areas.specs.Placing.{region_start}
+use Rattle.cloud_memory.specs.Rooms.{memory_of}
+use Rattle.cloud_opening.specs.CloudServer.Serving.{IsServing, settled_with}
+use Rattle.cloud_opening.specs.CloudServer.server.Server.{Server}
+use Rattle.cloud_opening.specs.OpenStore.Store.{ServesSome}
+use Rattle.cloud_opening.specs.Opened.{CloudCall, CloudFails, IsUnfailing}
+use Rattle.reclaim.specs.AuditBase.Whole.{tables_of}
+use Rattle.reclaim.specs.BlobAudit.Reading.{AreStored, IsUnlike}
+use Rattle.reclaim.specs.BlobCopy.Copying.{StandsForKept}
+use Rattle.reclaim.specs.CloudServer.Copies.{IfRottenThere, IsDoneOrFault, OnReclaimFault}
+use Rattle.reclaim.specs.CloudServer.copies.ReclaimErr.{ReclaimErr}
+use Rattle.compact_memories.specs.Kept.{live_sum}
+use Rattle.compact_memories.specs.Moved.{IsMoved, other_region}
+use Rattle.compact_memories.specs.declared.alive.Reclaimed.{Reclaimed}
+use Rattle.reclaim.specs.Reclaims.{KeepsLive, Spares}
+use Rattle.reclaim.specs.Sums.{IsSumOf}
+use Rattle.user_dedup.specs.Compact.{compact}
+use Rattle.user_dedup.specs.declared.command.Command.{Command}
+use Rattle.reclaim_command.specs.Said.{reclaim_status, reclaim_text}
+
+-- An open server gave back what is dead in its cloud, and is `after` then.
+pub record ReclaimedBy (server : Server) (call : CloudCall) (out : Output) (status : ℕ) : Type 0 where
+  pub result : Result Reclaimed ReclaimErr
+  pub after : Server
+  pub any_moment : (list : List Command) → ServesSome list server.store call.old
+      → LeavesOnly call.old call.new (StandsForKept server.store.header list)
+  pub serving : (list : List Command) → ServesSome list server.store call.old
+      → OnOk result (IsServing after call.new (settled_with (compact server.store.header.shape list) call.new))
+  pub kept : (list : List Command) → ServesSome list server.store call.old
+      → OnOk result (KeepsLive server.store.header.shape list (memory_of after.store.memory))
+  pub answers : (list : List Command) → ServesSome list server.store call.old → IsDoneOrFault result
+  pub sums : (list : List Command) → ServesSome list server.store call.old → IfOk result (IsSumOf server.store.header.shape list)
+  pub sum : IfOk result (λ sum. sum ≡ live_sum server.store.memory)
+  pub moved : OnOk result (IsMoved (other_region server.store.region) server.store.memory (memory_of after.store.memory))
+  pub whole : IsTrue call.old.told → OnOk result (AreStored (reads call.new.now) (tables_of after.store.memory))
+  pub rotten : IsTrue call.old.told → IfRottenThere result (IsUnlike (reads call.new.now) (tables_of server.store.memory))
+  pub spared : IsTrue call.old.told
+      → IfRottenThere result (λ named found. Spares (region_start (other_region server.store.region)) call.old call.new)
+  pub same : after.store.header ≡ server.store.header
+  pub counts : OnReclaimFault result (CloudFails call) (IsUnfailing call)
+  pub written : Writes (reclaim_text call.cloud result) (reclaim_status result) out status

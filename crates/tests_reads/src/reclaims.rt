@@ -1,0 +1,177 @@
+//! Reclaims of a cloud, stopped and whole.
+
+use crate::cases::{Case, holds};
+use crate::read_place::{come_to, is_replayed, lengths, new_shelf, status_of};
+use cd_base::CloudNo;
+use cd_edges::{Area, Shelf};
+use cd_fakes::{MemShelf, MemSink};
+use std::alloc::Global;
+use std::test::Fail;
+
+// A store of shape 4 3 with the bytes `A` and `B` in user 7's paths `a` and `b`, of which the first is deleted at each cloud.
+const ONE_LEFT: &str = "cdstore 1 4 3 10 1000 10000 10 10\n\
+upload 7 61 1 41\nfinish 1\nupload 7 62 1 42\nfinish 2\n\
+delete 7 61 1 0\ndelete 7 61 1 1\ndelete 7 61 1 2\ndelete 7 61 1 3\n";
+
+// The same with the second one deleted at cloud 0 too.
+const NONE_LEFT: &str = "cdstore 1 4 3 10 1000 10000 10 10\n\
+upload 7 61 1 41\nfinish 1\nupload 7 62 1 42\nfinish 2\n\
+delete 7 61 1 0\ndelete 7 62 1 0\n";
+
+// Two users with one share.
+const TWO_USERS: &str =
+    "cdstore 1 4 3 10 1000 10000 10 10\nupload 7 61 1 41\nfinish 1\nupload 8 61 1 41\nfinish 2\n";
+
+static RECLAIM: [&str; 5] = ["reclaim", "d", "0", "4", "3"];
+
+static READ_B: [&str; 8] = ["read", "d", "4", "3", "7", "b", "1", "0,1,2"];
+
+static READ_A: [&str; 8] = ["read", "d", "4", "3", "7", "a", "1", "0,1,2"];
+
+const ONE_DROPPED: &str = "reclaimed 0 11 61 1\n";
+
+const NONE_DROPPED: &str = "reclaimed 0 11 61 0\n";
+
+// Whether the file that is left is read, and the other one isn't.
+fn is_left(alloc: Global, shelf: &mut MemShelf) -> Result<bool, Fail> {
+    let read = come_to(alloc, &READ_B, &[], shelf, (0, "B"))?;
+    Ok(come_to(alloc, &READ_A, &[], shelf, (8, "refused missing 0\n"))? && read)
+}
+
+/// Whether what is alive is copied, once and again, is read back, and has these places.
+pub fn are_given_back(alloc: Global, shelf: &mut MemShelf) -> Result<bool, Fail> {
+    let stored = is_replayed(alloc, ONE_LEFT, shelf)?;
+    let cut = come_to(alloc, &RECLAIM, &[1], shelf, (4, ""))?;
+    let moved = lengths(shelf, 0) == [134_217_972, 34_359_738_379, 34_359_738_429];
+    let again = come_to(alloc, &RECLAIM, &[], shelf, (0, NONE_DROPPED))?;
+    let back = come_to(alloc, &RECLAIM, &[], shelf, (0, NONE_DROPPED))?;
+    let left = is_left(alloc, shelf)?;
+    let none = come_to(
+        alloc,
+        &["reclaim", "d", "4", "5", "3"],
+        &[],
+        shelf,
+        (7, "notbegun 4 0\n"),
+    )?;
+    Ok(stored && cut && moved && again && back && left && none)
+}
+
+const ROTTEN: &str = "refused rotten 0 ";
+
+/// Whether a share of the version that is left, with another byte, stops a reclaim, and one that nobody owns doesn't.
+pub fn are_rotten(alloc: Global, shelf: &mut MemShelf) -> Result<bool, Fail> {
+    let stored = is_replayed(alloc, ONE_LEFT, shelf)?;
+    let changed = shelf.write(CloudNo(0), Area::Shares, 0, &[0]).is_ok();
+    let dropped = come_to(alloc, &RECLAIM, &[], shelf, (0, ONE_DROPPED))?;
+    let rotten = shelf
+        .write(CloudNo(0), Area::Shares, 34_359_738_368, &[0])
+        .is_ok();
+    let before = lengths(shelf, 0);
+    let mut sink = MemSink::of(alloc, 10_000, 7, &[])?;
+    let refused = status_of(alloc, &RECLAIM, "", &mut sink, shelf)? == 8
+        && sink.written().starts_with(ROTTEN.as_bytes());
+    Ok(stored && changed && dropped && rotten && refused && lengths(shelf, 0) == before)
+}
+
+// What a reclaim of these stores comes to at cloud 0, and the lengths of the areas then.
+static ROWS: [(&str, &str, [u64; 3]); 3] = [
+    (
+        ONE_LEFT,
+        ONE_DROPPED,
+        [134_217_972, 34_359_738_379, 34_359_738_429],
+    ),
+    (NONE_LEFT, "reclaimed 0 0 0 2\n", [134_217_791, 22, 122]),
+    (
+        TWO_USERS,
+        "reclaimed 0 11 122 0\n",
+        [134_218_141, 34_359_738_379, 34_359_738_490],
+    ),
+];
+
+fn is_row(alloc: Global, row: &(&str, &str, [u64; 3]), shelf: &mut MemShelf) -> Result<bool, Fail> {
+    let stored = is_replayed(alloc, row.0, shelf)?;
+    let came = come_to(alloc, &RECLAIM, &[], shelf, (0, row.1))?;
+    Ok(stored && came && lengths(shelf, 0) == row.2)
+}
+
+#[test]
+fn each_row_comes_out(rt: HostRuntime) -> Result<(), Fail> {
+    let mut well = true;
+    for row in &ROWS {
+        let mut shelf = new_shelf(rt.alloc())?;
+        let came = is_row(rt.alloc(), row, &mut shelf);
+        drop(shelf);
+        well = came? && well;
+    }
+    assert!(rt; well);
+    Ok(())
+}
+
+#[test]
+fn what_is_alive_is_kept(rt: HostRuntime) -> Result<(), Fail> {
+    assert!(rt; holds(rt.alloc(), Case::Reclaimed)?);
+    Ok(())
+}
+
+#[test]
+fn a_rotten_share_stops_it(rt: HostRuntime) -> Result<(), Fail> {
+    assert!(rt; holds(rt.alloc(), Case::Rotten)?);
+    Ok(())
+}
+
+// What a crash makes of the bytes that weren't synced, and whether those past the synced length stay.
+const CRASHES: [(u8, bool); 3] = [(0, false), (1, true), (0xFF, false)];
+
+// How many calls that write or sync a reclaim of that store makes, with the four of its opening.
+const CALLS: u32 = 17;
+
+// Whether a reclaim that is cut in this call, of whose write so many bytes are kept, and behind which a crash comes, has status 5, or 0
+// where it made fewer calls; and leaves the list, or what is kept of it: the next reclaim says which, and the file is read.
+fn is_stopped(
+    alloc: Global,
+    cut: (u32, u32),
+    crash: (u8, bool),
+    shelf: &mut MemShelf,
+) -> Result<bool, Fail> {
+    let stored = is_replayed(alloc, ONE_LEFT, shelf)?;
+    shelf.arm(CloudNo(0), cut.0, cut.1);
+    let mut sink = MemSink::of(alloc, 10_000, 1_000, &[])?;
+    let status = status_of(alloc, &RECLAIM, "", &mut sink, shelf)?;
+    shelf.arm(CloudNo(0), 0, 0);
+    let crashed = shelf.crash(CloudNo(0), crash.0, crash.1);
+    let left = is_left(alloc, shelf)?;
+    let mut second = MemSink::of(alloc, 10_000, 1_000, &[])?;
+    let again = status_of(alloc, &RECLAIM, "", &mut second, shelf)? == 0;
+    let before = second.written() == ONE_DROPPED.as_bytes();
+    let after = second.written() == NONE_DROPPED.as_bytes();
+    let well = if status == 0 {
+        after
+    } else {
+        status == 5 && (before || after)
+    };
+    Ok(stored && crashed && left && again && well && is_left(alloc, shelf)?)
+}
+
+// The same of all crashes and keeps.
+fn are_stopped(alloc: Global, call: u32) -> Result<bool, Fail> {
+    let mut well = true;
+    for crash in CRASHES {
+        for keep in [1, 5_000] {
+            let mut shelf = new_shelf(alloc)?;
+            let came = is_stopped(alloc, (call, keep), crash, &mut shelf);
+            drop(shelf);
+            well = came? && well;
+        }
+    }
+    Ok(well)
+}
+
+#[test]
+fn a_stop_in_each_call(rt: HostRuntime) -> Result<(), Fail> {
+    let mut well = true;
+    for call in 1..=CALLS {
+        well = are_stopped(rt.alloc(), call)? && well;
+    }
+    assert!(rt; well);
+    Ok(())
+}
