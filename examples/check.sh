@@ -7,7 +7,7 @@ export CDSTORE="${CDSTORE:-$top/crates/cdstore/out/cdstore}"
     echo "examples: not run, since there is no program at $CDSTORE"
     exit 0
 }
-for tool in awk b2sum cmp cut date diff find grep head mktemp od paste sed seq sha256sum sort stat tail tar tee timeout tr wc xargs; do
+for tool in awk b2sum chmod cmp cut date dd diff du find grep head mktemp od paste sed seq sha256sum sort stat tail tar tee timeout tr wc xargs; do
     command -v "$tool" > /dev/null || {
         echo "examples: not run, since there is no $tool"
         exit 0
@@ -18,7 +18,7 @@ log="$(mktemp)"
 trap 'rm -f "$log"' EXIT
 status=0
 for example in "first_run.sh" "first_screen.sh --check" "round_trip.sh" "read_back.sh" "refill.sh" "any_three.sh" "session.sh" "month.sh" "kill.sh 20" \
-    "many_clients.sh" "audit.sh" "spool.sh" "spool_kill.sh 10" "delete.sh" "days.sh" "checkpoint.sh" "format_1.sh" "four_clouds.sh" "folder.sh"; do
+    "many_clients.sh" "audit.sh" "reclaim.sh 21" "spool.sh" "spool_kill.sh 10" "delete.sh" "days.sh" "checkpoint.sh" "format_1.sh" "four_clouds.sh" "folder.sh" "year.sh 4"; do
     # shellcheck disable=SC2086
     if timeout 300 "$top/examples/"$example > "$log" 2>&1; then
         echo "examples: $example ran"

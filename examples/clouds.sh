@@ -32,6 +32,21 @@ fail() {
     exit 1
 }
 
+# Waits until a command ends with status 0, for a minute at most: await WHAT COMMAND..
+await() {
+    local what="$1" last=$((SECONDS + 60))
+    shift
+    until "$@"; do
+        [ "$SECONDS" -lt "$last" ] || fail "waited for a minute, in vain: $what"
+        sleep 0.02
+    done
+}
+
+# Whether a process has ended: ended PID
+ended() {
+    ! kill -0 "$1" 2> /dev/null
+}
+
 # Runs the program, and sees its status and all that it writes, by a pattern: says STATUS PATTERN WORDS..
 says() {
     local status=0 wanted="$1" pattern="$2"
@@ -40,6 +55,11 @@ says() {
     [ "$status" = "$wanted" ] || fail "cdstore $*: status $status, $(tail -n 1 "$work/lines")"
     # shellcheck disable=SC2053
     [[ "$(cat "$work/lines")" == $pattern ]] || fail "cdstore $* said $(cat "$work/lines")"
+}
+
+# Whether a cloud's server has said a line, left in `line`, or has ended: spoke CLOUD
+spoke() {
+    read -r line < "$work/said$1" || ended "${servers[$1]}"
 }
 
 # Starts a cloud's server for so many connections: start CLOUD COUNT. It then listens at ${address[CLOUD]}, a port of the loopback that it
@@ -51,9 +71,7 @@ start() {
         : > "$said"
         "$program" serve "$work/provider$cloud" "$cloud" 4 3 "${address[cloud]}" "$count" > "$said" &
         servers[cloud]=$!
-        until read -r line < "$said" || ! kill -0 "${servers[cloud]}" 2> /dev/null; do
-            sleep 0.02
-        done
+        await "cloud $cloud says that it is ready" spoke "$cloud"
         [ "$line" != "ready ${address[cloud]}" ] || return 0
         status=0
         wait "${servers[cloud]}" || status=$?
@@ -74,11 +92,7 @@ lose() {
 all_end() {
     local cloud status
     for cloud in "${!servers[@]}"; do
-        for _ in $(seq 200); do
-            kill -0 "${servers[cloud]}" 2> /dev/null || break
-            sleep 0.05
-        done
-        ! kill -0 "${servers[cloud]}" 2> /dev/null || fail "cloud $cloud waits for more connections than there were"
+        await "cloud $cloud ends by itself, behind its last connection" ended "${servers[cloud]}"
         status=0
         wait "${servers[cloud]}" || status=$?
         [ "$status" = 0 ] || fail "cloud $cloud ended with status $status"

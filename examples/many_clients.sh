@@ -3,7 +3,7 @@
 # and 15 clients at most, each a user, since a cloud begins with rooms for the users 0 to 15.
 #
 # In each round a client stores a new version or reads one of its own back from three clouds of the four, as chance has it, and compares it.
-# One backup in ten is killed at some moment. All others end with status 0: clients take the clouds in one order, so none waits for another in
+# It waits a minute for each, and gives status 124 then. One backup in ten is killed at some moment. All others end with status 0: clients take the clouds in one order, so none waits for another in
 # a ring. It ends with a line of how many there were and the longest that one took, and with 0 only where each did as it has to.
 # shellcheck source=clouds.sh
 . "$(dirname "$0")/clouds.sh"
@@ -47,12 +47,12 @@ client() {
                 killed "$user" "$version" "$own/$version"
                 continue
             fi
-            "$program" backup "$user" notes "$version" "${address[@]}" < "$own/$version" > "$own/lines" || status=$?
+            timeout 60 "$program" backup "$user" notes "$version" "${address[@]}" < "$own/$version" > "$own/lines" || status=$?
             kept+=("$version")
         else
             which="${kept[RANDOM % ${#kept[@]}]}"
             mapfile -t some < <(three)
-            "$program" restore "$user" notes "$which" "${some[@]}" > "$own/read" || status=$?
+            timeout 60 "$program" restore "$user" notes "$which" "${some[@]}" > "$own/read" || status=$?
             cmp -s "$own/read" "$own/$which" || status="$status, and another file than was stored"
         fi
         echo "$(((($(date +%s%N) - begun)) / 1000000)) $status" >> "$own/ended"

@@ -19,10 +19,12 @@ says 0 nospool resume "$folder" "${address[@]}"
 # one that goes away when the job is kept, and before its own turn comes
 "$program" spool "$folder" 7 file 1 "${address[@]}" < "$work/file" > "$work/spooled" &
 client=$!
-until [ -s "$folder/cloud0/journal" ] || ! kill -0 "$client" 2> /dev/null; do
-    sleep 0.01
-done
+kept_or_ended() {
+    [ -s "$folder/cloud0/journal" ] || ended "$client"
+}
+await "spool keeps its job" kept_or_ended
 lose 3
+await "spool ends, as a cloud went away" ended "$client"
 status=0
 wait "$client" || status=$?
 # (8 where its stream was seen to end, and 9 where it was cut)

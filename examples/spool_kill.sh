@@ -1,7 +1,8 @@
 #!/usr/bin/env bash
 # Kills `spool` at random moments, each time without a word, and the `resume` behind it too, and then lets `resume` go on until it ends:
 # each cloud has the version once then, and the client's folder keeps no job. What the folder noted isn't asked again: the last `resume` has
-# no line of such a cloud, and, where there is python3 to count it, sent it no more than its Hello. So many times: spool_kill.sh [TIMES]
+# no line of such a cloud, and, where there is python3 to count it, sent it no more than its Hello. That one alone goes through the relay that
+# counts, so that no line of a client that was killed comes among its own, however late. So many times: spool_kill.sh [TIMES]
 . "$(dirname "$0")/clouds.sh"
 times="${1:-10}"
 folder="$work/spool"
@@ -15,9 +16,14 @@ if command -v python3 > /dev/null; then
     coproc relay { exec python3 "$top/examples/relay.py" "$work/sent" "${address[@]}"; }
     servers[4]="$relay_PID"
     for cloud in 0 1 2 3; do
-        read -r -u "${relay[0]}" "reached[cloud]"
+        read -r -t 60 -u "${relay[0]}" "reached[cloud]" || fail "the relay named no port for cloud $cloud within a minute"
     done
 fi
+
+# Whether the relay has a line of each cloud's connection, as each ends.
+all_counted() {
+    [ "$(wc -l < "$work/sent")" = 4 ]
+}
 
 # Runs the program, and kills it within the time that a whole backup took: cut_off WORDS..
 cut_off() {
@@ -43,19 +49,21 @@ path=file
 going=0 kept=0
 head -c 3000000 /dev/urandom > "$work/file"
 begun="$(date +%s%N)"
-"$program" spool "$folder" 7 whole 1 "${reached[@]}" < "$work/file" > "$work/said" || fail "a spool ended with status $?"
+"$program" spool "$folder" 7 whole 1 "${address[@]}" < "$work/file" > "$work/said" || fail "a spool ended with status $?"
 span=$((($(date +%s%N) - begun) / 1000000))
 for time in $(seq "$times"); do
     user=$((time % 16))
     head -c 3000000 /dev/urandom > "$work/file"
-    cut_off spool "$folder" "$user" "$path" "$time" "${reached[@]}" < "$work/file"
-    cut_off resume "$folder" "${reached[@]}"
+    cut_off spool "$folder" "$user" "$path" "$time" "${address[@]}" < "$work/file"
+    cut_off resume "$folder" "${address[@]}"
     mapfile -t before < <(noted)
-    sleep 0.05
     : > "$work/sent"
     status=0
     "$program" resume "$folder" "${reached[@]}" > "$work/said" || status=$?
     [ "$status" = 0 ] || fail "resume $time ended with status $status: $(cat "$work/said")"
+    if [ "${reached[*]}" != "${address[*]}" ]; then
+        await "the relay has a line of each cloud that resume $time spoke to" all_counted
+    fi
     last="$(tail -n 1 "$work/said")"
     case "$last" in
         'end 1 stored')
@@ -66,7 +74,6 @@ for time in $(seq "$times"); do
             [ "$(grep -c '^step 1 [0-3] committed$' "$work/said")" = "$((4 - ${#before[@]}))" ] ||
                 fail "resume $time, with ${#before[@]} noted, said $(cat "$work/said")"
             if [ "${reached[*]}" != "${address[*]}" ]; then
-                until [ "$(wc -l < "$work/sent")" = 4 ]; do sleep 0.01; done
                 for cloud in "${before[@]+"${before[@]}"}"; do
                     grep -qE "^$cloud [0-9]$" "$work/sent" || fail "resume $time sent more than a Hello to cloud $cloud: $(cat "$work/sent")"
                 done
@@ -74,12 +81,12 @@ for time in $(seq "$times"); do
             ;;
         nospool)
             # it was killed before the job was kept, or behind its end: the same again
-            "$program" backup "$user" "$path" "$time" "${reached[@]}" < "$work/file" > "$work/said" ||
+            "$program" backup "$user" "$path" "$time" "${address[@]}" < "$work/file" > "$work/said" ||
                 fail "backup $time ended with status $?: $(tail -n 1 "$work/said")"
             ;;
         *) fail "resume $time said $last" ;;
     esac
-    "$program" resume "$folder" "${reached[@]}" | grep -qx nospool || fail "a job is kept behind its end"
+    "$program" resume "$folder" "${address[@]}" | grep -qx nospool || fail "a job is kept behind its end"
     [ -z "$(find "$folder/cloud0" -type f -size +0 2> /dev/null)" ] || fail "the folder isn't empty behind its end: $(ls -l "$folder/cloud0")"
     "$program" restore "$user" "$path" "$time" "${address[0]}" "${address[1]}" "${address[2]}" > "$work/back"
     cmp "$work/file" "$work/back" || fail "version $time came back otherwise"
