@@ -1,6 +1,7 @@
 """What the scripts of this folder share: processes with their processor time and memory, the hashes beside them, and clouds' servers."""
 import os
 import socket
+import struct
 import subprocess
 import time
 
@@ -112,6 +113,22 @@ class Cloud:
         if self.process.returncode is None:
             self.process.kill()
             ended(self.process)
+
+
+def frame(content):
+    """A message as it goes over a connection: its length in four bytes, and it."""
+    return struct.pack(">I", len(content)) + content
+
+
+def receive(connection, length):
+    """So many bytes of a connection."""
+    got = bytearray()
+    while len(got) < length:
+        piece = connection.recv(length - len(got))
+        if not piece:
+            raise SystemExit("the server ended the connection")
+        got += piece
+    return bytes(got)
 
 
 def size(folder):

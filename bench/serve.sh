@@ -11,23 +11,9 @@ store="$work"
 }
 python3 - "$hashes" "$cdstore" "$store" <<'PY'
 import os, socket, struct, sys, threading, time
-from measure import Cloud, MIB_64, hashes, spent
+from measure import Cloud, MIB_64, frame, hashes, receive, spent
 
 QUERIES, ALONE, BATCH, LONG = 100_000, 10_000, 256, 8_192
-
-
-def frame(content):
-    return struct.pack(">I", len(content)) + content
-
-
-def receive(connection, length):
-    got = bytearray()
-    while len(got) < length:
-        piece = connection.recv(length - len(got))
-        if not piece:
-            raise SystemExit("the server ended the connection")
-        got += piece
-    return bytes(got)
 
 
 def loaded(cloud, connection, frames, reply):
