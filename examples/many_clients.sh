@@ -3,8 +3,9 @@
 # and 15 clients at most, each a user, since a cloud begins with rooms for the users 0 to 15.
 #
 # In each round a client stores a new version or reads one of its own back from three clouds of the four, as chance has it, and compares it.
-# It waits a minute for each, and gives status 124 then. One backup in ten is killed at some moment. All others end with status 0: clients take the clouds in one order, so none waits for another in
-# a ring. It ends with a line of how many there were and the longest that one took, and with 0 only where each did as it has to.
+# One backup in ten is killed at some moment. All others end with status 0: clients take the clouds in one order, so none waits for another in
+# a ring; one that takes more than a minute is ended, and counts as status 124. It ends with a line of how many there were and the longest that
+# one took, and with 0 only where each did as it has to.
 # shellcheck source=clouds.sh
 . "$(dirname "$0")/clouds.sh"
 rounds="${1:-12}" clients="${2:-8}"
