@@ -1,5 +1,5 @@
 -- A store of format 1, as a migration is to read it: the list says where each blob lies. Its numbers of use, and what some rooms can't take.
-use Rattle.std.specs.Prelude.{◌≡◌, ◌⊎◌, ℕ, ◌≤◌, ◌==◌, Bool, not, ◌&&◌, List, [], ◌∷◌, ◌++◌, length, map, filter, find, bytes_eq, All, Option, Some, option_map}
+use Rattle.std.specs.Prelude.{◌≡◌, ◌⊎◌, ℕ, ◌≤◌, ◌==◌, Bool, not, ◌&&◌, List, [], ◌∷◌, ◌++◌, length, take, map, filter, find, bytes_eq, All, Option, Some, option_map}
 use Rattle.std.specs.List.{flat_map, sum_by, Contains}
 use Rattle.std.specs.Option.{option_or}
 use Rattle.cd_base.specs.declared.ids.Fp.{Fp}
@@ -18,6 +18,8 @@ use Rattle.journal_start.specs.declared.rooms.Rooms.{Rooms}
 use Rattle.journal_start.specs.declared.start.Header.{Header}
 use Rattle.journal_start.specs.Spelling.{commands_of, records_of, recipes_end_of}
 use Rattle.cd_base.specs.declared.place.Place.{Place}
+use Rattle.record_bodies.specs.Spelling.{Body, Commit}
+use Rattle.record_body.specs.declared.body.CommitBody.{CommitBody}
 use Rattle.user_dedup.specs.Cloud.{has_fingerprint, counted}
 use Rattle.user_dedup.specs.Dedup.{FullRoom}
 use Rattle.user_dedup.specs.Owning.{new_strings}
@@ -27,8 +29,8 @@ use Rattle.user_dedup.specs.Dedup.{IsSound}
 use Rattle.user_dedup.specs.Cloud.{user_view, strings_in, recipes_of}
 use Rattle.user_dedup.specs.Compact.{users_in, user_at, compact}
 use Rattle.user_dedup.specs.Spending.{Spent, spent_of, files_of, limits_of, files_limit, refusal}
-use Rattle.cloud_areas.specs.Chains.{Says, laid_shares}
-use Rattle.cloud_areas.specs.Placing.{shares_in}
+use Rattle.cloud_areas.specs.Chains.{Says, laid_shares, DontOverlap}
+use Rattle.cloud_areas.specs.Placing.{shares_in, recipes_in}
 use Rattle.cloud_areas.specs.Standing.{Chain, IsChain}
 
 -- ---- where blobs lie
@@ -93,7 +95,8 @@ IsLaidRecipe before list r = Contains (map (λ (e : LaidEntry). e.recipe) (laid_
 
 -- ---- what the areas stand for
 
--- The chain says the list; each string and each recipe that it places lies where the list lays it.
+-- The chain says the list; each string and each recipe that it places lies where the list lays it. The checkpoint's recipes don't overlap,
+-- and those behind it lie behind the end that its start says.
 pub record Lays (header : Header) (image : Image) (list : List Command) (c : Chain) : Type 0 where
   pub says : Says header.format header.shape 0 (records_of c.start.checkpoint) (commands_of c.start.checkpoint) c.records list c.recipes
   pub places : (fp : Fp) (place : Place) → Contains (shares_in c.records) (fp, place) → place_in list fp ≡ Some place
@@ -103,6 +106,9 @@ pub record Lays (header : Header) (image : Image) (list : List Command) (c : Cha
   pub list_is : list ≡ before ++ after
   pub first : counted before ≡ commands_of c.start.checkpoint
   pub recipes_laid : (r : Placed) → Contains c.recipes r → IsLaidRecipe before list r
+  pub apart : DontOverlap (recipes_in (take (records_of c.start.checkpoint) c.records))
+  pub behind : (front : List Body) (commit : CommitBody) (rest : List Body) → c.records ≡ front ++ Commit commit ∷ rest
+      → records_of c.start.checkpoint ≤ length front → recipes_end_of c.start.checkpoint ≤ commit.at
   pub recipes : All (IsAt (image Recipes)) c.recipes
   pub end_is : recipes_end_of c.start.checkpoint ≡ laid_end before
   pub area : laid_end before ≤ length (image Recipes)

@@ -1,10 +1,8 @@
 -- A record behind the checkpoint of a chain of format 1 is taken.
-use Rattle.std.proofs.Common.{◌≡◌, inr, ℕ, ◌≤◌, max, Bool, true, false, List, [], ◌∷◌, ◌++◌, length, map, Option, Some, None, refl, sym, ap, ◌∙◌, subst, arith}
-use Rattle.std.specs.Prelude.{◌&&◌, ◌==◌, ◌↔◌, cond, bytes_eq, is_some, IsSome, IfSome, slice_get, All}
+use Rattle.std.proofs.Common.{◌≡◌, inr, ℕ, ◌≤◌, false, List, [], ◌∷◌, ◌++◌, length, map, refl, sym, ap, ◌∙◌, subst, arith}
+use Rattle.std.specs.Prelude.{slice_get, All}
 use Rattle.std.specs.List.{Contains}
 use Rattle.std.specs.FinMap.{get}
-use Rattle.std.proofs.lemmas.Bool.{false_from_ne_true}
-use Rattle.std.proofs.lemmas.List.{map-append}
 use Rattle.std.proofs.lemmas.List.Elements.{All-head, Contains-append_right}
 use Rattle.cd_base.specs.declared.ids.Fp.{Fp}
 use Rattle.cd_base.specs.declared.ids.Tag.{Tag}
@@ -27,134 +25,32 @@ use Rattle.user_dedup.specs.declared.file_list.FileEntry.{FileEntry}
 use Rattle.user_dedup.specs.declared.view.View.{View}
 use Rattle.user_dedup.specs.Cloud.{fingerprint, user_view, strings_in}
 use Rattle.user_dedup.specs.Dedup.{IsSound}
-use Rattle.user_dedup.specs.Owning.{is_among}
 use Rattle.user_dedup.specs.Requests.{fps_of as names_of}
 use Rattle.user_dedup.proofs.New.{are_new}
-use Rattle.user_dedup.proofs.Owned.{fp_same, contains_here, contains_later}
+use Rattle.user_dedup.proofs.Owned.{contains_here}
 use Rattle.user_dedup.proofs.Sound.{found_entry}
 use Rattle.user_dedup.proofs.Views.{own_adds}
-use Rattle.cloud_areas.specs.Chains.{commit_of, PlacedNew, AreItems, IsRecord, LiesIn}
+use Rattle.cloud_areas.specs.Chains.{commit_of, AreItems, IsRecord, LiesIn}
 use Rattle.cloud_areas.specs.FormatOne.{IsWithinGreatest}
-use Rattle.cloud_areas.specs.Placing.{places_given, places_of, end_of, region_start, AreBehind, shares_end, recipes_end}
+use Rattle.cloud_areas.specs.Placing.{places_given, places_of, AreBehind, shares_end, recipes_end}
 use Rattle.cloud_areas.proofs.Apart.{Apart, apart_from}
 use Rattle.cloud_areas.proofs.Lists.{from_map}
 use Rattle.cloud_memory.specs.Memory.{Memory}
 use Rattle.cloud_memory.specs.Sharing.{AreOwned}
-use Rattle.cloud_memory.specs.Steps.{with_item, with_items, with_entry, places_with, end_with}
-use Rattle.cloud_memory.proofs.Keys.{owner_in}
-use Rattle.cloud_memory.proofs.Lists.{are_placed, string_len}
-use Rattle.cloud_memory.proofs.Puts.{ArePlaced, len_at}
+use Rattle.cloud_memory.specs.Steps.{with_items, with_entry}
+use Rattle.cloud_memory.proofs.Lists.{are_placed}
 use Rattle.record_checks.specs.declared.ground.Ground.{Ground}
-use Rattle.record_checks.specs.Checks.{ByCommit, ByDelete, Lies, ShareLies, IsFlagged, AreRight, RecipeLies, IsNamed, IsWhole}
+use Rattle.record_checks.specs.Checks.{ByCommit, ByDelete, RecipeLies, IsNamed, IsWhole}
 use Rattle.record_laws.specs.Leaving.{bytes_at, entry_bytes}
 use Rattle.record_laws.proofs.Asked.{lawful}
-use Rattle.record_laws.proofs.Behind.{own_known, file_known}
-use Rattle.record_laws.proofs.Next.{was_found, free_place, one_placed, not_own, owns_all, lacks_version, entry_known}
-use Rattle.record_laws.proofs.Sized.{IsSized, entry_sized, inside_area, HasRoomIn, HaveRoomFor}
+use Rattle.record_laws.proofs.Behind.{AreFree, right_items, own_known, file_known}
+use Rattle.record_laws.proofs.Next.{not_own, owns_all, lacks_version, entry_known}
+use Rattle.record_laws.proofs.Sized.{IsSized, entry_sized, inside_area, HaveRoomFor}
 use Rattle.first_records.specs.Judging.{PutLeaves, CommitLeaves, DeleteLeaves}
 use Rattle.first_laws.specs.Leaving.{first_left, filled, IsLeftOne}
 use Rattle.first_laws.proofs.Crowding.{put_fits, commit_fits}
 use Rattle.first_laws.proofs.Most.{most_places, most_owners, most_files}
 use Rattle.first_laws.proofs.Passing.{IsTaken, put_own, commit_own, delete_own}
-
--- ---- the shares of a Put
-
--- the user owns none of these
-abbrev AreFree : UserId → Memory → List Fp → Type 0
-AreFree user m fps = (fp : Fp) → Contains fps fp → get m.owners (owner_of user.0 fp.0) ≡ None
-
-free_rest : (user : UserId) (m : Memory) (item : PutItem) (fps : List Fp) → (Contains fps item.fp → ⊥) → AreFree user m fps → AreFree user (with_item user m item) fps
-free_rest user m item fps other free fp c =
-    owner_in m.owners user.0 item.fp.0 0 user.0 fp.0
-    ∙ ap (λ (b : Bool). cond b (Some 0) (get m.owners (owner_of user.0 fp.0))) (off (user.0 == user.0) (bytes_eq item.fp.0 fp.0) apart)
-    ∙ free fp c
-  where
-    apart : bytes_eq item.fp.0 fp.0 ≡ false
-    apart = false_from_ne_true (bytes_eq item.fp.0 fp.0) (λ t. other (subst (Contains fps) (sym ((fp_same item.fp fp).0 t)) c))
-
-    off : (a b : Bool) → b ≡ false → (a && b) ≡ false
-    off true b e = e
-    off false b e = refl
-
-module _ (g : Ground) (user : UserId) where
-  abbrev HasRoomEach : List Place → Type 0
-  HasRoomEach places = (p : Place) → Contains places p → HasRoomIn g.region g.shares_len p
-
-  share_lies : (end : ℕ) (p : Place) → end ≤ p.at → HasRoomIn g.region g.shares_len p → Lies false (region_start g.region) end g.shares_len p
-  share_lies end p le room = record { behind = inr le; region = room.starts; in_one = room.in_one; within = room.within }
-
-  -- a share is placed exactly where it has no place
-  flagged : (before : List (List ℕ)) (s : List ℕ) (m : Memory) (o : Option Place) → ArePlaced before m.places
-      → PlacedNew (is_among (map fingerprint before) (fingerprint s)) s o → IsSome o ↔ (get m.places (fingerprint s).0 ≡ None)
-  flagged before s m o placed new = by_flag (is_among (map fingerprint before) (fingerprint s)) refl o new
-    where
-      by_flag : (b : Bool) → is_among (map fingerprint before) (fingerprint s) ≡ b → (o : Option Place) → PlacedNew b s o → IsSome o ↔ (get m.places (fingerprint s).0 ≡ None)
-      by_flag true on None new = (
-        λ some. absurd (let no : false ≡ true = some in cc),
-        λ none.
-            let w = was_found before (fingerprint s) on in
-            absurd (let no : None ≡ Some (length w.0) = sym (ap len_at none) ∙ placed (fingerprint s) ∙ ap string_len w.1 in cc),
-      )
-      by_flag true on (Some p) new = absurd new
-      by_flag false off None new = absurd new
-      by_flag false off (Some p) new = (λ some. free_place before m.places (fingerprint s) placed off, λ none. refl)
-
-  right_items : (before strings : List (List ℕ)) (items : List PutItem) (m : Memory) → AreItems (map fingerprint before) strings items → ArePlaced before m.places
-      → AreFree user m (map fingerprint strings) → Apart (map fingerprint strings) → AreBehind m.shares_end (places_of (places_given items))
-      → HasRoomEach (places_of (places_given items)) → AreRight g false user m items
-  right_items before [] [] m are placed free apart behind room = tt
-  right_items before [] (item ∷ items) m are placed free apart behind room = absurd are
-  right_items before (s ∷ ss) [] m are placed free apart behind room = absurd are
-  right_items before (s ∷ ss) (item ∷ items) m are placed free apart behind room =
-      by_place item.place refl (λ behind_rest room_rest.
-      right_items (before ++ s ∷ []) ss items (with_item user m item)
-      (subst (λ (l : List Fp). AreItems l ss items) (sym (map-append fingerprint before (s ∷ []))) are.2)
-      (subst (λ (x : Fp). ArePlaced (before ++ s ∷ []) (places_with m.places x item.place)) (sym are.0) (one_placed before s m.places item.place placed are.1))
-      (free_rest user m item (map fingerprint ss) other (λ fp c. free fp (contains_later (fingerprint s) (map fingerprint ss) fp c)))
-      apart.1 behind_rest room_rest)
-    where
-      not_own : IsSome (get m.owners (owner_of user.0 item.fp.0)) → ⊥
-      not_own some =
-          let none : get m.owners (owner_of user.0 item.fp.0) ≡ None =
-          ap (λ (f : Fp). get m.owners (owner_of user.0 f.0)) are.0 ∙ free (fingerprint s) (contains_here (fingerprint s) (map fingerprint ss)) in
-          let no : false ≡ true = sym (ap is_some none) ∙ some in cc
-
-      is_flagged : IsFlagged m item
-      is_flagged =
-          subst (λ (f : Fp). IsSome item.place ↔ (get m.places f.0 ≡ None)) (sym are.0) (flagged before s m item.place placed are.1)
-
-      other : Contains (map fingerprint ss) item.fp → ⊥
-      other c = apart.0 (subst (Contains (map fingerprint ss)) are.0 c)
-
-      by_place : (o : Option Place) → item.place ≡ o
-          → (AreBehind (with_item user m item).shares_end (places_of (places_given items)) → HasRoomEach (places_of (places_given items)) → AreRight g false user (with_item user m item) items)
-          → AreRight g false user m (item ∷ items)
-      by_place None is go_on =
-          let behind_rest : AreBehind m.shares_end (places_of (places_given items)) =
-          subst (λ (x : Option Place). AreBehind m.shares_end (places_of (places_given (record { fp = item.fp; place = x } ∷ items)))) is behind in
-          let room_rest : HasRoomEach (places_of (places_given items)) =
-          subst (λ (x : Option Place). HasRoomEach (places_of (places_given (record { fp = item.fp; place = x } ∷ items)))) is room in (
-            record { new = not_own; flagged = is_flagged; lies = subst (λ (x : Option Place). IfSome x (ShareLies g false m)) (sym is) tt },
-            go_on (subst (λ (x : Option Place). AreBehind (end_with m.shares_end x) (places_of (places_given items))) (sym is) behind_rest) room_rest,
-          )
-      by_place (Some p) is go_on =
-          let behind_here : (m.shares_end ≤ p.at) × AreBehind (end_of p) (places_of (places_given items)) =
-          subst (λ (x : Option Place). AreBehind m.shares_end (places_of (places_given (record { fp = item.fp; place = x } ∷ items)))) is behind in
-          let room_all : HasRoomEach (p ∷ places_of (places_given items)) =
-          subst (λ (x : Option Place). HasRoomEach (places_of (places_given (record { fp = item.fp; place = x } ∷ items)))) is room in
-          let ends : end_of p ≡ max m.shares_end (end_of p) = (let le = behind_here.0 in omega (arith, le)) in (
-            record {
-              new = not_own;
-              flagged = is_flagged;
-              lies =
-                  subst (λ (x : Option Place). IfSome x (ShareLies g false m)) (sym is)
-                  (share_lies m.shares_end p behind_here.0 (room_all p (contains_here p (places_of (places_given items)))));
-            },
-            go_on
-                (subst (λ (x : Option Place). AreBehind (end_with m.shares_end x) (places_of (places_given items))) (sym is)
-                (subst (λ (n : ℕ). AreBehind n (places_of (places_given items))) ends behind_here.1))
-                (λ q c. room_all q (contains_later p (places_of (places_given items)) q c)),
-          )
 
 -- ---- a record
 

@@ -26,7 +26,7 @@ use Rattle.cloud_areas.proofs.Lists.{contained, in_map}
 use Rattle.cloud_memory.specs.Memory.{Memory, Stand}
 use Rattle.record_laws.specs.Leaving.{record_left}
 use Rattle.record_laws.proofs.Chain.{long_before}
-use Rattle.first_laws.specs.InOrder.{MayHoldOne, front_left_one}
+use Rattle.first_laws.specs.Holding.{MayHoldOne, front_left_one}
 use Rattle.first_laws.specs.Leaving.{begun_behind, first_left, first_left_by, IsLeftOne}
 use Rattle.first_laws.proofs.Known.{front_few}
 use Rattle.first_laws.proofs.Later.{later_left}

@@ -35,7 +35,7 @@ use Rattle.cloud_areas.proofs.Lists.{from_map}
 use Rattle.cloud_memory.specs.Memory.{Memory, commit_of}
 use Rattle.compact_memories.specs.Moved.{PlacesApart, entry_place, PlacesLie}
 use Rattle.record_laws.proofs.Chain.{checkpoint_within}
-use Rattle.first_laws.specs.InOrder.{MayHoldOne}
+use Rattle.first_laws.specs.Holding.{MayHoldOne}
 use Rattle.first_laws.specs.Leaving.{IsLeftOne}
 use Rattle.first_laws.proofs.Chained.{says_one}
 use Rattle.first_laws.proofs.Laid.{AllFit, each_laid, two_laid}
@@ -188,8 +188,8 @@ module _ (header : Header) (image : Image) (list : List Command) (c : Chain) (ma
         → Contains c.records (bodies.Commit (commit_of (record { 0 = key.user }) (record { 0 = key.tag }) (record { 0 = key.version }) e))
     entry_there key e got = one.left.placed.recipes (record { 0 = key.user }) (record { 0 = key.tag }) (record { 0 = key.version }) e got
 
-    pub places_lie : DontOverlap (recipes_in (take (records_of c.start.checkpoint) c.records)) → PlacesLie 0 8589934592 1073741824 m
-    places_lie apart = record {
+    pub places_lie : PlacesLie 0 8589934592 1073741824 m
+    places_lie = record {
       shares = λ fp p got.
           let to = share_to fp p ((one.left.placed.shares fp p).0 got) in
           let end = to.1 in
@@ -207,7 +207,7 @@ module _ (header : Header) (image : Image) (list : List Command) (c : Chain) (ma
           two_commits c.records (commit_of (record { 0 = a.user }) (record { 0 = a.tag }) (record { 0 = a.version }) d)
           (commit_of (record { 0 = b.user }) (record { 0 = b.tag }) (record { 0 = b.version }) e)
           (each_apart (recipes_in c.records) (all_apart header.shape (records_of c.start.checkpoint) (commands_of c.start.checkpoint) c.records list c.recipes
-          (says_one header image list c may lays) apart))
+          (says_one header image list c may lays) lays.apart))
           (entry_there a d got_d) (entry_there b e got_e)
           (λ same. other (λ i. record { user = (same i).user.0; tag = (same i).tag.0; version = (same i).version.0 }));
     }

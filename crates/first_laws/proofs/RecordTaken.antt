@@ -39,7 +39,7 @@ use Rattle.record_laws.proofs.Front.{from_end}
 use Rattle.record_laws.proofs.Places.{shares_end_all}
 use Rattle.record_laws.proofs.Sized.{string_some, inside_area, HasRoomIn, HaveRoomFor}
 use Rattle.first_records.specs.Judging.{Leaves, Fits, JudgesFirst, Taken}
-use Rattle.first_laws.specs.InOrder.{MayHoldOne, front_left_one}
+use Rattle.first_laws.specs.Holding.{MayHoldOne, front_left_one}
 use Rattle.first_laws.specs.Lawful.{ground_one, IsNextOne}
 use Rattle.first_laws.specs.Leaving.{begun_behind, first_left, IsLeftOne}
 use Rattle.first_laws.proofs.Alike.{further_max}
@@ -121,7 +121,7 @@ module _ (header : Header) (image : Image) (users : ℕ) (list : List Command) (
   may = next.may
 
   abbrev lays : Lays header image list c
-  lays = next.lays.lays
+  lays = next.lays
 
   abbrev shape : Shape
   shape = header.shape

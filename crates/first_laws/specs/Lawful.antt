@@ -6,12 +6,13 @@ use Rattle.cd_edges.specs.Disk.{Image}
 use Rattle.journal_start.specs.declared.start.Header.{Header}
 use Rattle.record_bodies.specs.Spelling.{Body, body_bytes}
 use Rattle.user_dedup.specs.declared.command.Command.{Command}
+use Rattle.cloud_areas.specs.FormatOne.{Lays}
 use Rattle.cloud_areas.specs.Standing.{Chain}
 use Rattle.record_checks.specs.Checks.{AsksFor}
 use Rattle.record_checks.specs.declared.ground.Ground.{Ground}
 use Rattle.record_laws.specs.Fronts.{is_inside}
 use Rattle.first_records.specs.Judging.{JudgesFirst}
-use Rattle.first_laws.specs.InOrder.{MayHoldOne, LaysInOrder, front_left_one}
+use Rattle.first_laws.specs.Holding.{MayHoldOne, front_left_one}
 
 -- what is known of a store of format 1 before its records, where the areas have these bytes
 abbrev pub ground_one : Header → Image → Ground
@@ -26,7 +27,7 @@ ground_one header image = record {
 -- The chain lays a list that a store of format 1 may hold, and this is its record behind these.
 pub record IsNextOne (header : Header) (image : Image) (list : List Command) (c : Chain) (before : List Body) (body : Body) : Type 0 where
   pub may : MayHoldOne header list
-  pub lays : LaysInOrder header image list c
+  pub lays : Lays header image list c
   pub after : List Body
   pub whole : c.records ≡ before ++ body ∷ after
 

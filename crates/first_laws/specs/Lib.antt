@@ -1,4 +1,4 @@
-pub mod InOrder
+pub mod Holding
 pub mod Lawful
 pub mod Leaving
 pub mod Standing

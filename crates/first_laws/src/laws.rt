@@ -18,7 +18,7 @@ ghost use Rattle.cloud_areas.specs.Placing.{shares_in};
 ghost use Rattle.cloud_areas.specs.Standing.{Chain};
 ghost use Rattle.cloud_memory.specs.Memory.{Memory, Stand};
 ghost use Rattle.compact_memories.specs.Moved.{PlacesLie};
-ghost use Rattle.first_laws.specs.InOrder.{MayHoldOne, LaysInOrder, front_left_one};
+ghost use Rattle.first_laws.specs.Holding.{MayHoldOne, front_left_one};
 ghost use Rattle.first_laws.specs.Leaving.{begun_behind, first_left, first_left_by, IsLeftOne};
 
 /// The records of a checkpoint of format 1, read into an empty memory, leave that of each list that they say.
@@ -56,7 +56,7 @@ pub fn law_of_first_chains()
 /// rooms.
 pub fn law_of_first_places()
     ensures lie { (header : Header) (image : Image) (list : List Command) (c : Chain) (m : Memory)
-        → MayHoldOne header list → LaysInOrder header image list c
+        → MayHoldOne header list → Lays header image list c
         → IsLeftOne header.shape (image Recipes) (recipes_end_of c.start.checkpoint) list c.records m
         → PlacesLie 0 greatest_rooms.shares greatest_rooms.recipes m }
     ensures ends { (header : Header) (image : Image) (list : List Command) (c : Chain) (m : Memory)

@@ -10,7 +10,7 @@ ghost use Rattle.user_dedup.specs.declared.command.Command.{Command};
 ghost use Rattle.cloud_areas.specs.Standing.{Chain};
 ghost use Rattle.first_laws.specs.Lawful.{IsNextOne, WantsOne, PassesOne};
 
-/// Each record of a chain of format 1 that lays a list in order is taken, in the checkpoint and behind it: it is neither
+/// Each record of a chain of format 1 that lays a list is taken, in the checkpoint and behind it: it is neither
 /// damaged nor does it pass a room.
 pub fn law_of_lawful_first_records()
     // with what lies in Recipes where its checks ask

@@ -48,6 +48,8 @@ module _ (c next : Chain) (c0 : Cloud) (disk : (area : Area) → c0.now area ≡
     list_is = l.list_is;
     first = l.first;
     recipes_laid = l.recipes_laid;
+    apart = l.apart;
+    behind = l.behind;
     recipes = subst (λ (bytes : List ℕ). All (IsAt bytes) d.recipes) recipes_are l.recipes;
     end_is = l.end_is;
     area = subst (λ (bytes : List ℕ). Rattle.cloud_areas.specs.FormatOne.laid_end l.before ≤ length bytes) recipes_are l.area;

@@ -87,7 +87,7 @@ module _ (shape : Shape) (rooms : Rooms) (list : List Command) (m : Memory) (r :
 -- ---- the shares of a Put
 
 -- the user owns none of these
-abbrev AreFree : UserId → Memory → List Fp → Type 0
+abbrev pub AreFree : UserId → Memory → List Fp → Type 0
 AreFree user m fps = (fp : Fp) → Contains fps fp → get m.owners (owner_of user.0 fp.0) ≡ None
 
 free_rest : (user : UserId) (m : Memory) (item : PutItem) (fps : List Fp) → (Contains fps item.fp → ⊥) → AreFree user m fps → AreFree user (with_item user m item) fps
@@ -104,7 +104,7 @@ free_rest user m item fps other free fp c =
     off false b e = refl
 
 module _ (g : Ground) (user : UserId) where
-  abbrev HasRoomEach : List Place → Type 0
+  abbrev pub HasRoomEach : List Place → Type 0
   HasRoomEach places = (p : Place) → Contains places p → HasRoomIn g.region g.shares_len p
 
   share_lies : (end : ℕ) (p : Place) → end ≤ p.at → HasRoomIn g.region g.shares_len p → Lies false (region_start g.region) end g.shares_len p
@@ -126,7 +126,7 @@ module _ (g : Ground) (user : UserId) where
       by_flag false off None new = absurd new
       by_flag false off (Some p) new = (λ some. free_place before m.places (fingerprint s) placed off, λ none. refl)
 
-  right_items : (before strings : List (List ℕ)) (items : List PutItem) (m : Memory) → AreItems (map fingerprint before) strings items → ArePlaced before m.places
+  pub right_items : (before strings : List (List ℕ)) (items : List PutItem) (m : Memory) → AreItems (map fingerprint before) strings items → ArePlaced before m.places
       → AreFree user m (map fingerprint strings) → Apart (map fingerprint strings) → AreBehind m.shares_end (places_of (places_given items))
       → HasRoomEach (places_of (places_given items)) → AreRight g false user m items
   right_items before [] [] m are placed free apart behind room = tt
