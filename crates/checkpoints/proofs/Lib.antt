@@ -3,6 +3,7 @@ pub mod Apartness
 pub mod Batching
 pub mod Chaining
 pub mod DiskProofs
+pub mod MarkedOwners
 pub mod MemoryProofs
 pub mod Counted
 pub mod EntryLaw
@@ -21,5 +22,6 @@ pub mod Shares
 pub mod Sought
 pub mod SpentLaw
 pub mod Summed
+pub mod Tallied
 pub mod Unmarked
 pub mod Unowned

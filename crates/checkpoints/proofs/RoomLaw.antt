@@ -51,7 +51,7 @@ use Rattle.checkpoints.proofs.Sought.{from_picked, in_picked}
 
 -- ---- how long records are
 
-together : (xs ys : List Body) → records_len (xs ++ ys) ≡ records_len xs + records_len ys
+pub together : (xs ys : List Body) → records_len (xs ++ ys) ≡ records_len xs + records_len ys
 together [] ys = omega arith
 together (x ∷ xs) ys = omega (arith, together xs ys)
 
@@ -61,7 +61,7 @@ all_left xs ys all = contained FitsBody xs (λ x c. All-contains FitsBody (xs ++
 all_right : (xs ys : List Body) → All FitsBody (xs ++ ys) → All FitsBody ys
 all_right xs ys all = contained FitsBody ys (λ x c. All-contains FitsBody (xs ++ ys) x all (Contains-append_right xs ys x c))
 
-puts_len : (puts : List PutRecord) → All FitsBody (map put_body puts)
+pub puts_len : (puts : List PutRecord) → All FitsBody (map put_body puts)
     → records_len (map put_body puts) ≤ 45 * length (items_in puts) + 12 * count_by has_place (items_in puts)
 puts_len [] fit = omega arith
 puts_len (p ∷ ps) fit =
@@ -75,10 +75,10 @@ puts_len (p ∷ ps) fit =
       sum_by-append (λ (i : PutItem). cond (has_place i) 1 0) p.items (items_in ps),
     )
 
-abbrev all_kept : List (List KeptItem) → List KeptItem
+abbrev pub all_kept : List (List KeptItem) → List KeptItem
 all_kept ks = flat_map (λ (k : List KeptItem). k) ks
 
-kept_len : (ks : List (List KeptItem)) → All FitsBody (map bodies.Kept ks) → records_len (map bodies.Kept ks) ≤ 52 * length (all_kept ks)
+pub kept_len : (ks : List (List KeptItem)) → All FitsBody (map bodies.Kept ks) → records_len (map bodies.Kept ks) ≤ 52 * length (all_kept ks)
 kept_len [] fit = omega arith
 kept_len (k ∷ ks) fit =
     let fits = All-head FitsBody (bodies.Kept k) (map bodies.Kept ks) fit in
@@ -90,7 +90,7 @@ kept_len (k ∷ ks) fit =
       length-append k (all_kept ks),
     )
 
-commits_len : (cs : List CommitBody) → All FitsBody (map bodies.Commit cs) → records_len (map bodies.Commit cs) ≡ 94 * length cs
+pub commits_len : (cs : List CommitBody) → All FitsBody (map bodies.Commit cs) → records_len (map bodies.Commit cs) ≡ 94 * length cs
 commits_len [] fit = refl
 commits_len (c ∷ cs) fit =
     omega (
@@ -99,14 +99,14 @@ commits_len (c ∷ cs) fit =
       commits_len cs (All-tail FitsBody (bodies.Commit c) (map bodies.Commit cs) fit),
     )
 
-spents_len : (ss : List SpentBody) → records_len (map bodies.Spent ss) ≡ 30 * length ss
+pub spents_len : (ss : List SpentBody) → records_len (map bodies.Spent ss) ≡ 30 * length ss
 spents_len [] = refl
 spents_len (s ∷ ss) = omega (arith, spents_len ss)
 
 -- ---- how many there are of each
 
 module _ {S X : Type 0} (f : S → Option X) where
-  picked_few : (slots : List S) → length (picked f slots) ≤ length slots
+  pub picked_few : (slots : List S) → length (picked f slots) ≤ length slots
   picked_few [] = omega arith
   picked_few (s ∷ slots) = by_first (f s) (picked_few slots)
     where
@@ -114,7 +114,7 @@ module _ {S X : Type 0} (f : S → Option X) where
       by_first None few = omega (arith, few)
       by_first (Some x) few = omega (arith, few)
 
-spents_few : (user : ℕ) (rows : List Row) → length (spents_of user rows) ≤ length rows
+pub spents_few : (user : ℕ) (rows : List Row) → length (spents_of user rows) ≤ length rows
 spents_few user [] = omega arith
 spents_few user (row ∷ rows) = by_first (spent_at user row) (spents_few (user + 1) rows)
   where
@@ -162,7 +162,7 @@ owned_few [] left u = omega (arith, no_slots left u)
 owned_few (None ∷ slots) left u = omega (arith, empty_slot slots left u, owned_few slots left u)
 owned_few (Some e ∷ slots) left u = omega (arith, one_more e slots left u, owned_few slots left u)
 
-items_len : (places : FinMap fp_cmp Place) (before fps : List Fp) → length (items_of places before fps) ≡ length fps
+pub items_len : (places : FinMap fp_cmp Place) (before fps : List Fp) → length (items_of places before fps) ≡ length fps
 items_len places before [] = refl
 items_len places before (fp ∷ fps) = omega (arith, items_len places (before ++ fp ∷ []) fps)
 

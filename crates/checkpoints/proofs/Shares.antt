@@ -94,7 +94,7 @@ pub puts_begin : (shares : Shares) (marks : List Bool) (p : Position) (items : L
 puts_begin shares marks p items ready room = record { ready = ready; same = refl; others = record { place = refl; file = refl; row = refl }; room = room }
 
 -- those of the user, and then of the others
-puts_some : (shares : Shares) (left user at : ℕ) → 0 < left
+pub puts_some : (shares : Shares) (left user at : ℕ) → 0 < left
     → puts_from shares left user at ≡ map (put_of user) (batches (items_from shares user at)) ++ puts_from shares (left - 1) (user + 1) 0
 puts_some shares zero user at l = absurd (omega arith)
 puts_some shares (suc left) user at l = ap (λ n. map (put_of user) (batches (items_from shares user at)) ++ puts_from shares n (user + 1) 0) (omega arith)

@@ -9,3 +9,4 @@ pub mod Ready
 pub mod Records
 pub mod Settling
 pub mod Steps
+pub mod Tallies

@@ -1,5 +1,5 @@
 -- What holds while the records of a memory are written.
-use Rattle.std.specs.Prelude.{◌≡◌, ℕ, ◌+◌, ◌≤◌, Bool, false, List, length, slice_index_or, Some}
+use Rattle.std.specs.Prelude.{◌≡◌, ℕ, ◌+◌, ◌≤◌, Bool, true, false, List, length, slice_index_or, Some, None}
 use Rattle.cd_base.specs.declared.ids.Fp.{Fp}
 use Rattle.file_index.specs.Files.{Files}
 use Rattle.pool_map.specs.Slots.{slot_of, IsListed}
@@ -9,7 +9,7 @@ use Rattle.spent_table.specs.declared.Spent.{Spent as Row}
 use Rattle.user_dedup.specs.Owning.{is_among}
 use Rattle.cloud_memory.specs.Fitting.{AreShares, AreRecipes}
 use Rattle.checkpoints.specs.Chained.{HasChains}
-use Rattle.checkpoints.specs.Records.{listed}
+use Rattle.checkpoints.specs.Records.{listed, kept_at}
 use Rattle.checkpoints.specs.declared.chains.OwnerChains.{OwnerChains}
 use Rattle.checkpoints.specs.declared.position.Position.{Position}
 
@@ -17,6 +17,10 @@ use Rattle.checkpoints.specs.declared.position.Position.{Position}
 pub record AreMarked (shares : Shares) (marks : List Bool) (fps : List Fp) : Type 0 where
   pub long : length shares.place_slots ≤ length marks
   pub marked : (s : ℕ) (fp : List ℕ) (place : Place) → slot_of shares.place_slots s ≡ Some (fp, place) → slice_index_or marks s false ≡ is_among fps (record { 0 = fp })
+
+-- What is marked has an owner.
+abbrev pub AreOwned : Shares → List Bool → Type 0
+AreOwned shares marks = (slot : ℕ) → slice_index_or marks slot false ≡ true → kept_at shares.owners (slot_of shares.place_slots slot) ≡ None
 
 -- The Puts may go on at these: the slots of what is listed are marked.
 pub record IsAtPuts (shares : Shares) (marks : List Bool) (left user at : ℕ) : Type 0 where

@@ -37,7 +37,7 @@ fn commit_at(files: &FileIndex, slot: u32) -> Option<CommitBody>
 }
 
 // The Commit of the next entry from a slot on, and the slot behind it.
-fn next_commit(files: &FileIndex, from: u32) -> Option<(CommitBody, u32)>
+pub(crate) fn next_commit(files: &FileIndex, from: u32) -> Option<(CommitBody, u32)>
     requires { AreRecipes files.now.files }
     ensures next { IsNextPicked commit_at files.now.slots from result }
     ensures fits { IfSome result (λ found. FitsCommit found.0) }
@@ -93,7 +93,7 @@ fn spent_at(table: &SpentTable, user: u32) -> Option<SpentBody>
 }
 
 // What the next user from this one on has spent, of those that have spent anything, and the user behind it.
-fn next_spent(table: &SpentTable, from: u32) -> Option<(SpentBody, u32)>
+pub(crate) fn next_spent(table: &SpentTable, from: u32) -> Option<(SpentBody, u32)>
     requires { length table.now ≤ 256 }
     ensures next { IsNextSpent table.now from result }
     ensures fits { IfSome result (λ found. FitsSpent found.0) }

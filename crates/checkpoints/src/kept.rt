@@ -7,18 +7,24 @@ ghost use Rattle.checkpoints.specs.Laying.{IsNext};
 ghost use Rattle.checkpoints.specs.Picking.{IsNextPicked, batches};
 ghost use Rattle.checkpoints.specs.Records.{kept_at, kept_from};
 ghost use Rattle.cloud_memory.specs.Fitting.{AreShares};
+ghost use Rattle.checkpoints.specs.Ready.{AreOwned};
 ghost use Rattle.checkpoints.specs.Steps.{AreKept};
 
+use crate::Marks;
 use cd_base::{Fp, Place};
 use record_bodies::{BodyBuf, KeptItem};
 use share_index::ShareIndex;
 
-// The share in a slot, where there is one that no user owns.
-fn kept_at(shares: &ShareIndex, slot: u32) -> Option<KeptItem>
-    requires { AreShares shares.now.places }
+// The share in a slot, where there is one that no user owns. What is marked has an owner, and isn't looked up.
+fn kept_at(shares: &ShareIndex, marks: &Marks, slot: u32) -> Option<KeptItem>
+    requires fit { AreShares shares.now.places }
+    requires owned { AreOwned shares.now marks.now }
     ensures kept { result ≡ kept_at shares.now.owners (slot_of shares.now.place_slots slot) }
     ensures fits { IfSome result FitsKept }
 {
+    if marks.has(slot) {
+        return None;
+    }
     match shares.place_at(slot) {
         Some((fp, place)) => {
             if shares.is_owned(&fp) {
@@ -32,13 +38,14 @@ fn kept_at(shares: &ShareIndex, slot: u32) -> Option<KeptItem>
 }
 
 // The next share that no user owns from a slot on, and the slot behind it.
-fn next_kept(shares: &ShareIndex, from: u32) -> Option<(KeptItem, u32)>
-    requires { AreShares shares.now.places }
+pub(crate) fn next_kept(shares: &ShareIndex, marks: &Marks, from: u32) -> Option<(KeptItem, u32)>
+    requires fit { AreShares shares.now.places }
+    requires owned { AreOwned shares.now marks.now }
     ensures next { IsNextPicked (kept_at shares.now.owners) shares.now.place_slots from result }
     ensures fits { IfSome result (λ found. FitsKept found.0) }
 {
     for slot in from..shares.place_slots() {
-        match kept_at(shares, slot) {
+        match kept_at(shares, marks, slot) {
             Some(item) => return Some((item, slot + 1)),
             None => {}
         }
@@ -47,15 +54,16 @@ fn next_kept(shares: &ShareIndex, from: u32) -> Option<(KeptItem, u32)>
 }
 
 // Takes up to 256 shares that no user owns from a slot on: how many they are, and the slot behind them.
-fn take_batch(shares: &ShareIndex, from: u32, items: &mut [KeptItem]) -> (usize, u32)
+fn take_batch(shares: &ShareIndex, marks: &Marks, from: u32, items: &mut [KeptItem]) -> (usize, u32)
     requires fit { AreShares shares.now.places }
+    requires owned { AreOwned shares.now marks.now }
     requires room { length items.old ≡ 256 }
     ensures batch { AreKept shares.now from (take result.0 items.new) result.1 }
     ensures few { result.0 ≤ 256 }
 {
     let mut at = from;
     for count in 0..256usize {
-        match next_kept(shares, at) {
+        match next_kept(shares, marks, at) {
             Some((item, behind)) => {
                 items[count] = item;
                 at = behind;
@@ -87,17 +95,26 @@ fn write_items(buffer: &mut BodyBuf, items: &[KeptItem])
 }
 
 // Writes the next Kept from a slot on, if there is one, and answers the slot behind its shares.
-pub(crate) fn write_kept(shares: &ShareIndex, from: u32, buffer: &mut BodyBuf) -> Option<u32>
-    requires { AreShares shares.now.places }
+pub(crate) fn write_kept(
+    shares: &ShareIndex,
+    marks: &Marks,
+    from: u32,
+    buffer: &mut BodyBuf,
+) -> Option<u32>
+    requires fit { AreShares shares.now.places }
+    requires owned { AreOwned shares.now marks.now }
     ensures { MatchOption result (kept_from shares.now from ≡ [])
         (λ behind. IsNext (map Kept (batches (kept_from shares.now from)))
         (map Kept (batches (kept_from shares.now behind))) buffer.new) }
 {
+    if from >= shares.place_slots() {
+        return None;
+    }
     let mut items = [KeptItem {
         fp: Fp([0; 32]),
         place: Place { at: 0, len: 0 },
     }; 256];
-    let (count, behind) = take_batch(shares, from, &mut items);
+    let (count, behind) = take_batch(shares, marks, from, &mut items);
     if count > 0 {
         let (batch, _) = items.split_at(count);
         write_items(buffer, batch);

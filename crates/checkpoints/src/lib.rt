@@ -13,6 +13,7 @@ mod position;
 mod puts;
 mod record_list;
 mod records;
+mod tally;
 mod whole;
 
 pub use chains::OwnerChains;

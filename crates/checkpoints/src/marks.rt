@@ -67,6 +67,18 @@ impl Marks {
         self.wipe_all();
     }
 
+    // Whether a slot is marked. One past the last isn't.
+    pub(crate) fn has(&self, slot: u32) -> bool
+        ensures { result ≡ slice_index_or self.now slot false }
+    {
+        let place = slot as usize;
+        if place < self.marks.len() {
+            self.marks[place]
+        } else {
+            false
+        }
+    }
+
     /// Marks a slot, and answers whether it was marked. A slot past the last isn't, and stays so.
     pub fn mark(&mut self, slot: u32) -> bool
         ensures was { result ≡ slice_index_or self.old slot false }

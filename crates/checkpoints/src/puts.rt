@@ -1,6 +1,7 @@
 //! What each user owns, user by user.
 
-ghost use Rattle.std.specs.Prelude.{◌≡◌, ◌+◌, ◌++◌, ◌<◌, ◌≤◌, [], ◌∷◌, List, length, map, take};
+ghost use Rattle.std.specs.Prelude.{◌≡◌, ◌+◌, ◌++◌, ◌<◌, ◌≤◌, [], ◌∷◌, List, length, map, take, option_map};
+ghost use Rattle.std.specs.FinMap.{get};
 ghost use Rattle.cd_base.specs.declared.ids.Fp.{Fp};
 ghost use Rattle.pool_map.specs.Slots.{slot_of, IsListed};
 ghost use Rattle.message_fields.specs.Fingerprints.{IsBatch};
@@ -15,7 +16,7 @@ ghost use Rattle.checkpoints.specs.Ready.{AreMarked, IsAtPuts};
 ghost use Rattle.checkpoints.specs.Steps.{AreListed, KeepsOthers, Steps};
 
 use crate::{Marks, OwnerChains, Position};
-use cd_base::{Fp, UserId};
+use cd_base::{Fp, Place, UserId};
 use record_bodies::BodyBuf;
 use record_body::PutItem;
 use share_index::ShareIndex;
@@ -49,7 +50,12 @@ fn start_of(shares: &ShareIndex, chains: &OwnerChains, user: u32, from: u32) -> 
 }
 
 // The user's next fingerprint from a slot on, and the slot behind it. It is one step along the user's chain.
-fn next_owned(shares: &ShareIndex, chains: &OwnerChains, user: u32, from: u32) -> Option<(Fp, u32)>
+pub(crate) fn next_owned(
+    shares: &ShareIndex,
+    chains: &OwnerChains,
+    user: u32,
+    from: u32,
+) -> Option<(Fp, u32)>
     requires chained { HasChains shares.now.owner_slots chains.now }
     ensures { IsNextPicked (owned_at user) shares.now.owner_slots from result }
 {
@@ -63,6 +69,18 @@ fn next_owned(shares: &ShareIndex, chains: &OwnerChains, user: u32, from: u32) -
     None
 }
 
+// The place of a fingerprint that stands in this slot, if it has one. It isn't looked up again.
+fn place_in(shares: &ShareIndex, fp: &Fp, slot: u32) -> Option<Place>
+    requires { slot_of shares.now.place_slots slot
+        ≡ option_map (λ place. (fp.now.0, place)) (get shares.now.places fp.now.0) }
+    ensures { result ≡ get shares.now.places fp.now.0 }
+{
+    match shares.place_at(slot) {
+        Some((_, place)) => Some(place),
+        None => None,
+    }
+}
+
 // The share as it is listed next: with its place, where its slot wasn't marked. It is marked then.
 fn list_share(shares: &ShareIndex, marks: &mut Marks, fp: Fp) -> PutItem
     requires stand { IsListed shares.now.places shares.now.place_slots }
@@ -72,16 +90,18 @@ fn list_share(shares: &ShareIndex, marks: &mut Marks, fp: Fp) -> PutItem
         → AreMarked shares.now marks.new (fps ++ fp ∷ []) }
     ensures fits { FitsItem result }
 {
-    let place = shares.place_of(&fp);
     match shares.place_slot(&fp) {
         Some(slot) => {
             if marks.mark(slot) {
                 PutItem { fp, place: None }
             } else {
-                PutItem { fp, place }
+                PutItem {
+                    fp,
+                    place: place_in(shares, &fp, slot),
+                }
             }
         }
-        None => PutItem { fp, place },
+        None => PutItem { fp, place: None },
     }
 }
 
@@ -151,6 +171,9 @@ pub(crate) fn write_put(
         (map put_body (puts_from shares.now at.new.left at.new.user at.new.owner)) buffer.new result }
     ensures others { KeepsOthers at.old at.new }
 {
+    if at.left == 0 {
+        return false;
+    }
     let mut items = [PutItem {
         fp: Fp([0; 32]),
         place: None,

@@ -38,7 +38,8 @@ fn write_record(
     if write_put(shares, chains, marks, at, buffer) {
         return true;
     }
-    match write_kept(shares, at.place, buffer) {
+    let _ = shares.owner_at(0);
+    match write_kept(shares, marks, at.place, buffer) {
         Some(behind) => {
             at.place = behind;
             return true;

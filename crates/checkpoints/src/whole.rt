@@ -19,6 +19,7 @@ ghost use Rattle.checkpoints.specs.Known.{IsKnown, HasCheckpoint, CountsWithin, 
 ghost use Rattle.checkpoints.specs.Known.{IfFailed, UnlessFailed, IfLong, UnlessLong};
 ghost use Rattle.record_bodies.specs.Spelling.{Body, FitsBody, body_bytes};
 
+use crate::tally::count_surely;
 use crate::{Marks, MemoryRecords, OwnerChains, checkpoint};
 use cd_base::CloudNo;
 use cd_edges::Shelf;
@@ -38,7 +39,7 @@ pub enum Unsettled {
 }
 
 // How many records are still to come, where they fit so many bytes behind a start's 63. It writes each into the buffer.
-fn count_within(records: &mut MemoryRecords<'_>, limit: u64, buffer: &mut BodyBuf) -> Option<u32>
+fn count_written(records: &mut MemoryRecords<'_>, limit: u64, buffer: &mut BodyBuf) -> Option<u32>
     requires ready { IsReady records.old.shares.now records.old.files.now records.old.spent.now
         records.old.chains.now records.old.marks.now records.old.at }
     requires few { limit < 4294967296 }
@@ -54,6 +55,32 @@ fn count_within(records: &mut MemoryRecords<'_>, limit: u64, buffer: &mut BodyBu
         count = count.saturating_add(1);
     }
     if len <= limit { Some(count) } else { None }
+}
+
+// How many records are still to come, where they fit so many bytes behind a start's 63. Only where it isn't sure without
+// they are written into the buffer.
+fn count_within(records: &mut MemoryRecords<'_>, limit: u64, buffer: &mut BodyBuf) -> Option<u32>
+    requires ready { IsReady records.old.shares.now records.old.files.now records.old.spent.now
+        records.old.chains.now records.old.marks.now records.old.at }
+    requires few { limit < 4294967296 }
+    ensures count { CountsWithin (coming records.old.shares.now records.old.files.now records.old.spent.now
+        records.old.at) limit result }
+    ensures fit { All FitsBody (coming records.old.shares.now records.old.files.now records.old.spent.now
+        records.old.at) }
+{
+    let sure = count_surely(
+        records.shares,
+        records.files,
+        records.spent,
+        records.chains,
+        records.marks,
+        &records.at,
+        limit,
+    );
+    match sure {
+        Some(count) => Some(count),
+        None => count_written(records, limit, buffer),
+    }
 }
 
 /// Puts a checkpoint of a memory, which stands for so many commands and whose blobs lie in this region, in the place of the

@@ -2,7 +2,7 @@ use Rattle.std.proofs.Common.{length}
 use Rattle.checkpoints.specs.Records.{coming}
 use Rattle.checkpoints.specs.Ready.{IsReady}
 use Rattle.checkpoints.proofs.Counted.{Counted}
-use Rattle.checkpoints.proofs.whole.count_within.Given as goal
+use Rattle.checkpoints.proofs.whole.count_written.Given as goal
 
 abbrev pub invariant-each : goal.invariant-each
 invariant-each l = record {

@@ -1,7 +1,7 @@
 use Rattle.std.proofs.Common.{ℕ, ◌+◌, min, sym, ap, ◌∙◌, subst}
 use Rattle.checkpoints.specs.Records.{coming}
 use Rattle.checkpoints.proofs.Counted.{Counted, none_counted, one_counted}
-use Rattle.checkpoints.proofs.whole.count_within.Goals as goal
+use Rattle.checkpoints.proofs.whole.count_written.Goals as goal
 
 pub each-init : goal.each-init
 each-init c =
