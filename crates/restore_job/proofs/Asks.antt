@@ -18,13 +18,13 @@ use Rattle.user_dedup.specs.declared.command.Command.{Command}
 use Rattle.user_dedup.specs.Exec.{Peer, MaySettleAs}
 use Rattle.user_dedup.specs.Link.{LinkTelling}
 use Rattle.user_dedup.proofs.Owned.{contains_here, contains_later, contains_cases, contains_nothing}
-use Rattle.restore_job.specs.Asking.{Reads, MayRead, ReadFails, OnlyRead, Leads, Asked, AreRead, StoppedAt}
+use Rattle.restore_job.specs.Asking.{Reads, MayRead, ReadFails, OnlyRead, Leads, LeadsAny, Asked, AreRead, StoppedAt, among}
 use Rattle.restore_job.specs.Restored
 use Rattle.restore_job.specs.Restored.{Unrestored, recipe_in, missing}
-use Rattle.restore_job.specs.Steps.{RecipeTold, RecipesTold, RecipeCaused, RecipesCaused, ReadyWhere, recipes_in}
+use Rattle.restore_job.specs.Steps.{RecipeTold, RecipesTold, RecipeShown, RecipesShown, ReadyWhere, recipes_in}
 use Rattle.restore_job.specs.declared.error.RestoreErr.{RestoreErr}
 use Rattle.restore_job.specs.declared.error.RestoreErr.TheVariants as errors
-use Rattle.restore_job.proofs.Leading.{settled_same, reads_on, fails_on, counts_on, settle_along, no_pending, leads_on, leads_to, leads_none, only_on, asked_on, asked_none, asked_at}
+use Rattle.restore_job.proofs.Leading.{settled_same, reads_on, fails_on, counts_on, settle_along, no_pending, leads_on, leads_to, leads_none, told_among, only_on, asked_on, asked_none, asked_at}
 use Rattle.restore_job.proofs.Causing.{caused_on, ready_on, ready_push}
 
 pub may_reads : (a b c : Peer) → MayRead a b → Reads b c → Reads a c
@@ -71,7 +71,7 @@ pub record Fetched {L : Type 0} (t : LinkTelling L) (shape : Shape) (old now : L
   pub count : length recipes ≡ length done
   pub fits : All (Fits shape) recipes
   pub told : (user : UserId) (tag : Tag) (version : Version) → IsRequest content (requests.GetRecipe user tag version)
-      → Leads t done old now (λ a b. ReadyWhere t old shape user (tag, version) done recipes b) (λ a b. AreRead done a b × (recipes_in shape user (tag, version) b done ≡ map Some recipes))
+      → LeadsAny t done old now (λ these a b. ReadyWhere (among these t) old shape user (tag, version) done recipes b) (λ a b. AreRead done a b × (recipes_in shape user (tag, version) b done ≡ map Some recipes))
   pub asked : Asked t clouds old now false
 
 pub fetched_none : {L : Type 0} (t : LinkTelling L) (shape : Shape) (link : L) (content clouds : List ℕ) → Fetched t shape link link content clouds clouds []
@@ -80,7 +80,7 @@ fetched_none t shape link content clouds = record {
   split = refl;
   count = refl;
   fits = All-nil (Fits shape);
-  told = λ user tag version is. leads_none t [] link (λ a b. Unit {0}) (λ a b. AreRead [] a b × (recipes_in shape user (tag, version) b [] ≡ [])) (λ a. tt) (λ a. (λ x has. absurd (contains_nothing x has), refl));
+  told = λ user tag version is these. leads_none (among these t) [] link (λ a b. Unit {0}) (λ a b. AreRead [] a b × (recipes_in shape user (tag, version) b [] ≡ [])) (λ a. tt) (λ a. (λ x has. absurd (contains_nothing x has), refl));
   asked = asked_none t clouds link;
 }
 
@@ -97,25 +97,27 @@ right_here done rest cloud x has =
 pub fetched_more : {L : Type 0} (t : LinkTelling L) (shape : Shape) (old mid new : L) (content clouds : List ℕ) (cloud : CloudNo) (rest : List ℕ) (recipes : List Recipe) (recipe : Recipe)
     → Fetched t shape old mid content clouds (cloud.0 ∷ rest) recipes → Asked t (cloud.0 ∷ []) mid new false → Fits shape recipe
     → ((user : UserId) (tag : Tag) (version : Version) → IsRequest content (requests.GetRecipe user tag version)
-    → Leads t (cloud.0 ∷ []) mid new (RecipeCaused t mid shape user (tag, version) cloud.0 (Ok recipe)) (λ a b. RecipeTold shape user (tag, version) cloud (Ok recipe) (a cloud.0) (b cloud.0)))
+    → LeadsAny t (cloud.0 ∷ []) mid new (λ these. RecipeShown (among these t) mid shape user (tag, version) cloud.0 (Ok recipe)) (λ a b. RecipeTold shape user (tag, version) cloud (Ok recipe) (a cloud.0) (b cloud.0)))
     → Fetched t shape old new content clouds rest (recipes ++ recipe ∷ [])
 fetched_more t shape old mid new content clouds cloud rest recipes recipe f asked fits step = record {
   done = f.done ++ cloud.0 ∷ [];
   split = f.split ∙ sym (append_assoc f.done (cloud.0 ∷ []) rest);
   count = omega (arith, length-append recipes (recipe ∷ []), length-append f.done (cloud.0 ∷ []), f.count);
   fits = All-push (Fits shape) recipes recipe f.fits fits;
-  told = λ user tag version is.
-      leads_on t f.done (cloud.0 ∷ []) (f.done ++ cloud.0 ∷ []) old mid new
-      (λ a b. ReadyWhere t old shape user (tag, version) f.done recipes b)
-      (RecipeCaused t mid shape user (tag, version) cloud.0 (Ok recipe))
-      (λ a b. ReadyWhere t old shape user (tag, version) (f.done ++ cloud.0 ∷ []) (recipes ++ recipe ∷ []) b)
+  told = λ user tag version is these.
+      let tells = among these t in
+      let same = told_among t these old mid f.asked.told in
+      leads_on tells f.done (cloud.0 ∷ []) (f.done ++ cloud.0 ∷ []) old mid new
+      (λ a b. ReadyWhere tells old shape user (tag, version) f.done recipes b)
+      (RecipeShown tells mid shape user (tag, version) cloud.0 (Ok recipe))
+      (λ a b. ReadyWhere tells old shape user (tag, version) (f.done ++ cloud.0 ∷ []) (recipes ++ recipe ∷ []) b)
       (λ a b. AreRead f.done a b × (recipes_in shape user (tag, version) b f.done ≡ map Some recipes))
       (λ a b. RecipeTold shape user (tag, version) cloud (Ok recipe) (a cloud.0) (b cloud.0))
       (λ a b. AreRead (f.done ++ cloud.0 ∷ []) a b × (recipes_in shape user (tag, version) b (f.done ++ cloud.0 ∷ []) ≡ map Some (recipes ++ recipe ∷ [])))
-      (f.told user tag version is) f.asked.told (step user tag version is)
+      (f.told user tag version is these) same (step user tag version is these)
       (in_front f.done [] cloud.0) (right_here f.done [] cloud.0)
-      (λ a b c one two r s. ready_push t old shape user (tag, version) f.done recipes cloud.0 recipe c f.count (ready_on t old old shape user (tag, version) f.done recipes b c refl two.read r)
-      (λ told. s (subst (λ (g : ℕ → Bool). IsTrue (g cloud.0)) (sym f.asked.told) told)))
+      (λ a b c one two r s. ready_push tells old shape user (tag, version) f.done recipes cloud.0 recipe c f.count (ready_on tells old old shape user (tag, version) f.done recipes b c refl two.read r)
+      (λ told. s (subst (λ (g : ℕ → Bool). IsTrue (g cloud.0)) (sym same) told)))
       (λ a b c one two r s. both user (tag, version) a b c one two r s);
   asked = asked_on t clouds old mid new false f.asked (asked_at t cloud.0 clouds mid new false (subst (λ (l : List ℕ). Contains l cloud.0) (sym f.split) (right_here f.done rest cloud.0 cloud.0 (contains_here cloud.0 []))) asked);
 }
@@ -134,10 +136,10 @@ fetched_more t shape old mid new content clouds cloud rest recipes recipe f aske
     )
 
 pub fetched_all : {L : Type 0} (t : LinkTelling L) (shape : Shape) (old now : L) (content clouds : List ℕ) (recipes : List Recipe) → Fetched t shape old now content clouds [] recipes
-    → (user : UserId) (tag : Tag) (version : Version) → IsRequest content (requests.GetRecipe user tag version) → Leads t clouds old now (RecipesCaused t old shape user (tag, version) clouds (Ok recipes)) (RecipesTold shape user (tag, version) clouds (Ok recipes))
-fetched_all t shape old now content clouds recipes f user tag version is =
+    → (user : UserId) (tag : Tag) (version : Version) → IsRequest content (requests.GetRecipe user tag version) → LeadsAny t clouds old now (λ these. RecipesShown (among these t) old shape user (tag, version) clouds (Ok recipes)) (RecipesTold shape user (tag, version) clouds (Ok recipes))
+fetched_all t shape old now content clouds recipes f user tag version is these =
     let all : f.done ≡ clouds = sym (f.split ∙ append-nil f.done) in
-    subst (λ (l : List ℕ). Leads t l old now (λ a b. ReadyWhere t old shape user (tag, version) l recipes b) (λ a b. AreRead l a b × (recipes_in shape user (tag, version) b l ≡ map Some recipes))) all (f.told user tag version is)
+    subst (λ (l : List ℕ). Leads (among these t) l old now (λ a b. ReadyWhere (among these t) old shape user (tag, version) l recipes b) (λ a b. AreRead l a b × (recipes_in shape user (tag, version) b l ≡ map Some recipes))) all (f.told user tag version is these)
 
 -- a cloud refused
 pub stopped : (shape : Shape) (user : UserId) (key : Tag × Version) (cloud : CloudNo) (done rest : List ℕ) (recipes : List Recipe) (e : RestoreErr) (a b c : ℕ → Peer)
@@ -188,34 +190,36 @@ stopped shape user key cloud done rest recipes e a b c one two read are s = go e
 pub fetched_stops : {L : Type 0} (t : LinkTelling L) (shape : Shape) (old mid new : L) (content clouds : List ℕ) (cloud : CloudNo) (rest : List ℕ) (recipes : List Recipe) (e : RestoreErr)
     → Fetched t shape old mid content clouds (cloud.0 ∷ rest) recipes
     → ((user : UserId) (tag : Tag) (version : Version) → IsRequest content (requests.GetRecipe user tag version)
-    → Leads t (cloud.0 ∷ []) mid new (RecipeCaused t mid shape user (tag, version) cloud.0 (Err e)) (λ a b. RecipeTold shape user (tag, version) cloud (Err e) (a cloud.0) (b cloud.0)))
+    → LeadsAny t (cloud.0 ∷ []) mid new (λ these. RecipeShown (among these t) mid shape user (tag, version) cloud.0 (Err e)) (λ a b. RecipeTold shape user (tag, version) cloud (Err e) (a cloud.0) (b cloud.0)))
     → (user : UserId) (tag : Tag) (version : Version) → IsRequest content (requests.GetRecipe user tag version)
-    → Leads t clouds old new (RecipesCaused t old shape user (tag, version) clouds (Err e)) (RecipesTold shape user (tag, version) clouds (Err e))
-fetched_stops t shape old mid new content clouds cloud rest recipes e f step user tag version is =
-    subst (λ (l : List ℕ). Leads t l old new (RecipesCaused t old shape user (tag, version) l (Err e)) (RecipesTold shape user (tag, version) l (Err e))) (sym f.split)
-    (leads_on t f.done (cloud.0 ∷ []) (f.done ++ cloud.0 ∷ rest) old mid new
-    (λ a b. ReadyWhere t old shape user (tag, version) f.done recipes b)
-    (RecipeCaused t mid shape user (tag, version) cloud.0 (Err e))
-    (RecipesCaused t old shape user (tag, version) (f.done ++ cloud.0 ∷ rest) (Err e))
+    → LeadsAny t clouds old new (λ these. RecipesShown (among these t) old shape user (tag, version) clouds (Err e)) (RecipesTold shape user (tag, version) clouds (Err e))
+fetched_stops t shape old mid new content clouds cloud rest recipes e f step user tag version is these =
+    let tells = among these t in
+    let same = told_among t these old mid f.asked.told in
+    subst (λ (l : List ℕ). Leads tells l old new (RecipesShown tells old shape user (tag, version) l (Err e)) (RecipesTold shape user (tag, version) l (Err e))) (sym f.split)
+    (leads_on tells f.done (cloud.0 ∷ []) (f.done ++ cloud.0 ∷ rest) old mid new
+    (λ a b. ReadyWhere tells old shape user (tag, version) f.done recipes b)
+    (RecipeShown tells mid shape user (tag, version) cloud.0 (Err e))
+    (RecipesShown tells old shape user (tag, version) (f.done ++ cloud.0 ∷ rest) (Err e))
     (λ a b. AreRead f.done a b × (recipes_in shape user (tag, version) b f.done ≡ map Some recipes))
     (λ a b. RecipeTold shape user (tag, version) cloud (Err e) (a cloud.0) (b cloud.0))
     (RecipesTold shape user (tag, version) (f.done ++ cloud.0 ∷ rest) (Err e))
-    (f.told user tag version is) f.asked.told (step user tag version is)
+    (f.told user tag version is these) same (step user tag version is these)
     (in_front f.done rest cloud.0) (right_here f.done rest cloud.0)
-    (λ a b c one two r s. caused_on t old mid shape user (tag, version) e a b c f.asked.told one.read s)
+    (λ a b c one two r s. caused_on tells old mid shape user (tag, version) e a b c same one.read s)
     (λ a b c one two r s. stopped shape user (tag, version) cloud f.done rest recipes e a b c one two r.0 r.1 s))
 
 -- memory ran out at the client, behind a cloud that answered
 pub fetched_unkept : {L : Type 0} (t : LinkTelling L) (shape : Shape) (old mid new : L) (content clouds : List ℕ) (cloud : CloudNo) (rest : List ℕ) (recipes : List Recipe) (recipe : Recipe)
     → Fetched t shape old mid content clouds (cloud.0 ∷ rest) recipes
     → ((user : UserId) (tag : Tag) (version : Version) → IsRequest content (requests.GetRecipe user tag version)
-    → Leads t (cloud.0 ∷ []) mid new (RecipeCaused t mid shape user (tag, version) cloud.0 (Ok recipe)) (λ a b. RecipeTold shape user (tag, version) cloud (Ok recipe) (a cloud.0) (b cloud.0)))
-    → (user : UserId) (tag : Tag) (version : Version) → IsRequest content (requests.GetRecipe user tag version) → Leads t clouds old new (RecipesCaused t old shape user (tag, version) clouds (Err errors.NoMemory)) (RecipesTold shape user (tag, version) clouds (Err errors.NoMemory))
+    → LeadsAny t (cloud.0 ∷ []) mid new (λ these. RecipeShown (among these t) mid shape user (tag, version) cloud.0 (Ok recipe)) (λ a b. RecipeTold shape user (tag, version) cloud (Ok recipe) (a cloud.0) (b cloud.0)))
+    → (user : UserId) (tag : Tag) (version : Version) → IsRequest content (requests.GetRecipe user tag version) → LeadsAny t clouds old new (λ these. RecipesShown (among these t) old shape user (tag, version) clouds (Err errors.NoMemory)) (RecipesTold shape user (tag, version) clouds (Err errors.NoMemory))
 fetched_unkept t shape old mid new content clouds cloud rest recipes recipe f step user tag version is =
     fetched_stops t shape old mid new content clouds cloud rest recipes errors.NoMemory f
-    (λ u g v h. leads_to t (cloud.0 ∷ []) (cloud.0 ∷ []) mid new (RecipeCaused t mid shape u (g, v) cloud.0 (Ok recipe)) (RecipeCaused t mid shape u (g, v) cloud.0 (Err errors.NoMemory))
+    (λ u g v h these. leads_to (among these t) (cloud.0 ∷ []) (cloud.0 ∷ []) mid new (RecipeShown (among these t) mid shape u (g, v) cloud.0 (Ok recipe)) (RecipeShown (among these t) mid shape u (g, v) cloud.0 (Err errors.NoMemory))
     (λ a b. RecipeTold shape u (g, v) cloud (Ok recipe) (a cloud.0) (b cloud.0)) (λ a b. RecipeTold shape u (g, v) cloud (Err errors.NoMemory) (a cloud.0) (b cloud.0))
-    (step u g v h) (λ x has. has) (λ a b one r told. tt) (λ a b one r. tt)) user tag version is
+    (step u g v h these) (λ x has. has) (λ a b one r told. tt) (λ a b one r. tt)) user tag version is
 
 -- the numbers of clouds, one by one
 pub numbers_next : (clouds : List CloudNo) (cloud : CloudNo) (more : List CloudNo) → clouds ≡ cloud ∷ more → numbers_of clouds ≡ cloud.0 ∷ numbers_of more

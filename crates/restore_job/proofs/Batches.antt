@@ -3,6 +3,7 @@ use Rattle.std.proofs.Common.{◌≡◌, ℕ, ◌+◌, ◌<◌, List, [], ◌∷
 use Rattle.std.specs.Prelude.{unwrap_or}
 use Rattle.std.specs.List.{Contains, flat_map}
 use Rattle.std.proofs.lemmas.List.Concat.{flat_map-cons}
+use Rattle.std.proofs.lemmas.List.Elements.{All-head, All-tail}
 use Rattle.cd_base.specs.declared.ids.CloudNo.{CloudNo}
 use Rattle.cd_base.specs.declared.ids.Tag.{Tag}
 use Rattle.cd_base.specs.declared.ids.UserId.{UserId}
@@ -16,7 +17,7 @@ use Rattle.user_dedup.specs.Link.{LinkTelling}
 use Rattle.user_dedup.proofs.Owned.{contains_here, contains_later, contains_cases, contains_nothing}
 use Rattle.restore_job.specs.Asking.{MayRead, ReadFails, Leads}
 use Rattle.restore_job.specs.Restored.{Unrestored, Given, string_at, recipe_in, or_else, wrong_strings, wrong_length}
-use Rattle.restore_job.specs.Steps.{SharesTold, SharesCaused, BatchTold, BatchCaused, ReadyAt, Ready, recipes_in, given_of, givens, room_of}
+use Rattle.restore_job.specs.Steps.{SharesTold, SharesShown, SameLens, BatchTold, BatchShown, ReadyAt, Ready, recipes_in, given_of, givens, room_of}
 use Rattle.restore_job.specs.declared.error.RestoreErr.{RestoreErr}
 use Rattle.restore_job.specs.declared.error.RestoreErr.TheVariants as errors
 use Rattle.restore_job.proofs.Leading.{settled_same, leads_on, leads_to, leads_none, fails_on}
@@ -112,13 +113,14 @@ first_stops shape firsts cloud clouds given all place n (errors.BadPad secret at
 pub batch_more : {L : Type 0} (t : LinkTelling L) (shape : Shape) (user : UserId) (key : Tag × Version) (cloud : CloudNo) (clouds : List ℕ) (firsts : List Item) (recipe : Recipe) (recipes : List Recipe) (place n : ℕ)
     (old mid new : L) (rooms between filled : List (List ℕ)) (res : Result (Unit {0}) RestoreErr)
     → t.told mid ≡ t.told old
-    → Leads t (cloud.0 ∷ []) old mid (SharesCaused t old shape user key cloud.0 recipe (Ok tt)) (λ a b. ReadyAt shape user key recipe (a cloud.0) → SharesTold shape cloud firsts (given_of (a cloud.0) cloud.0 recipe) place n (Ok tt) rooms between (a cloud.0) (b cloud.0))
-    → Leads t clouds mid new (BatchCaused t mid shape user key clouds recipes res) (λ a b. Ready shape user key clouds recipes a → BatchTold shape clouds firsts (givens a clouds recipes) place n res between filled a b)
-    → Leads t (cloud.0 ∷ clouds) old new (BatchCaused t old shape user key (cloud.0 ∷ clouds) (recipe ∷ recipes) res) (λ a b. Ready shape user key (cloud.0 ∷ clouds) (recipe ∷ recipes) a
+    → Leads t (cloud.0 ∷ []) old mid (SharesShown t old shape user key cloud.0 firsts recipe (Ok tt)) (λ a b. ReadyAt shape user key recipe (a cloud.0) → SharesTold shape cloud firsts (given_of (a cloud.0) cloud.0 recipe) place n (Ok tt) rooms between (a cloud.0) (b cloud.0))
+    → Leads t clouds mid new (BatchShown t mid shape user key clouds firsts recipes res) (λ a b. Ready shape user key clouds recipes a → BatchTold shape clouds firsts (givens a clouds recipes) place n res between filled a b)
+    → Leads t (cloud.0 ∷ clouds) old new (BatchShown t old shape user key (cloud.0 ∷ clouds) firsts (recipe ∷ recipes) res) (λ a b. Ready shape user key (cloud.0 ∷ clouds) (recipe ∷ recipes) a
     → BatchTold shape (cloud.0 ∷ clouds) firsts (givens a (cloud.0 ∷ clouds) (recipe ∷ recipes)) place n res rooms filled a b)
 batch_more t shape user key cloud clouds firsts recipe recipes place n old mid new rooms between filled res same first second =
     leads_on t (cloud.0 ∷ []) clouds (cloud.0 ∷ clouds) old mid new _ _ _ _ _ _ first same second (only_first cloud.0 clouds) (contains_later cloud.0 clouds)
-    (λ a b d one two r s ready. causes_on t old mid shape user key res a b d same one.read (s (ready_on t old mid shape user key clouds recipes a b same one.read ready.1)))
+    (λ a b d one two r s ready alike. causes_on t old mid shape user key res a b d same one.read
+    (s (ready_on t old mid shape user key clouds recipes a b same one.read ready.1) (All-tail (λ (r : Recipe). SameLens firsts r.items) recipe recipes alike)))
     (λ a b d one two r s ready.
     let tail = ready_tail shape user key cloud.0 clouds recipe recipes a ready in
     let head = r (ready_head shape user key cloud.0 clouds recipe recipes a ready) in
@@ -129,21 +131,21 @@ batch_more t shape user key cloud clouds firsts recipe recipes place n old mid n
 
 pub batch_stops : {L : Type 0} (t : LinkTelling L) (shape : Shape) (user : UserId) (key : Tag × Version) (cloud : CloudNo) (clouds : List ℕ) (firsts : List Item) (recipe : Recipe) (recipes : List Recipe) (place n : ℕ)
     (old new : L) (rooms filled : List (List ℕ)) (e : RestoreErr)
-    → Leads t (cloud.0 ∷ []) old new (SharesCaused t old shape user key cloud.0 recipe (Err e)) (λ a b. ReadyAt shape user key recipe (a cloud.0) → SharesTold shape cloud firsts (given_of (a cloud.0) cloud.0 recipe) place n (Err e) rooms filled (a cloud.0) (b cloud.0))
-    → Leads t (cloud.0 ∷ clouds) old new (BatchCaused t old shape user key (cloud.0 ∷ clouds) (recipe ∷ recipes) (Err e)) (λ a b. Ready shape user key (cloud.0 ∷ clouds) (recipe ∷ recipes) a
+    → Leads t (cloud.0 ∷ []) old new (SharesShown t old shape user key cloud.0 firsts recipe (Err e)) (λ a b. ReadyAt shape user key recipe (a cloud.0) → SharesTold shape cloud firsts (given_of (a cloud.0) cloud.0 recipe) place n (Err e) rooms filled (a cloud.0) (b cloud.0))
+    → Leads t (cloud.0 ∷ clouds) old new (BatchShown t old shape user key (cloud.0 ∷ clouds) firsts (recipe ∷ recipes) (Err e)) (λ a b. Ready shape user key (cloud.0 ∷ clouds) (recipe ∷ recipes) a
     → BatchTold shape (cloud.0 ∷ clouds) firsts (givens a (cloud.0 ∷ clouds) (recipe ∷ recipes)) place n (Err e) rooms filled a b)
 batch_stops t shape user key cloud clouds firsts recipe recipes place n old new rooms filled e first =
     leads_to t (cloud.0 ∷ []) (cloud.0 ∷ clouds) old new _ _ _ _ first (only_first cloud.0 clouds)
-    (λ a b one r told ready. r ready.0)
+    (λ a b one r told ready alike. r ready.0 (All-head (λ (r : Recipe). SameLens firsts r.items) recipe recipes alike))
     (λ a b one r ready. first_stops shape firsts cloud clouds (given_of (a cloud.0) cloud.0 recipe) (givens a clouds recipes) place n e rooms filled a b (r (ready_head shape user key cloud.0 clouds recipe recipes a ready)))
 
 pub batch_none : {L : Type 0} (t : LinkTelling L) (shape : Shape) (user : UserId) (key : Tag × Version) (firsts : List Item) (recipes : List Recipe) (place n : ℕ) (link : L) (rooms : List (List ℕ))
-    → Leads t [] link link (BatchCaused t link shape user key [] recipes (Ok tt)) (λ a b. Ready shape user key [] recipes a → BatchTold shape [] firsts (givens a [] recipes) place n (Ok tt) rooms rooms a b)
-batch_none t shape user key firsts recipes place n link rooms = leads_none t [] link _ _ (λ a ready. tt) (λ a ready. (refl, λ j lt. sym (append-nil (room_of rooms j))))
+    → Leads t [] link link (BatchShown t link shape user key [] firsts recipes (Ok tt)) (λ a b. Ready shape user key [] recipes a → BatchTold shape [] firsts (givens a [] recipes) place n (Ok tt) rooms rooms a b)
+batch_none t shape user key firsts recipes place n link rooms = leads_none t [] link _ _ (λ a ready alike. tt) (λ a ready. (refl, λ j lt. sym (append-nil (room_of rooms j))))
 
 abbrev pub BatchLeads : {L : Type 0} → LinkTelling L → Shape → UserId → Tag × Version → List Item → ℕ → ℕ → L → L → List (List ℕ) → List (List ℕ) → Result (Unit {0}) RestoreErr → List ℕ → List Recipe → Type 0
 BatchLeads t shape user key firsts place n old new rooms filled res clouds recipes =
-    Leads t clouds old new (BatchCaused t old shape user key clouds recipes res) (λ a b. Ready shape user key clouds recipes a → BatchTold shape clouds firsts (givens a clouds recipes) place n res rooms filled a b)
+    Leads t clouds old new (BatchShown t old shape user key clouds firsts recipes res) (λ a b. Ready shape user key clouds recipes a → BatchTold shape clouds firsts (givens a clouds recipes) place n res rooms filled a b)
 
 pub batch_as : {L : Type 0} (t : LinkTelling L) (shape : Shape) (user : UserId) (key : Tag × Version) (firsts : List Item) (place n : ℕ) (old new : L) (rooms filled : List (List ℕ)) (res : Result (Unit {0}) RestoreErr)
     (clouds clouds' : List ℕ) (recipes recipes' : List Recipe) → clouds' ≡ clouds → recipes' ≡ recipes → BatchLeads t shape user key firsts place n old new rooms filled res clouds recipes

@@ -1,5 +1,5 @@
 -- What refusals say of the clouds that they name.
-use Rattle.std.proofs.Common.{◌≡◌, ℕ, Bool, true, false, List, [], ◌∷◌, ◌++◌, length, Option, None, Some, Result, Ok, Err, refl, sym, ap, ◌∙◌, subst, arith, inl, inr}
+use Rattle.std.proofs.Common.{◌≡◌, ℕ, ◌+◌, ◌≤◌, Bool, true, false, List, [], ◌∷◌, ◌++◌, length, Option, None, Some, Result, Ok, Err, refl, sym, ap, ◌∙◌, subst, arith, inl, inr}
 use Rattle.std.specs.Prelude.{IsTrue, IfErr, option_map}
 use Rattle.std.specs.List.{Contains}
 use Rattle.cd_base.specs.declared.ids.CloudNo.{CloudNo}
@@ -17,13 +17,14 @@ use Rattle.user_dedup.specs.Exec.{Peer}
 use Rattle.user_dedup.specs.Link.{LinkTelling}
 use Rattle.user_dedup.proofs.Owned.{contains_here, contains_later, contains_cases, contains_nothing}
 use Rattle.restore_job.specs.Asking.{MayRead, TellsAll, Leads, is_loss}
-use Rattle.restore_job.specs.Refusals.{Names, Caused, Causes}
+use Rattle.restore_job.specs.Refusals.{Names, Shown, Shows, IsWrongAt}
 use Rattle.restore_job.specs.Restored
-use Rattle.restore_job.specs.Restored.{recipe_in, or_else, difference, differing}
-use Rattle.restore_job.specs.Steps.{RecipeFrom, Refuses, Takes, Compares, RecipeTold, SharesTold, ReadyAt, ReadyWhere, RecipeCaused, SharesCaused, given_of}
+use Rattle.restore_job.specs.Restored.{recipe_in, or_else, difference, differing, wrong_strings}
+use Rattle.restore_job.specs.Steps.{RecipeFrom, Refuses, Takes, Compares, RecipeTold, SharesTold, ReadyAt, ReadyWhere, RecipeShown, SharesShown, given_of}
 use Rattle.restore_job.specs.declared.error.RestoreErr.{RestoreErr}
 use Rattle.restore_job.specs.declared.error.RestoreErr.TheVariants as errors
 use Rattle.restore_job.proofs.Leading.{rose_on, settled_same, leads_to}
+use Rattle.restore_job.proofs.Wrong.{wrong_own}
 
 -- ---- names
 
@@ -43,7 +44,7 @@ names_to P Q (errors.BadPad secret at byte) to n = tt
 names_to P Q errors.NoMemory to n = tt
 
 -- a refusal that names no cloud says nothing of any
-pub caused_by_none : {L : Type 0} (t : LinkTelling L) (link : L) (shape : Shape) (user : UserId) (key : Tag × Version) (e : RestoreErr) (a b : ℕ → Peer) → Names (λ c. ⊥) e → Caused t link shape user key e a b
+pub caused_by_none : {L : Type 0} (t : LinkTelling L) (link : L) (shape : Shape) (user : UserId) (key : Tag × Version) (e : RestoreErr) (a b : ℕ → Peer) → Names (λ c. ⊥) e → Shown t link shape user key e a b
 caused_by_none t link shape user key (errors.Missing c) a b n = absurd n
 caused_by_none t link shape user key (errors.Lost c) a b n = absurd n
 caused_by_none t link shape user key (errors.CloudFault c) a b n = absurd n
@@ -122,6 +123,28 @@ FaultRose (Err (errors.BadSecret secret hash found)) p q = Unit {0}
 FaultRose (Err (errors.BadPad secret at byte)) p q = Unit {0}
 FaultRose (Err errors.NoMemory) p q = Unit {0}
 
+-- of any cloud something might stand so
+fault_with : {A : Type 0} (res : Result A RestoreErr) (p q : Peer) → Rose p.faults q.faults → FaultRose res p q
+fault_with (Ok x) p q rose = tt
+fault_with (Err (errors.Missing c)) p q rose = tt
+fault_with (Err (errors.Lost c)) p q rose = tt
+fault_with (Err (errors.CloudFault c)) p q rose = rose
+fault_with (Err (errors.CloudDamaged c at byte)) p q rose = tt
+fault_with (Err (errors.CloudRotten c hash found)) p q rose = tt
+fault_with (Err (errors.CloudNoMemory c)) p q rose = tt
+fault_with (Err (errors.Strange c kind)) p q rose = tt
+fault_with (Err (errors.RecipesDiffer x y at)) p q rose = tt
+fault_with (Err (errors.ShareLength c secret found wanted)) p q rose = tt
+fault_with (Err (errors.BadShare c secret hash found)) p q rose = tt
+fault_with (Err (errors.BadSecret secret hash found)) p q rose = tt
+fault_with (Err (errors.BadPad secret at byte)) p q rose = tt
+fault_with (Err errors.NoMemory) p q rose = tt
+
+pub fault_any : {A : Type 0} (res : Result A RestoreErr) (p : Peer) → (q : Peer) × MayRead p q × FaultRose res p q
+fault_any res p =
+    let q : Peer = record { list = p.list; pending = p.pending; faults = p.faults + 1; armings = p.armings } in
+    (q, (inl (record { list = refl; pending = refl }), record { faults = omega arith; armings = refl }), fault_with res p q (omega arith))
+
 pub recipe_rose : (shape : Shape) (cloud : CloudNo) (read : Result Reply ℕ) (res : Result Recipe RestoreErr) (p q : Peer) → RecipeFrom shape cloud read res → (read ≡ Ok replies.Fault → Rose p.faults q.faults) → FaultRose res p q
 recipe_rose shape cloud read (Ok recipe) p q from rose = tt
 recipe_rose shape cloud read (Err (errors.Missing c)) p q from rose = tt
@@ -183,7 +206,7 @@ only_told t link cloud told c has =
     ]
 
 recipe_caused_at : {L : Type 0} (t : LinkTelling L) (link : L) (shape : Shape) (user : UserId) (key : Tag × Version) (cloud : CloudNo) (res : Result Recipe RestoreErr) (a b : ℕ → Peer) → IfErr res (Names (λ c. c ≡ cloud.0))
-    → FaultRose res (a cloud.0) (b cloud.0) → (IsTrue (t.told link cloud.0) → RecipeTold shape user key cloud res (a cloud.0) (b cloud.0)) → RecipeCaused t link shape user key cloud.0 res a b
+    → FaultRose res (a cloud.0) (b cloud.0) → (IsTrue (t.told link cloud.0) → RecipeTold shape user key cloud res (a cloud.0) (b cloud.0)) → RecipeShown t link shape user key cloud.0 res a b
 recipe_caused_at t link shape user key cloud (Ok recipe) a b named rose told = λ yes. (let r = told yes in record { recipe_is = r.1; settled = r.0.0.pending })
 recipe_caused_at t link shape user key cloud (Err (errors.Missing c)) a b named rose told = subst (λ (x : ℕ). IsTrue (t.told link x) → recipe_in shape (b x).list user key ≡ None) (sym named) (λ yes. (told yes).2)
 recipe_caused_at t link shape user key cloud (Err (errors.Lost c)) a b named rose told = tt
@@ -193,7 +216,8 @@ recipe_caused_at t link shape user key cloud (Err (errors.CloudRotten c hash fou
 recipe_caused_at t link shape user key cloud (Err (errors.CloudNoMemory c)) a b named rose told = subst (λ (x : ℕ). t.told link x ≡ false) (sym named) (untold (t.told link cloud.0) told)
 recipe_caused_at t link shape user key cloud (Err (errors.Strange c kind)) a b named rose told = subst (λ (x : ℕ). t.told link x ≡ false) (sym named) (untold (t.told link cloud.0) told)
 recipe_caused_at t link shape user key cloud (Err (errors.RecipesDiffer x y at)) a b named rose told = tt
-recipe_caused_at t link shape user key cloud (Err (errors.ShareLength c secret found wanted)) a b named rose told = tt
+recipe_caused_at t link shape user key cloud (Err (errors.ShareLength c secret found wanted)) a b named rose told =
+    subst (λ (x : ℕ). IsTrue (t.told link x) → IsWrongAt shape user key x secret found wanted b) (sym named) (λ yes. absurd (told yes))
 recipe_caused_at t link shape user key cloud (Err (errors.BadShare c secret hash found)) a b named rose told = subst (λ (x : ℕ). t.told link x ≡ false) (sym named) (untold (t.told link cloud.0) told)
 recipe_caused_at t link shape user key cloud (Err (errors.BadSecret secret hash found)) a b named rose told = tt
 recipe_caused_at t link shape user key cloud (Err (errors.BadPad secret at byte)) a b named rose told = tt
@@ -201,7 +225,7 @@ recipe_caused_at t link shape user key cloud (Err errors.NoMemory) a b named ros
 
 pub recipe_caused : {L : Type 0} (t : LinkTelling L) (shape : Shape) (user : UserId) (key : Tag × Version) (cloud : CloudNo) (old new : L) (res : Result Recipe RestoreErr) → IfErr res (Names (λ c. c ≡ cloud.0))
     → Leads t (cloud.0 ∷ []) old new (λ a b. FaultRose res (a cloud.0) (b cloud.0)) (λ a b. RecipeTold shape user key cloud res (a cloud.0) (b cloud.0))
-    → Leads t (cloud.0 ∷ []) old new (RecipeCaused t old shape user key cloud.0 res) (λ a b. RecipeTold shape user key cloud res (a cloud.0) (b cloud.0))
+    → Leads t (cloud.0 ∷ []) old new (RecipeShown t old shape user key cloud.0 res) (λ a b. RecipeTold shape user key cloud res (a cloud.0) (b cloud.0))
 recipe_caused t shape user key cloud old new res named first =
     leads_to t (cloud.0 ∷ []) (cloud.0 ∷ []) old new _ _ _ _ first (λ x has. has)
     (λ a b one rose told. recipe_caused_at t old shape user key cloud res a b named rose (λ yes. told (only_told t old cloud.0 yes)))
@@ -209,35 +233,40 @@ recipe_caused t shape user key cloud old new res named first =
 
 shares_caused_at : {L : Type 0} (t : LinkTelling L) (link : L) (shape : Shape) (user : UserId) (key : Tag × Version) (cloud : CloudNo) (firsts : List Item) (recipe : Recipe) (place n : ℕ) (rooms filled : List (List ℕ)) (res : Result (Unit {0}) RestoreErr) (a b : ℕ → Peer)
     → IfErr res (Names (λ c. c ≡ cloud.0)) → FaultRose res (a cloud.0) (b cloud.0)
-    → (IsTrue (t.told link cloud.0) → SharesTold shape cloud firsts (given_of (a cloud.0) cloud.0 recipe) place n res rooms filled (a cloud.0) (b cloud.0)) → Causes t link shape user key res a b
-shares_caused_at t link shape user key cloud firsts recipe place n rooms filled (Ok u) a b named rose told = tt
-shares_caused_at t link shape user key cloud firsts recipe place n rooms filled (Err (errors.Missing c)) a b named rose told = subst (λ (x : ℕ). IsTrue (t.told link x) → recipe_in shape (b x).list user key ≡ None) (sym named) (λ yes. absurd (told yes))
-shares_caused_at t link shape user key cloud firsts recipe place n rooms filled (Err (errors.Lost c)) a b named rose told = tt
-shares_caused_at t link shape user key cloud firsts recipe place n rooms filled (Err (errors.CloudFault c)) a b named rose told = subst (λ (x : ℕ). Rose (a x).faults (b x).faults) (sym named) rose
-shares_caused_at t link shape user key cloud firsts recipe place n rooms filled (Err (errors.CloudDamaged c at byte)) a b named rose told = subst (λ (x : ℕ). t.told link x ≡ false) (sym named) (untold (t.told link cloud.0) told)
-shares_caused_at t link shape user key cloud firsts recipe place n rooms filled (Err (errors.CloudRotten c hash found)) a b named rose told = subst (λ (x : ℕ). t.told link x ≡ false) (sym named) (untold (t.told link cloud.0) told)
-shares_caused_at t link shape user key cloud firsts recipe place n rooms filled (Err (errors.CloudNoMemory c)) a b named rose told = subst (λ (x : ℕ). t.told link x ≡ false) (sym named) (untold (t.told link cloud.0) told)
-shares_caused_at t link shape user key cloud firsts recipe place n rooms filled (Err (errors.Strange c kind)) a b named rose told = subst (λ (x : ℕ). t.told link x ≡ false) (sym named) (untold (t.told link cloud.0) told)
-shares_caused_at t link shape user key cloud firsts recipe place n rooms filled (Err (errors.RecipesDiffer x y at)) a b named rose told = tt
-shares_caused_at t link shape user key cloud firsts recipe place n rooms filled (Err (errors.ShareLength c secret found wanted)) a b named rose told = tt
-shares_caused_at t link shape user key cloud firsts recipe place n rooms filled (Err (errors.BadShare c secret hash found)) a b named rose told = subst (λ (x : ℕ). t.told link x ≡ false) (sym named) (untold (t.told link cloud.0) told)
-shares_caused_at t link shape user key cloud firsts recipe place n rooms filled (Err (errors.BadSecret secret hash found)) a b named rose told = tt
-shares_caused_at t link shape user key cloud firsts recipe place n rooms filled (Err (errors.BadPad secret at byte)) a b named rose told = tt
-shares_caused_at t link shape user key cloud firsts recipe place n rooms filled (Err errors.NoMemory) a b named rose told = tt
+    → (IsTrue (t.told link cloud.0) → SharesTold shape cloud firsts (given_of (a cloud.0) cloud.0 recipe) place n res rooms filled (a cloud.0) (b cloud.0))
+    → (IsTrue (t.told link cloud.0) → (secret found wanted : ℕ) → wrong_strings shape firsts (given_of (a cloud.0) cloud.0 recipe) place n ≡ Some (Restored.ShareLength cloud.0 secret found wanted) → IsWrongAt shape user key cloud.0 secret found wanted b)
+    → Shows t link shape user key res a b
+shares_caused_at t link shape user key cloud firsts recipe place n rooms filled (Ok u) a b named rose told owns = tt
+shares_caused_at t link shape user key cloud firsts recipe place n rooms filled (Err (errors.Missing c)) a b named rose told owns = subst (λ (x : ℕ). IsTrue (t.told link x) → recipe_in shape (b x).list user key ≡ None) (sym named) (λ yes. absurd (told yes))
+shares_caused_at t link shape user key cloud firsts recipe place n rooms filled (Err (errors.Lost c)) a b named rose told owns = tt
+shares_caused_at t link shape user key cloud firsts recipe place n rooms filled (Err (errors.CloudFault c)) a b named rose told owns = subst (λ (x : ℕ). Rose (a x).faults (b x).faults) (sym named) rose
+shares_caused_at t link shape user key cloud firsts recipe place n rooms filled (Err (errors.CloudDamaged c at byte)) a b named rose told owns = subst (λ (x : ℕ). t.told link x ≡ false) (sym named) (untold (t.told link cloud.0) told)
+shares_caused_at t link shape user key cloud firsts recipe place n rooms filled (Err (errors.CloudRotten c hash found)) a b named rose told owns = subst (λ (x : ℕ). t.told link x ≡ false) (sym named) (untold (t.told link cloud.0) told)
+shares_caused_at t link shape user key cloud firsts recipe place n rooms filled (Err (errors.CloudNoMemory c)) a b named rose told owns = subst (λ (x : ℕ). t.told link x ≡ false) (sym named) (untold (t.told link cloud.0) told)
+shares_caused_at t link shape user key cloud firsts recipe place n rooms filled (Err (errors.Strange c kind)) a b named rose told owns = subst (λ (x : ℕ). t.told link x ≡ false) (sym named) (untold (t.told link cloud.0) told)
+shares_caused_at t link shape user key cloud firsts recipe place n rooms filled (Err (errors.RecipesDiffer x y at)) a b named rose told owns = tt
+shares_caused_at t link shape user key cloud firsts recipe place n rooms filled (Err (errors.ShareLength c secret found wanted)) a b named rose told owns =
+    subst (λ (x : ℕ). IsTrue (t.told link x) → IsWrongAt shape user key x secret found wanted b) (sym named)
+    (λ yes. owns yes secret found wanted (subst (λ (x : ℕ). wrong_strings shape firsts (given_of (a cloud.0) cloud.0 recipe) place n ≡ Some (Restored.ShareLength x secret found wanted)) named (told yes)))
+shares_caused_at t link shape user key cloud firsts recipe place n rooms filled (Err (errors.BadShare c secret hash found)) a b named rose told owns = subst (λ (x : ℕ). t.told link x ≡ false) (sym named) (untold (t.told link cloud.0) told)
+shares_caused_at t link shape user key cloud firsts recipe place n rooms filled (Err (errors.BadSecret secret hash found)) a b named rose told owns = tt
+shares_caused_at t link shape user key cloud firsts recipe place n rooms filled (Err (errors.BadPad secret at byte)) a b named rose told owns = tt
+shares_caused_at t link shape user key cloud firsts recipe place n rooms filled (Err errors.NoMemory) a b named rose told owns = tt
 
 pub shares_caused : {L : Type 0} (t : LinkTelling L) (shape : Shape) (user : UserId) (key : Tag × Version) (cloud : CloudNo) (firsts : List Item) (recipe : Recipe) (place n : ℕ) (old new : L) (rooms filled : List (List ℕ)) (res : Result (Unit {0}) RestoreErr)
-    → IfErr res (Names (λ c. c ≡ cloud.0))
+    → IfErr res (Names (λ c. c ≡ cloud.0)) → place + n ≤ length recipe.items
     → Leads t (cloud.0 ∷ []) old new (λ a b. FaultRose res (a cloud.0) (b cloud.0)) (λ a b. ReadyAt shape user key recipe (a cloud.0) → SharesTold shape cloud firsts (given_of (a cloud.0) cloud.0 recipe) place n res rooms filled (a cloud.0) (b cloud.0))
-    → Leads t (cloud.0 ∷ []) old new (SharesCaused t old shape user key cloud.0 recipe res) (λ a b. ReadyAt shape user key recipe (a cloud.0) → SharesTold shape cloud firsts (given_of (a cloud.0) cloud.0 recipe) place n res rooms filled (a cloud.0) (b cloud.0))
-shares_caused t shape user key cloud firsts recipe place n old new rooms filled res named first =
+    → Leads t (cloud.0 ∷ []) old new (SharesShown t old shape user key cloud.0 firsts recipe res) (λ a b. ReadyAt shape user key recipe (a cloud.0) → SharesTold shape cloud firsts (given_of (a cloud.0) cloud.0 recipe) place n res rooms filled (a cloud.0) (b cloud.0))
+shares_caused t shape user key cloud firsts recipe place n old new rooms filled res named fits first =
     leads_to t (cloud.0 ∷ []) (cloud.0 ∷ []) old new _ _ _ _ first (λ x has. has)
-    (λ a b one rose told ready. shares_caused_at t old shape user key cloud firsts recipe place n rooms filled res a b named rose (λ yes. told (only_told t old cloud.0 yes) (ready yes)))
+    (λ a b one rose told ready alike. shares_caused_at t old shape user key cloud firsts recipe place n rooms filled res a b named rose (λ yes. told (only_told t old cloud.0 yes) (ready yes))
+    (λ yes secret found wanted e. wrong_own shape user key cloud.0 firsts recipe place n secret found wanted (a cloud.0) b (ready yes) (one.read cloud.0) alike fits e))
     (λ a b one r. r)
 
 -- ---- one after another
 
 pub caused_on : {L : Type 0} (t : LinkTelling L) (old mid : L) (shape : Shape) (user : UserId) (key : Tag × Version) (e : RestoreErr) (a b d : ℕ → Peer) → t.told mid ≡ t.told old → ((x : ℕ) → MayRead (a x) (b x))
-    → Caused t mid shape user key e b d → Caused t old shape user key e a d
+    → Shown t mid shape user key e b d → Shown t old shape user key e a d
 caused_on t old mid shape user key (errors.Missing c) a b d same may k = λ told. k (subst (λ (f : ℕ → Bool). IsTrue (f c.0)) (sym same) told)
 caused_on t old mid shape user key (errors.Lost c) a b d same may k = tt
 caused_on t old mid shape user key (errors.CloudFault c) a b d same may k = rose_on (a c.0).faults (b c.0).faults (d c.0).faults (may c.0).1.faults k
@@ -246,14 +275,14 @@ caused_on t old mid shape user key (errors.CloudRotten c hash found) a b d same 
 caused_on t old mid shape user key (errors.CloudNoMemory c) a b d same may k = ap (λ (f : ℕ → Bool). f c.0) (sym same) ∙ k
 caused_on t old mid shape user key (errors.Strange c kind) a b d same may k = ap (λ (f : ℕ → Bool). f c.0) (sym same) ∙ k
 caused_on t old mid shape user key (errors.RecipesDiffer x y at) a b d same may k = tt
-caused_on t old mid shape user key (errors.ShareLength c secret found wanted) a b d same may k = tt
+caused_on t old mid shape user key (errors.ShareLength c secret found wanted) a b d same may k = λ told. k (subst (λ (f : ℕ → Bool). IsTrue (f c.0)) (sym same) told)
 caused_on t old mid shape user key (errors.BadShare c secret hash found) a b d same may k = ap (λ (f : ℕ → Bool). f c.0) (sym same) ∙ k
 caused_on t old mid shape user key (errors.BadSecret secret hash found) a b d same may k = tt
 caused_on t old mid shape user key (errors.BadPad secret at byte) a b d same may k = tt
 caused_on t old mid shape user key errors.NoMemory a b d same may k = tt
 
 pub causes_on : {L : Type 0} (t : LinkTelling L) (old mid : L) (shape : Shape) (user : UserId) (key : Tag × Version) (res : Result (Unit {0}) RestoreErr) (a b d : ℕ → Peer) → t.told mid ≡ t.told old → ((x : ℕ) → MayRead (a x) (b x))
-    → Causes t mid shape user key res b d → Causes t old shape user key res a d
+    → Shows t mid shape user key res b d → Shows t old shape user key res a d
 causes_on t old mid shape user key (Ok u) a b d same may k = tt
 causes_on t old mid shape user key (Err e) a b d same may k = caused_on t old mid shape user key e a b d same may k
 
@@ -280,7 +309,7 @@ ready_push t link shape user key (c ∷ clouds) (r ∷ recipes) cloud recipe a l
 -- ---- comparing
 
 pub compared_caused : {L : Type 0} (t : LinkTelling L) (link : L) (shape : Shape) (user : UserId) (key : Tag × Version) (cloud : ℕ) (recipe : Recipe) (clouds : List ℕ) (recipes : List Recipe) (e : RestoreErr) (a b : ℕ → Peer)
-    → Compares cloud recipe clouds recipes (Err e) → Caused t link shape user key e a b
+    → Compares cloud recipe clouds recipes (Err e) → Shown t link shape user key e a b
 compared_caused t link shape user key cloud recipe clouds recipes (errors.Missing c) a b differs = absurd differs
 compared_caused t link shape user key cloud recipe clouds recipes (errors.Lost c) a b differs = tt
 compared_caused t link shape user key cloud recipe clouds recipes (errors.CloudFault c) a b differs = absurd differs
@@ -289,7 +318,7 @@ compared_caused t link shape user key cloud recipe clouds recipes (errors.CloudR
 compared_caused t link shape user key cloud recipe clouds recipes (errors.CloudNoMemory c) a b differs = absurd differs
 compared_caused t link shape user key cloud recipe clouds recipes (errors.Strange c kind) a b differs = absurd differs
 compared_caused t link shape user key cloud recipe clouds recipes (errors.RecipesDiffer x y at) a b differs = tt
-compared_caused t link shape user key cloud recipe clouds recipes (errors.ShareLength c secret found wanted) a b differs = tt
+compared_caused t link shape user key cloud recipe clouds recipes (errors.ShareLength c secret found wanted) a b differs = absurd differs
 compared_caused t link shape user key cloud recipe clouds recipes (errors.BadShare c secret hash found) a b differs = absurd differs
 compared_caused t link shape user key cloud recipe clouds recipes (errors.BadSecret secret hash found) a b differs = tt
 compared_caused t link shape user key cloud recipe clouds recipes (errors.BadPad secret at byte) a b differs = tt

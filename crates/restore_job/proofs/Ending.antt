@@ -2,7 +2,8 @@
 use Rattle.std.proofs.Common.{◌≡◌, ℕ, zero, suc, ◌+◌, ◌-◌, ◌<◌, ◌≤◌, Bool, true, false, cond, List, [], ◌∷◌, ◌++◌, length, map, Option, Some, None, Result, Ok, Err, refl, sym, ap, ◌∙◌, subst, arith, inl, inr}
 use Rattle.std.proofs.Common.{leb}
 use Rattle.std.proofs.lemmas.Bool.{and_parts, leb-true}
-use Rattle.std.specs.Prelude.{◌==◌, IsTrue, min, unwrap_or, option_map, find, is_none, IfErr}
+use Rattle.std.proofs.lemmas.List.Elements.{All-cons, All-weaker}
+use Rattle.std.specs.Prelude.{◌==◌, All, IsTrue, min, unwrap_or, option_map, find, is_none, IfErr}
 use Rattle.std.specs.List.{Contains, flat_map}
 use Rattle.cd_base.specs.declared.ids.Tag.{Tag}
 use Rattle.cd_base.specs.declared.ids.UserId.{UserId}
@@ -18,17 +19,19 @@ use Rattle.user_dedup.specs.Cloud.{held_string}
 use Rattle.user_dedup.specs.Exec.{Peer}
 use Rattle.user_dedup.specs.Link.{LinkTelling}
 use Rattle.user_dedup.proofs.Owned.{contains_here, contains_later}
-use Rattle.restore_job.specs.Asking.{MayRead, Leads, Asked, AreRead}
+use Rattle.restore_job.specs.Asking.{MayRead, Leads, LeadsAny, Asked, AreRead, among}
 use Rattle.restore_job.specs.Reading.{Ends, Restores}
-use Rattle.restore_job.specs.Refusals.{Names, Causes}
+use Rattle.restore_job.specs.Refusals.{Names, Shows}
 use Rattle.restore_job.specs.Restored
 use Rattle.restore_job.specs.Restored.{Unrestored, Given, item_of, string_at, or_else, difference, of_secret, secret_opened, wrong_string, wrong_strings, recipe_in, no_recipe, given_by, missing, unless, joined, behind, differing, wrong_length, secrets_opened, batch_opened, batches_opened, batch_count, items_opened, agreed, restored_file}
-use Rattle.restore_job.specs.Steps.{AreItemsAt, BatchTold, BatchCaused, RecipesCaused, OpensTo, Compares, Ready, RecipesTold, recipes_in, givens, room_of}
+use Rattle.restore_job.specs.Steps.{AreItemsAt, AgreedShown, BatchTold, BatchCaused, BatchShown, RecipesCaused, RecipesShown, SameLens, OpensTo, Compares, Ready, RecipesTold, recipes_in, givens, room_of}
 use Rattle.restore_job.specs.declared.error.RestoreErr.{RestoreErr}
 use Rattle.restore_job.specs.declared.error.RestoreErr.TheVariants as errors
 use Rattle.restore_job.proofs.Causing.{caused_by_none, caused_on, causes_on, ready_on, compared_caused}
-use Rattle.restore_job.proofs.Leading.{rose_on, may_on, may_stay, reads_on, leads_on, leads_to, leads_none, asked_on, asked_none, settled_same}
+use Rattle.restore_job.proofs.Leading.{rose_on, may_on, may_stay, reads_on, leads_on, leads_to, leads_none, leads_whole, told_among, asked_on, asked_none, settled_same}
 use Rattle.restore_job.proofs.Asks.{head_is, recipes_stay}
+use Rattle.restore_job.proofs.Bringing.{none_differs}
+use Rattle.restore_job.proofs.Wrong.{recipes_same, shown_caused, shows_caused}
 use Rattle.restore_job.proofs.Taking.{Opening, opening_none, opening_is, opening_more, opening_all}
 use Rattle.restore_job.proofs.Batches.{givens_stay, ready_stays, lists_stay}
 
@@ -80,19 +83,19 @@ batch_refuses shape firsts clouds all place n (errors.BadSecret secret named fou
 batch_refuses shape firsts clouds all place n (errors.BadPad secret at byte) rooms filled old a b told = absurd told
 
 pub refused_batch : {L : Type 0} (t : LinkTelling L) (shape : Shape) (user : UserId) (key : Tag × Version) (clouds : List ℕ) (firsts : List Item) (recipes : List Recipe) (place n : ℕ) (old new : L) (rooms filled : List (List ℕ)) (out : List ℕ) (e : RestoreErr)
-    → Leads t clouds old new (BatchCaused t old shape user key clouds recipes (Err e)) (λ a b. Ready shape user key clouds recipes a → BatchTold shape clouds firsts (givens a clouds recipes) place n (Err e) rooms filled a b)
-    → Leads t clouds old new (BatchCaused t old shape user key clouds recipes (Err e)) (λ a b. Ready shape user key clouds recipes a → Ends (batch_opened shape firsts (givens a clouds recipes) place n) clouds (Err e) out out a b)
+    → Leads t clouds old new (BatchShown t old shape user key clouds firsts recipes (Err e)) (λ a b. Ready shape user key clouds recipes a → BatchTold shape clouds firsts (givens a clouds recipes) place n (Err e) rooms filled a b)
+    → Leads t clouds old new (BatchShown t old shape user key clouds firsts recipes (Err e)) (λ a b. Ready shape user key clouds recipes a → Ends (batch_opened shape firsts (givens a clouds recipes) place n) clouds (Err e) out out a b)
 refused_batch t shape user key clouds firsts recipes place n old new rooms filled out e told =
     leads_to t clouds clouds old new _ _ _ _ told (λ x has. has) (λ a b one r known. r) (λ a b one r ready. batch_refuses shape firsts clouds (givens a clouds recipes) place n e rooms filled out a b (r ready))
 
 pub opened_batch : {L : Type 0} (t : LinkTelling L) (shape : Shape) (user : UserId) (key : Tag × Version) (clouds points : List ℕ) (firsts : List Item) (recipes : List Recipe) (place n : ℕ) (old new : L) (rooms filled : List (List ℕ)) (out out' : List ℕ) (res : Result (Unit {0}) RestoreErr)
     → points ≡ clouds → length clouds ≡ length recipes → ((j : ℕ) → j < n → room_of rooms j ≡ [])
-    → Leads t clouds old new (BatchCaused t old shape user key clouds recipes (Ok tt)) (λ a b. Ready shape user key clouds recipes a → BatchTold shape clouds firsts (givens a clouds recipes) place n (Ok tt) rooms filled a b)
+    → Leads t clouds old new (BatchShown t old shape user key clouds firsts recipes (Ok tt)) (λ a b. Ready shape user key clouds recipes a → BatchTold shape clouds firsts (givens a clouds recipes) place n (Ok tt) rooms filled a b)
     → ((all : List Given) → points ≡ map (λ given. given.cloud) all → ((j : ℕ) → j < n → room_of filled j ≡ flat_map (λ given. string_at given (place + j)) all) → OpensTo (secrets_opened shape firsts all place n) res out out')
     → IfErr res (Names (λ c. ⊥))
-    → Leads t clouds old new (BatchCaused t old shape user key clouds recipes res) (λ a b. Ready shape user key clouds recipes a → Ends (batch_opened shape firsts (givens a clouds recipes) place n) clouds res out out' a b)
+    → Leads t clouds old new (BatchShown t old shape user key clouds firsts recipes res) (λ a b. Ready shape user key clouds recipes a → Ends (batch_opened shape firsts (givens a clouds recipes) place n) clouds res out out' a b)
 opened_batch t shape user key clouds points firsts recipes place n old new rooms filled out out' res are pairs empty told opens alone =
-    leads_to t clouds clouds old new _ _ _ _ told (λ x has. has) (λ a b one r known ready. caused res alone a b)
+    leads_to t clouds clouds old new _ _ _ _ told (λ x has. has) (λ a b one r known ready alike. caused res alone a b)
     (λ a b one r ready.
     let all : List Given = givens a clouds recipes in
     let batch = r ready in
@@ -100,7 +103,7 @@ opened_batch t shape user key clouds points firsts recipes place n old new rooms
     subst (λ (o : Option Unrestored). Ends (unless o (secrets_opened shape firsts all place n)) clouds res out out' a b) (sym batch.0)
     (ends_of (secrets_opened shape firsts all place n) clouds res out out' a b secrets))
   where
-    caused : (r : Result (Unit {0}) RestoreErr) → IfErr r (Names (λ c. ⊥)) → (a b : ℕ → Peer) → Causes t old shape user key r a b
+    caused : (r : Result (Unit {0}) RestoreErr) → IfErr r (Names (λ c. ⊥)) → (a b : ℕ → Peer) → Shows t old shape user key r a b
     caused (Ok u) alone a b = tt
     caused (Err e) alone a b = caused_by_none t old shape user key e a b alone
 
@@ -134,13 +137,13 @@ left_from shape firsts all place = batches_opened shape firsts all (batch_count 
 
 -- the secrets in front of a place were appended
 pub record Restoring {L : Type 0} (t : LinkTelling L) (shape : Shape) (user : UserId) (clouds : List ℕ) (firsts : List Item) (recipes : List Recipe) (old now : L) (place : ℕ) (out out' : List ℕ) : Type 0 where
-  pub told : (tag : Tag) (version : Version) → Leads t clouds old now (λ a b. Unit {0}) (λ a b. Ready shape user (tag, version) clouds recipes a
+  pub told : (tag : Tag) (version : Version) → LeadsAny t clouds old now (λ these a b. Unit {0}) (λ a b. Ready shape user (tag, version) clouds recipes a
       → Opening (items_opened shape firsts (givens a clouds recipes)) (left_from shape firsts (givens a clouds recipes) place) out out')
   pub asked : Asked t clouds old now false
 
 pub restoring_none : {L : Type 0} (t : LinkTelling L) (shape : Shape) (user : UserId) (clouds : List ℕ) (firsts : List Item) (recipes : List Recipe) (link : L) (out : List ℕ) → Restoring t shape user clouds firsts recipes link link 0 out out
 restoring_none t shape user clouds firsts recipes link out = record {
-  told = λ tag version. leads_none t clouds link _ _ (λ a. tt) (λ a ready.
+  told = λ tag version these. leads_none (among these t) clouds link _ _ (λ a. tt) (λ a ready.
       let due = items_opened shape firsts (givens a clouds recipes) in
       let e : length firsts ≡ length firsts - 0 = omega arith in
       opening_is due due (left_from shape firsts (givens a clouds recipes) 0) out out (λ i. batches_opened shape firsts (givens a clouds recipes) (batch_count (e i)) 0 (e i)) (opening_none due out));
@@ -161,13 +164,13 @@ left_next shape firsts all place count lt is =
 
 abbrev BatchEnds : {L : Type 0} → LinkTelling L → Shape → UserId → List ℕ → List Item → List Recipe → L → L → ℕ → ℕ → Result (Unit {0}) RestoreErr → List ℕ → List ℕ → Type 0
 BatchEnds t shape user clouds firsts recipes mid new place count res out out' =
-    (tag : Tag) (version : Version) → Leads t clouds mid new (BatchCaused t mid shape user (tag, version) clouds recipes res) (λ a b. Ready shape user (tag, version) clouds recipes a → Ends (batch_opened shape firsts (givens a clouds recipes) place count) clouds res out out' a b)
+    (tag : Tag) (version : Version) → LeadsAny t clouds mid new (λ these. BatchShown (among these t) mid shape user (tag, version) clouds firsts recipes res) (λ a b. Ready shape user (tag, version) clouds recipes a → Ends (batch_opened shape firsts (givens a clouds recipes) place count) clouds res out out' a b)
 
 pub restoring_more : {L : Type 0} (t : LinkTelling L) (shape : Shape) (user : UserId) (clouds : List ℕ) (firsts : List Item) (recipes : List Recipe) (old mid new : L) (place count : ℕ) (out between out' : List ℕ)
     → Restoring t shape user clouds firsts recipes old mid place out between → place < length firsts → count ≡ min 256 (length firsts - place) → Asked t clouds mid new false
     → BatchEnds t shape user clouds firsts recipes mid new place count (Ok tt) between out' → Restoring t shape user clouds firsts recipes old new (place + count) out out'
 restoring_more t shape user clouds firsts recipes old mid new place count out between out' f lt is asked ends = record {
-  told = λ tag version. leads_on t clouds clouds clouds old mid new _ _ _ _ _ _ (f.told tag version) f.asked.told (ends tag version) (λ x has. has) (λ x has. has)
+  told = λ tag version these. leads_on (among these t) clouds clouds clouds old mid new _ _ _ _ _ _ (f.told tag version these) (told_among t these old mid f.asked.told) (ends tag version these) (λ x has. has) (λ x has. has)
       (λ a b d one two r s. tt)
       (λ a b d one two r s ready.
       let all : List Given = givens a clouds recipes in
@@ -182,10 +185,12 @@ restoring_more t shape user clouds firsts recipes old mid new place count out be
 pub restoring_stops : {L : Type 0} (t : LinkTelling L) (shape : Shape) (user : UserId) (clouds : List ℕ) (firsts : List Item) (recipes : List Recipe) (old mid new : L) (place count : ℕ) (out between out' : List ℕ) (e : RestoreErr)
     → Restoring t shape user clouds firsts recipes old mid place out between → place < length firsts → count ≡ min 256 (length firsts - place)
     → BatchEnds t shape user clouds firsts recipes mid new place count (Err e) between out' → (tag : Tag) (version : Version)
-    → Leads t clouds old new (BatchCaused t old shape user (tag, version) clouds recipes (Err e)) (λ a b. Ready shape user (tag, version) clouds recipes a → Ends (items_opened shape firsts (givens a clouds recipes)) clouds (Err e) out out' a b)
-restoring_stops t shape user clouds firsts recipes old mid new place count out between out' e f lt is ends tag version =
-    leads_on t clouds clouds clouds old mid new _ _ _ _ _ _ (f.told tag version) f.asked.told (ends tag version) (λ x has. has) (λ x has. has)
-    (λ a b d one two r s ready. caused_on t old mid shape user (tag, version) e a b d f.asked.told one.read (s (ready_on t old mid shape user (tag, version) clouds recipes a b f.asked.told one.read ready)))
+    → LeadsAny t clouds old new (λ these. BatchShown (among these t) old shape user (tag, version) clouds firsts recipes (Err e)) (λ a b. Ready shape user (tag, version) clouds recipes a → Ends (items_opened shape firsts (givens a clouds recipes)) clouds (Err e) out out' a b)
+restoring_stops t shape user clouds firsts recipes old mid new place count out between out' e f lt is ends tag version these =
+    let tells = among these t in
+    let told = told_among t these old mid f.asked.told in
+    leads_on tells clouds clouds clouds old mid new _ _ _ _ _ _ (f.told tag version these) told (ends tag version these) (λ x has. has) (λ x has. has)
+    (λ a b d one two r s ready alike. caused_on tells old mid shape user (tag, version) e a b d told one.read (s (ready_on tells old mid shape user (tag, version) clouds recipes a b told one.read ready) alike))
     (λ a b d one two r s ready.
     let all : List Given = givens a clouds recipes in
     let due = items_opened shape firsts all in
@@ -196,9 +201,9 @@ restoring_stops t shape user clouds firsts recipes old mid new place count out b
 
 pub restoring_all : {L : Type 0} (t : LinkTelling L) (shape : Shape) (user : UserId) (clouds : List ℕ) (firsts : List Item) (recipes : List Recipe) (old now : L) (place : ℕ) (out out' : List ℕ)
     → Restoring t shape user clouds firsts recipes old now place out out' → length firsts ≤ place → (tag : Tag) (version : Version)
-    → Leads t clouds old now (BatchCaused t old shape user (tag, version) clouds recipes (Ok tt)) (λ a b. Ready shape user (tag, version) clouds recipes a → Ends (items_opened shape firsts (givens a clouds recipes)) clouds (Ok tt) out out' a b)
-restoring_all t shape user clouds firsts recipes old now place out out' f le tag version =
-    leads_to t clouds clouds old now _ _ _ _ (f.told tag version) (λ x has. has) (λ a b one r known ready. tt)
+    → LeadsAny t clouds old now (λ these. BatchShown (among these t) old shape user (tag, version) clouds firsts recipes (Ok tt)) (λ a b. Ready shape user (tag, version) clouds recipes a → Ends (items_opened shape firsts (givens a clouds recipes)) clouds (Ok tt) out out' a b)
+restoring_all t shape user clouds firsts recipes old now place out out' f le tag version these =
+    leads_to (among these t) clouds clouds old now _ _ _ _ (f.told tag version these) (λ x has. has) (λ a b one r known ready alike. tt)
     (λ a b one r ready.
     let due = items_opened shape firsts (givens a clouds recipes) in
     let none : batch_count (length firsts - place) ≡ zero = omega arith in
@@ -215,7 +220,7 @@ agreed_over shape cloud recipe clouds recipes a pairs =
 
 abbrev pub AgreedLeads : {L : Type 0} → LinkTelling L → Shape → UserId → L → L → List ℕ → List ℕ → Result (Unit {0}) RestoreErr → List ℕ → List Recipe → Type 0
 AgreedLeads t shape user old new out out' res clouds recipes =
-    (tag : Tag) (version : Version) → Leads t clouds old new (BatchCaused t old shape user (tag, version) clouds recipes res) (λ a b. Ready shape user (tag, version) clouds recipes a → Ends (agreed shape (givens a clouds recipes)) clouds res out out' a b)
+    (tag : Tag) (version : Version) → LeadsAny t clouds old new (λ these. AgreedShown (among these t) old shape user (tag, version) clouds recipes res) (λ a b. Ready shape user (tag, version) clouds recipes a → Ends (agreed shape (givens a clouds recipes)) clouds res out out' a b)
 
 pub agreed_as : {L : Type 0} (t : LinkTelling L) (shape : Shape) (user : UserId) (old new : L) (out out' : List ℕ) (res : Result (Unit {0}) RestoreErr) (clouds clouds' : List ℕ) (recipes recipes' : List Recipe)
     → clouds' ≡ clouds → recipes' ≡ recipes → AgreedLeads t shape user old new out out' res clouds recipes → AgreedLeads t shape user old new out out' res clouds' recipes'
@@ -240,25 +245,52 @@ compare_ends shape cloud recipe others rest clouds outcome errors.NoMemory out a
 
 pub agreed_differs : {L : Type 0} (t : LinkTelling L) (shape : Shape) (user : UserId) (cloud : ℕ) (recipe : Recipe) (others : List ℕ) (rest : List Recipe) (link : L) (out : List ℕ) (e : RestoreErr) → length others ≡ length rest
     → Compares cloud recipe others rest (Err e) → AgreedLeads t shape user link link out out (Err e) (cloud ∷ others) (recipe ∷ rest)
-agreed_differs t shape user cloud recipe others rest link out e pairs differs tag version =
-    leads_none t (cloud ∷ others) link _ _ (λ a ready. compared_caused t link shape user (tag, version) cloud recipe others rest e a a differs) (λ a ready.
+agreed_differs t shape user cloud recipe others rest link out e pairs differs tag version these =
+    leads_none (among these t) (cloud ∷ others) link _ _ (λ a ready. compared_caused (among these t) link shape user (tag, version) cloud recipe others rest e a a differs) (λ a ready.
     let all = givens a (cloud ∷ others) (recipe ∷ rest) in
     subst (λ (o : Result (List ℕ) Unrestored). Ends o (cloud ∷ others) (Err e) out out a a) (sym (agreed_over shape cloud recipe others rest a pairs))
     (compare_ends shape cloud recipe others rest (cloud ∷ others) (items_opened shape recipe.items all) e out a differs))
 
+-- recipes that don't differ from the first one have secrets of the same lengths
+same_lens : (cloud : ℕ) (recipe : Recipe) (others : List ℕ) (rest : List Recipe) → length others ≡ length rest → differing cloud recipe others rest ≡ None → All (λ (r : Recipe). SameLens recipe.items r.items) (recipe ∷ rest)
+same_lens cloud recipe others rest pairs same =
+    All-cons (λ (r : Recipe). SameLens recipe.items r.items) recipe rest (λ i. refl)
+    (All-weaker (λ (r : Recipe). difference recipe r ≡ None) (λ (r : Recipe). SameLens recipe.items r.items) (λ r e. (recipes_same recipe r e).lens) rest (none_differs cloud recipe others rest pairs same))
+
+-- of all the clouds: what is said of told ones
+pub agreed_told : {L : Type 0} (t : LinkTelling L) (shape : Shape) (user : UserId) (old new : L) (out out' : List ℕ) (res : Result (Unit {0}) RestoreErr) (clouds : List ℕ) (recipes : List Recipe)
+    → AgreedLeads t shape user old new out out' res clouds recipes → (tag : Tag) (version : Version)
+    → Leads t clouds old new (BatchCaused t old shape user (tag, version) clouds recipes res) (λ a b. Ready shape user (tag, version) clouds recipes a → Ends (agreed shape (givens a clouds recipes)) clouds res out out' a b)
+agreed_told t shape user old new out out' res clouds recipes leads tag version =
+    leads_to t clouds clouds old new (AgreedShown t old shape user (tag, version) clouds recipes res) (BatchCaused t old shape user (tag, version) clouds recipes res) _ _
+    (leads_whole t clouds old new (AgreedShown t old shape user (tag, version) clouds recipes res) _ (leads tag version (λ c. true)))
+    (λ x has. has) (λ a b one r known ready. shows_caused t old shape user (tag, version) res a b (r ready)) (λ a b one r. r)
+
+pub recipes_told : {L : Type 0} (t : LinkTelling L) (shape : Shape) (user : UserId) (key : Tag × Version) (clouds : List ℕ) (old new : L) (res : Result (List Recipe) RestoreErr)
+    → LeadsAny t clouds old new (λ these. RecipesShown (among these t) old shape user key clouds res) (RecipesTold shape user key clouds res)
+    → Leads t clouds old new (RecipesCaused t old shape user key clouds res) (RecipesTold shape user key clouds res)
+recipes_told t shape user key clouds old new res leads =
+    leads_to t clouds clouds old new (RecipesShown t old shape user key clouds res) (RecipesCaused t old shape user key clouds res) _ _
+    (leads_whole t clouds old new (RecipesShown t old shape user key clouds res) _ (leads (λ c. true)))
+    (λ x has. has) (λ a b one r known. by_result res a b r) (λ a b one r. r)
+  where
+    by_result : (r : Result (List Recipe) RestoreErr) (a b : ℕ → Peer) → RecipesShown t old shape user key clouds r a b → RecipesCaused t old shape user key clouds r a b
+    by_result (Ok recipes) a b k = k
+    by_result (Err e) a b k = shown_caused t old shape user key e a b k
+
 pub agreed_items : {L : Type 0} (t : LinkTelling L) (shape : Shape) (user : UserId) (cloud : ℕ) (recipe : Recipe) (others : List ℕ) (rest : List Recipe) (old new : L) (out out' : List ℕ) (res : Result (Unit {0}) RestoreErr) → length others ≡ length rest
     → differing cloud recipe others rest ≡ None
-    → ((tag : Tag) (version : Version) → Leads t (cloud ∷ others) old new (BatchCaused t old shape user (tag, version) (cloud ∷ others) (recipe ∷ rest) res) (λ a b. Ready shape user (tag, version) (cloud ∷ others) (recipe ∷ rest) a
+    → ((tag : Tag) (version : Version) → LeadsAny t (cloud ∷ others) old new (λ these. BatchShown (among these t) old shape user (tag, version) (cloud ∷ others) recipe.items (recipe ∷ rest) res) (λ a b. Ready shape user (tag, version) (cloud ∷ others) (recipe ∷ rest) a
     → Ends (items_opened shape recipe.items (givens a (cloud ∷ others) (recipe ∷ rest))) (cloud ∷ others) res out out' a b))
     → AgreedLeads t shape user old new out out' res (cloud ∷ others) (recipe ∷ rest)
-agreed_items t shape user cloud recipe others rest old new out out' res pairs same items tag version =
-    leads_to t (cloud ∷ others) (cloud ∷ others) old new _ _ _ _ (items tag version) (λ x has. has) (λ a b one r known. r)
+agreed_items t shape user cloud recipe others rest old new out out' res pairs same items tag version these =
+    leads_to (among these t) (cloud ∷ others) (cloud ∷ others) old new _ _ _ _ (items tag version these) (λ x has. has) (λ a b one r known ready. r ready (same_lens cloud recipe others rest pairs same))
     (λ a b one r ready.
     let all = givens a (cloud ∷ others) (recipe ∷ rest) in
     subst (λ (o : Result (List ℕ) Unrestored). Ends o (cloud ∷ others) res out out' a b) (sym (agreed_over shape cloud recipe others rest a pairs ∙ ap (λ (o : Option Unrestored). unless o (items_opened shape recipe.items all)) same)) (r ready))
 
 pub agreed_unmade : {L : Type 0} (t : LinkTelling L) (shape : Shape) (user : UserId) (clouds : List ℕ) (recipes : List Recipe) (link : L) (out : List ℕ) → AgreedLeads t shape user link link out out (Err errors.NoMemory) clouds recipes
-agreed_unmade t shape user clouds recipes link out tag version = leads_none t clouds link _ _ (λ a ready. tt) (λ a ready. tt)
+agreed_unmade t shape user clouds recipes link out tag version these = leads_none (among these t) clouds link _ _ (λ a ready. tt) (λ a ready. tt)
 
 -- ---- all of it
 
@@ -440,21 +472,23 @@ then_ends shape user key clouds recipes res out out' a b d read are first may en
     go (Err (errors.BadShare c secret named found)) ends = absurd ends
 
 pub all_restored : {L : Type 0} (t : LinkTelling L) (shape : Shape) (user : UserId) (tag : Tag) (version : Version) (clouds : List ℕ) (recipes : List Recipe) (old mid new : L) (res : Result (Unit {0}) RestoreErr) (out out' : List ℕ)
-    → Leads t clouds old mid (RecipesCaused t old shape user (tag, version) clouds (Ok recipes)) (RecipesTold shape user (tag, version) clouds (Ok recipes)) → t.told mid ≡ t.told old → AgreedLeads t shape user mid new out out' res clouds recipes
-    → Leads t clouds old new (Causes t old shape user (tag, version) res) (Restores shape user (tag, version) clouds res out out')
-all_restored t shape user tag version clouds recipes old mid new res out out' first same second =
-    leads_on t clouds clouds clouds old mid new _ _ _ _ _ _ first same (second tag version) (λ x has. has) (λ x has. has)
-    (λ a b d one two r s. causes_on t old mid shape user (tag, version) res a b d same one.read (s (ready_on t old mid shape user (tag, version) clouds recipes b b same (λ x. may_stay (b x)) r)))
+    → LeadsAny t clouds old mid (λ these. RecipesShown (among these t) old shape user (tag, version) clouds (Ok recipes)) (RecipesTold shape user (tag, version) clouds (Ok recipes)) → t.told mid ≡ t.told old → AgreedLeads t shape user mid new out out' res clouds recipes
+    → LeadsAny t clouds old new (λ these. Shows (among these t) old shape user (tag, version) res) (Restores shape user (tag, version) clouds res out out')
+all_restored t shape user tag version clouds recipes old mid new res out out' first same second these =
+    let tells = among these t in
+    let told = told_among t these old mid same in
+    leads_on tells clouds clouds clouds old mid new _ _ _ _ _ _ (first these) told (second tag version these) (λ x has. has) (λ x has. has)
+    (λ a b d one two r s. causes_on tells old mid shape user (tag, version) res a b d told one.read (s (ready_on tells old mid shape user (tag, version) clouds recipes b b told (λ x. may_stay (b x)) r)))
     (λ a b d one two r s.
     then_ends shape user (tag, version) clouds recipes res out out' a b d r.0 r.1 one.read two.read
     (s (record { recipes_are = r.1; settled = λ x has. (r.0 x has).0.pending })))
 
 pub first_refused : {L : Type 0} (t : LinkTelling L) (shape : Shape) (user : UserId) (key : Tag × Version) (clouds : List ℕ) (old new : L) (e : RestoreErr) (out : List ℕ)
-    → Leads t clouds old new (RecipesCaused t old shape user key clouds (Err e)) (RecipesTold shape user key clouds (Err e)) → Leads t clouds old new (Causes t old shape user key (Err e)) (Restores shape user key clouds (Err e) out out)
-first_refused t shape user key clouds old new e out first = leads_to t clouds clouds old new _ _ _ _ first (λ x has. has) (λ a b one r known. r) (λ a b one r. first_ends shape user key clouds e out a b r)
+    → LeadsAny t clouds old new (λ these. RecipesShown (among these t) old shape user key clouds (Err e)) (RecipesTold shape user key clouds (Err e)) → LeadsAny t clouds old new (λ these. Shows (among these t) old shape user key (Err e)) (Restores shape user key clouds (Err e) out out)
+first_refused t shape user key clouds old new e out first these = leads_to (among these t) clouds clouds old new _ _ _ _ (first these) (λ x has. has) (λ a b one r known. r) (λ a b one r. first_ends shape user key clouds e out a b r)
 
-pub not_begun : {L : Type 0} (t : LinkTelling L) (shape : Shape) (user : UserId) (key : Tag × Version) (clouds : List ℕ) (link : L) (out : List ℕ) → Leads t clouds link link (Causes t link shape user key (Err errors.NoMemory)) (Restores shape user key clouds (Err errors.NoMemory) out out)
-not_begun t shape user key clouds link out = leads_none t clouds link _ _ (λ a. tt) (λ a. record { ends = tt; read = tt })
+pub not_begun : {L : Type 0} (t : LinkTelling L) (shape : Shape) (user : UserId) (key : Tag × Version) (clouds : List ℕ) (link : L) (out : List ℕ) → LeadsAny t clouds link link (λ these. Shows (among these t) link shape user key (Err errors.NoMemory)) (Restores shape user key clouds (Err errors.NoMemory) out out)
+not_begun t shape user key clouds link out these = leads_none (among these t) clouds link _ _ (λ a. tt) (λ a. record { ends = tt; read = tt })
 
 -- an error leaves what stands in front
 pub cut_back : (shape : Shape) (user : UserId) (key : Tag × Version) (clouds : List ℕ) (e : RestoreErr) (out between cut : List ℕ) (a b : ℕ → Peer) → Restores shape user key clouds (Err e) out between a b → Restores shape user key clouds (Err e) out cut a b
@@ -498,7 +532,7 @@ fits_few shape r fits = leb-true _ _ (and_parts (leb (length r.items) 32768) _ f
 
 abbrev pub ItemsLeads : {L : Type 0} → LinkTelling L → Shape → UserId → L → L → List ℕ → List ℕ → Result (Unit {0}) RestoreErr → List ℕ → List Recipe → List Item → Type 0
 ItemsLeads t shape user old new out out' res clouds recipes firsts =
-    (tag : Tag) (version : Version) → Leads t clouds old new (BatchCaused t old shape user (tag, version) clouds recipes res) (λ a b. Ready shape user (tag, version) clouds recipes a → Ends (items_opened shape firsts (givens a clouds recipes)) clouds res out out' a b)
+    (tag : Tag) (version : Version) → LeadsAny t clouds old new (λ these. BatchShown (among these t) old shape user (tag, version) clouds firsts recipes res) (λ a b. Ready shape user (tag, version) clouds recipes a → Ends (items_opened shape firsts (givens a clouds recipes)) clouds res out out' a b)
 
 pub items_as : {L : Type 0} (t : LinkTelling L) (shape : Shape) (user : UserId) (old new : L) (out out' : List ℕ) (res : Result (Unit {0}) RestoreErr) (clouds clouds' : List ℕ) (recipes recipes' : List Recipe) (firsts firsts' : List Item)
     → clouds' ≡ clouds → recipes' ≡ recipes → firsts' ≡ firsts → ItemsLeads t shape user old new out out' res clouds' recipes' firsts' → ItemsLeads t shape user old new out out' res clouds recipes firsts

@@ -1,5 +1,5 @@
 -- One reading after another.
-use Rattle.std.proofs.Common.{◌≡◌, ◌⊎◌, ℕ, ◌≤◌, Bool, true, false, cond, List, [], ◌∷◌, ◌++◌, Option, None, refl, sym, ap, ◌∙◌, subst, arith, inl, inr, eq-eqb}
+use Rattle.std.proofs.Common.{◌≡◌, ◌⊎◌, ℕ, ◌≤◌, Bool, true, false, ◌&&◌, cond, List, [], ◌∷◌, ◌++◌, Option, None, refl, sym, ap, ◌∙◌, subst, arith, inl, inr, eq-eqb}
 use Rattle.std.specs.Prelude.{IsTrue, IsSomeAnd, ◌==◌}
 use Rattle.std.specs.List.{Contains}
 use Rattle.std.proofs.lemmas.Bool.{cases_eq, ne_eqb}
@@ -8,7 +8,7 @@ use Rattle.user_dedup.specs.declared.command.Command.{Command}
 use Rattle.user_dedup.specs.Exec.{Peer, MaySettleAs, Settles, Stays, CountsOn}
 use Rattle.user_dedup.specs.Link.{LinkTelling, LeavesOthers, Exchange, Passes, IsReading, ReadsFrom}
 use Rattle.user_dedup.proofs.Owned.{contains_here, contains_cases, contains_nothing}
-use Rattle.restore_job.specs.Asking.{PeersOf, TellsAll, Reads, MayRead, ReadFails, OnlyRead, Leads, Asked}
+use Rattle.restore_job.specs.Asking.{PeersOf, TellsAll, Reads, MayRead, ReadFails, OnlyRead, Leads, Asked, among}
 
 -- ---- one cloud
 
@@ -151,6 +151,50 @@ one_step {L} t cloud old new B P reached others moves these all before peers =
     may_place : (q : Peer) → MayRead (before cloud) q → (x : ℕ) → (x ≡ cloud) ⊎ (x ≡ cloud → ⊥) → MayRead (before x) (put before cloud q x)
     may_place q may x (inl e) = subst (λ (y : ℕ). MayRead (before y) (put before cloud q y)) (sym e) (subst (MayRead (before cloud)) (sym (put_here before cloud q)) may)
     may_place q may x (inr ne) = subst (MayRead (before x)) (sym (put_other before cloud q x ne)) (may_stay (before x))
+
+-- ---- of some clouds alone
+
+pub and_both : (a b : Bool) → IsTrue (a && b) → IsTrue a × IsTrue b
+and_both true b h = (refl, h)
+and_both false b h = absurd (let f : false ≡ true = h in cc)
+
+pub told_among : {L : Type 0} (t : LinkTelling L) (these : ℕ → Bool) (old new : L) → t.told new ≡ t.told old → (among these t).told new ≡ (among these t).told old
+told_among t these old new same = λ i cloud. these cloud && same i cloud
+
+others_among : {L : Type 0} (t : LinkTelling L) (these : ℕ → Bool) (cloud : ℕ) (old new : L) → LeavesOthers t cloud old new → LeavesOthers (among these t) cloud old new
+others_among t these cloud old new others = record {
+  stands = λ other p ne stands one. others.stands other p ne (stands one);
+  reaches = others.reaches;
+  shape = others.shape;
+  told = told_among t these old new others.told;
+  full = others.full;
+}
+
+-- one of these goes on as it does, and another in any way
+moves_among : {L : Type 0} (t : LinkTelling L) (these : ℕ → Bool) (cloud : ℕ) (old new : L) (B P : Peer → Peer → Type 0)
+    → Moves t cloud old new B P → ((p : Peer) → (q : Peer) × MayRead p q × B p q) → Moves (among these t) cloud old new B P
+moves_among t these cloud old new B P moves another p stands = go (these cloud) refl
+  where
+    go : (b : Bool) → these cloud ≡ b → (q : Peer) × (IsTrue (these cloud) → t.stands new cloud q) × MayRead p q × B p q × (IsTrue (these cloud && t.told old cloud) → P p q)
+    go true is =
+        let m = moves p (stands is) in
+        (m.0, (λ one. m.1), m.2, m.3, λ told. m.4 (and_both (these cloud) (t.told old cloud) told).1)
+    go false is =
+        let m = another p in
+        let never : IsTrue (these cloud) → ⊥ = λ one. (let f : false ≡ true = sym is ∙ one in cc) in
+        (m.0, (λ one. absurd (never one)), m.1, m.2, λ told. absurd (never (and_both (these cloud) (t.told old cloud) told).0))
+
+pub step_among : {L : Type 0} (t : LinkTelling L) (these : ℕ → Bool) (cloud : ℕ) (old new : L) (B P : Peer → Peer → Type 0) → IsTrue (t.reaches old cloud)
+    → LeavesOthers t cloud old new → Moves t cloud old new B P → ((p : Peer) → (q : Peer) × MayRead p q × B p q)
+    → Leads (among these t) (cloud ∷ []) old new (λ a b. B (a cloud) (b cloud)) (λ a b. P (a cloud) (b cloud))
+step_among t these cloud old new B P reached others moves another =
+    one_step (among these t) cloud old new B P reached (others_among t these cloud old new others) (moves_among t these cloud old new B P moves another)
+
+-- of all clouds
+pub leads_whole : {L : Type 0} (t : LinkTelling L) (clouds : List ℕ) (old new : L) (A R : (ℕ → Peer) → (ℕ → Peer) → Type 0) → Leads (among (λ c. true) t) clouds old new A R → Leads t clouds old new A R
+leads_whole t clouds old new A R first these all before peers =
+    let x = first these all before (λ c one yes. peers c one) in
+    (x.0, (λ c one. x.1 c one refl), x.2, x.3, λ told. x.4 (λ c has. told c has))
 
 -- ---- what the link tells beside its clouds
 

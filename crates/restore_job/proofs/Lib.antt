@@ -4,6 +4,7 @@ pub mod Causing
 pub mod Bringing
 pub mod Held
 pub mod Taking
+pub mod Wrong
 pub mod Asks
 pub mod Sharing
 pub mod Batches

@@ -24,15 +24,15 @@ use Rattle.user_dedup.specs.declared.command.Command.{Command}
 use Rattle.user_dedup.specs.Owning.{fps_in}
 use Rattle.user_dedup.specs.Exec.{Peer}
 use Rattle.user_dedup.specs.Link.{LinkTelling, Asks, LeavesOthers, TellsSound}
-use Rattle.restore_job.specs.Asking.{ReadFails, Leads}
+use Rattle.restore_job.specs.Asking.{ReadFails, LeadsAny, among}
 use Rattle.restore_job.specs.Refusals.{Names}
 use Rattle.restore_job.specs.Restored
 use Rattle.restore_job.specs.Restored.{Unrestored, Given, no_item, item_of, string_at, or_else, wrong_string, wrong_strings}
-use Rattle.restore_job.specs.Steps.{Takes, SharesTold, SharesCaused, Refuses, NoShares, ReadyAt, given_of, room_of}
+use Rattle.restore_job.specs.Steps.{Takes, SharesTold, SharesShown, Refuses, NoShares, ReadyAt, given_of, room_of}
 use Rattle.restore_job.specs.declared.error.RestoreErr.{RestoreErr}
 use Rattle.restore_job.specs.declared.error.RestoreErr.TheVariants as errors
-use Rattle.restore_job.proofs.Leading.{one_step, leads_none}
-use Rattle.restore_job.proofs.Causing.{FaultRose, takes_names, takes_rose, shares_names, shares_rose, shares_caused}
+use Rattle.restore_job.proofs.Leading.{step_among, leads_none}
+use Rattle.restore_job.proofs.Causing.{FaultRose, takes_names, takes_rose, shares_names, shares_rose, shares_caused, fault_any}
 use Rattle.restore_job.proofs.Held.{good, held_in, AreHeld, shares_moves, lost_moves, refused, error_is}
 
 -- ---- the items of a batch
@@ -200,15 +200,15 @@ pub shares_taken : {L : Type 0} (t : LinkTelling L) (shape : Shape) (user : User
     → t.shape old ≡ shape → TellsSound t old → IsTrue (t.reaches old cloud.0) → LeavesOthers t cloud.0 old new → AreBytes content → place + n ≤ length recipe.items
     → Asks {E = RestoreErr} t cloud.0 old (requests.GetShares user (fps_in (part place n recipe.items))) content (Ok tt) new
     → reply_at content ≡ Ok (replies.Shares shares) → Takes shape cloud firsts recipe.items place n shares rooms filled res
-    → Leads t (cloud.0 ∷ []) old new (SharesCaused t old shape user key cloud.0 recipe res)
+    → LeadsAny t (cloud.0 ∷ []) old new (λ these. SharesShown (among these t) old shape user key cloud.0 firsts recipe res)
     (λ a b. ReadyAt shape user key recipe (a cloud.0) → SharesTold shape cloud firsts (given_of (a cloud.0) cloud.0 recipe) place n res rooms filled (a cloud.0) (b cloud.0))
-shares_taken t shape user key cloud firsts recipe place n old new content shares rooms filled res same sound reached others bytes fits asks read takes =
-    shares_caused t shape user key cloud firsts recipe place n old new rooms filled res (names res takes)
-    (one_step t cloud.0 old new (FaultRose res) (λ p q. ReadyAt shape user key recipe p → Told shape user key cloud firsts recipe place n res rooms filled p q) reached others
+shares_taken t shape user key cloud firsts recipe place n old new content shares rooms filled res same sound reached others bytes fits asks read takes these =
+    shares_caused (among these t) shape user key cloud firsts recipe place n old new rooms filled res (names res takes) fits
+    (step_among t these cloud.0 old new (FaultRose res) (λ p q. ReadyAt shape user key recipe p → Told shape user key cloud firsts recipe place n res rooms filled p q) reached others
     (shares_moves t shape user key recipe cloud old new content (fps_in (part place n recipe.items)) (FaultRose res) (Told shape user key cloud firsts recipe place n res rooms filled) same sound bytes asks (part_owned place n recipe.items fits)
     (λ p q rose. takes_rose shape cloud firsts recipe.items place n shares rooms filled res p q takes)
     (λ p q at held. takes_told shape cloud firsts recipe place n shares rooms filled res p q fits (shares_same shares (map (held_in p.list) (fps_in (part place n recipe.items))) (sym read ∙ at)) held takes)
-    (λ p q fails at. absurd (let f : good (replies.Shares shares) ≡ good replies.Fault = sym read ∙ at in cc))))
+    (λ p q fails at. absurd (let f : good (replies.Shares shares) ≡ good replies.Fault = sym read ∙ at in cc))) (fault_any res))
   where
     names : (r : Result (Unit {0}) RestoreErr) → Takes shape cloud firsts recipe.items place n shares rooms filled r → IfErr r (Names (λ c. c ≡ cloud.0))
     names (Ok u) takes = tt
@@ -219,33 +219,34 @@ pub shares_unread : {L : Type 0} (t : LinkTelling L) (shape : Shape) (user : Use
     → t.shape old ≡ shape → TellsSound t old → IsTrue (t.reaches old cloud.0) → LeavesOthers t cloud.0 old new → AreBytes content → place + n ≤ length recipe.items
     → Asks {E = RestoreErr} t cloud.0 old (requests.GetShares user (fps_in (part place n recipe.items))) content (Ok tt) new
     → Refuses cloud (reply_at content) (NoShares n) e
-    → Leads t (cloud.0 ∷ []) old new (SharesCaused t old shape user key cloud.0 recipe (Err e))
+    → LeadsAny t (cloud.0 ∷ []) old new (λ these. SharesShown (among these t) old shape user key cloud.0 firsts recipe (Err e))
     (λ a b. ReadyAt shape user key recipe (a cloud.0) → SharesTold shape cloud firsts (given_of (a cloud.0) cloud.0 recipe) place n (Err e) rooms filled (a cloud.0) (b cloud.0))
-shares_unread t shape user key cloud firsts recipe place n old new content rooms filled e same sound reached others bytes fits asks refuses =
+shares_unread t shape user key cloud firsts recipe place n old new content rooms filled e same sound reached others bytes fits asks refuses these =
     let fps = fps_in (part place n recipe.items) in
     let long : length fps ≡ n = length-map (part place n recipe.items) (λ (item : Item). item.fp) ∙ part_long place n recipe.items fits in
-    shares_caused t shape user key cloud firsts recipe place n old new rooms filled (Err e) (shares_names cloud (reply_at content) (NoShares n) e refuses)
-    (one_step t cloud.0 old new (FaultRose {A = Unit {0}} (Err e)) (λ p q. ReadyAt shape user key recipe p → Told shape user key cloud firsts recipe place n (Err e) rooms filled p q) reached others
+    shares_caused (among these t) shape user key cloud firsts recipe place n old new rooms filled (Err e) (shares_names cloud (reply_at content) (NoShares n) e refuses) fits
+    (step_among t these cloud.0 old new (FaultRose {A = Unit {0}} (Err e)) (λ p q. ReadyAt shape user key recipe p → Told shape user key cloud firsts recipe place n (Err e) rooms filled p q) reached others
     (shares_moves t shape user key recipe cloud old new content fps (FaultRose {A = Unit {0}} (Err e)) (Told shape user key cloud firsts recipe place n (Err e) rooms filled) same sound bytes asks (part_owned place n recipe.items fits)
     (λ p q rose. shares_rose cloud (reply_at content) (NoShares n) e p q refuses rose)
     (λ p q at held. shares_refused shape cloud firsts (given_of p cloud.0 recipe) place n e (map (held_in p.list) fps) rooms filled p q (length-map fps (held_in p.list) ∙ long) (subst (λ (x : Result Reply ℕ). Refuses cloud x (NoShares n) e) at refuses))
-    (λ p q fails at. shares_failed shape cloud firsts (given_of p cloud.0 recipe) place n e rooms filled p q fails (subst (λ (x : Result Reply ℕ). Refuses cloud x (NoShares n) e) at refuses))))
+    (λ p q fails at. shares_failed shape cloud firsts (given_of p cloud.0 recipe) place n e rooms filled p q fails (subst (λ (x : Result Reply ℕ). Refuses cloud x (NoShares n) e) at refuses)))
+    (fault_any {A = Unit {0}} (Err e)))
 
 pub shares_lost : {L : Type 0} (t : LinkTelling L) (shape : Shape) (user : UserId) (key : Tag × Version) (cloud : CloudNo) (firsts : List Item) (recipe : Recipe) (place n : ℕ)
     (old new : L) (content : List ℕ) (rooms filled : List (List ℕ)) (e : RestoreErr)
-    → IsTrue (t.reaches old cloud.0) → LeavesOthers t cloud.0 old new
+    → IsTrue (t.reaches old cloud.0) → LeavesOthers t cloud.0 old new → place + n ≤ length recipe.items
     → Asks t cloud.0 old (requests.GetShares user (fps_in (part place n recipe.items))) content (Err e) new
     → refused {A = Unit {0}} e ≡ Err (errors.Lost cloud)
-    → Leads t (cloud.0 ∷ []) old new (SharesCaused t old shape user key cloud.0 recipe (Err e))
+    → LeadsAny t (cloud.0 ∷ []) old new (λ these. SharesShown (among these t) old shape user key cloud.0 firsts recipe (Err e))
     (λ a b. ReadyAt shape user key recipe (a cloud.0) → SharesTold shape cloud firsts (given_of (a cloud.0) cloud.0 recipe) place n (Err e) rooms filled (a cloud.0) (b cloud.0))
-shares_lost t shape user key cloud firsts recipe place n old new content rooms filled e reached others asks lost =
+shares_lost t shape user key cloud firsts recipe place n old new content rooms filled e reached others fits asks lost these =
     let is : e ≡ errors.Lost cloud = error_is e (errors.Lost cloud) lost in
-    shares_caused t shape user key cloud firsts recipe place n old new rooms filled (Err e) (subst (Names (λ c. c ≡ cloud.0)) (sym is) refl)
-    (one_step t cloud.0 old new (FaultRose {A = Unit {0}} (Err e)) (λ p q. ReadyAt shape user key recipe p → Told shape user key cloud firsts recipe place n (Err e) rooms filled p q) reached others
+    shares_caused (among these t) shape user key cloud firsts recipe place n old new rooms filled (Err e) (subst (Names (λ c. c ≡ cloud.0)) (sym is) refl) fits
+    (step_among t these cloud.0 old new (FaultRose {A = Unit {0}} (Err e)) (λ p q. ReadyAt shape user key recipe p → Told shape user key cloud firsts recipe place n (Err e) rooms filled p q) reached others
     (lost_moves t cloud.0 old new (requests.GetShares user (fps_in (part place n recipe.items))) content e (FaultRose {A = Unit {0}} (Err e)) (λ p q. ReadyAt shape user key recipe p → Told shape user key cloud firsts recipe place n (Err e) rooms filled p q) (λ list. refl) asks
     (λ p q. subst (λ (x : RestoreErr). FaultRose {A = Unit {0}} (Err x) p q) (sym is) tt)
-    (λ p q ready. subst (λ (x : RestoreErr). SharesTold shape cloud firsts (given_of p cloud.0 recipe) place n (Err x) rooms filled p q) (sym is) refl)))
+    (λ p q ready. subst (λ (x : RestoreErr). SharesTold shape cloud firsts (given_of p cloud.0 recipe) place n (Err x) rooms filled p q) (sym is) refl)) (fault_any {A = Unit {0}} (Err e)))
 
 pub shares_unasked : {L : Type 0} (t : LinkTelling L) (shape : Shape) (user : UserId) (key : Tag × Version) (cloud : CloudNo) (firsts : List Item) (recipe : Recipe) (place n : ℕ) (link : L) (rooms filled : List (List ℕ))
-    → Leads t (cloud.0 ∷ []) link link (SharesCaused t link shape user key cloud.0 recipe (Err errors.NoMemory)) (λ a b. ReadyAt shape user key recipe (a cloud.0) → SharesTold shape cloud firsts (given_of (a cloud.0) cloud.0 recipe) place n (Err errors.NoMemory) rooms filled (a cloud.0) (b cloud.0))
-shares_unasked t shape user key cloud firsts recipe place n link rooms filled = leads_none t (cloud.0 ∷ []) link _ _ (λ a ready. tt) (λ a ready. tt)
+    → LeadsAny t (cloud.0 ∷ []) link link (λ these. SharesShown (among these t) link shape user key cloud.0 firsts recipe (Err errors.NoMemory)) (λ a b. ReadyAt shape user key recipe (a cloud.0) → SharesTold shape cloud firsts (given_of (a cloud.0) cloud.0 recipe) place n (Err errors.NoMemory) rooms filled (a cloud.0) (b cloud.0))
+shares_unasked t shape user key cloud firsts recipe place n link rooms filled these = leads_none (among these t) (cloud.0 ∷ []) link _ _ (λ a ready alike. tt) (λ a ready. tt)

@@ -1,5 +1,5 @@
 -- What reading does to the clouds of a link.
-use Rattle.std.specs.Prelude.{◌≡◌, ◌≢◌, ℕ, ◌≤◌, ◌⊎◌, Bool, true, false, IsTrue, List, [], ◌∷◌, ◌++◌, Some, Result, Ok, Err}
+use Rattle.std.specs.Prelude.{◌≡◌, ◌≢◌, ℕ, ◌≤◌, ◌⊎◌, ◌&&◌, Bool, true, false, IsTrue, List, [], ◌∷◌, ◌++◌, Some, Result, Ok, Err}
 use Rattle.std.specs.List.{Contains}
 use Rattle.cd_edges.specs.Causes.{Rose}
 use Rattle.messages.specs.ReplyReading.{reply_at}
@@ -40,6 +40,23 @@ Leads t clouds old new Always Related =
     (these : ℕ → Bool) → ((cloud : ℕ) → Contains clouds cloud → IsTrue (these cloud)) → (before : ℕ → Peer) → PeersOf t old these before
     → (after : ℕ → Peer) × PeersOf t new these after × OnlyRead clouds before after × Always before after
     × (TellsAll t old clouds → Related before after)
+
+-- What a link tells of some clouds alone: of the others it tells no lists, and they may stand for anything.
+abbrev pub among : {L : Type 0} → (ℕ → Bool) → LinkTelling L → LinkTelling L
+among {L} these t = record {
+  reaches = t.reaches;
+  shape = t.shape;
+  told = λ (link : L) cloud. these cloud && t.told link cloud;
+  stands = λ (link : L) cloud p. IsTrue (these cloud) → t.stands link cloud p;
+  full = t.full;
+  losses = t.losses;
+  lossless = t.lossless;
+  passes = t.passes;
+}
+
+-- So of any clouds, whatever the others stand for, and if they stand for nothing. What is always related may hang on which these are.
+abbrev pub LeadsAny : {L : Type 0} → LinkTelling L → List ℕ → L → L → ((ℕ → Bool) → (ℕ → Peer) → (ℕ → Peer) → Type 0) → ((ℕ → Peer) → (ℕ → Peer) → Type 0) → Type 0
+LeadsAny t clouds old new Always Related = (these : ℕ → Bool) → Leads (among these t) clouds old new (Always these) Related
 
 -- these were read
 abbrev pub AreRead : List ℕ → (ℕ → Peer) → (ℕ → Peer) → Type 0

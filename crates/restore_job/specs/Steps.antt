@@ -1,5 +1,5 @@
 -- What the steps of a restore leave.
-use Rattle.std.specs.Prelude.{◌≡◌, ◌≢◌, ℕ, ◌+◌, ◌<◌, ◌≤◌, ◌⊎◌, List, [], ◌∷◌, ◌++◌, length, map, slice_index_or, Option, Some, None, unwrap_or, Result, Ok, Err, IsTrue}
+use Rattle.std.specs.Prelude.{◌≡◌, ◌≢◌, ℕ, ◌+◌, ◌<◌, ◌≤◌, ◌⊎◌, List, [], ◌∷◌, ◌++◌, length, map, slice_index_or, Option, Some, None, unwrap_or, Result, Ok, Err, All, IsTrue}
 use Rattle.std.specs.List.{Contains, flat_map}
 use Rattle.sha2.specs.Sha256.{sha256 as sha256_of}
 use Rattle.cd_base.specs.Lengths.{share_len_of}
@@ -20,7 +20,7 @@ use Rattle.user_dedup.specs.Cloud.{held_string}
 use Rattle.user_dedup.specs.Exec.{Peer}
 use Rattle.user_dedup.specs.Link.{LinkTelling}
 use Rattle.restore_job.specs.Asking.{Reads, ReadFails, AreRead, StoppedAt}
-use Rattle.restore_job.specs.Refusals.{Caused, Causes}
+use Rattle.restore_job.specs.Refusals.{Caused, Causes, Shown, Shows}
 use Rattle.restore_job.specs.Restored
 use Rattle.restore_job.specs.Restored.{Unrestored, Given, no_item, item_of, string_at, recipe_in, missing, wrong_strings, wrong_length, differing}
 use Rattle.restore_job.specs.declared.error.RestoreErr.{RestoreErr}
@@ -144,24 +144,41 @@ ReadyWhere t link shape user key (cloud ∷ clouds) (recipe ∷ recipes) peers =
     (IsTrue (t.told link cloud) → ReadyAt shape user key recipe (peers cloud)) × ReadyWhere t link shape user key clouds recipes peers
 
 -- what asking a cloud for a recipe leaves, told or not
-abbrev pub RecipeCaused : {L : Type 0} → LinkTelling L → L → Shape → UserId → Tag × Version → ℕ → Result Recipe RestoreErr → (ℕ → Peer) → (ℕ → Peer) → Type 0
-RecipeCaused t link shape user key cloud (Ok recipe) before after = IsTrue (t.told link cloud) → ReadyAt shape user key recipe (after cloud)
-RecipeCaused t link shape user key cloud (Err e) before after = Caused t link shape user key e before after
+abbrev pub RecipeShown : {L : Type 0} → LinkTelling L → L → Shape → UserId → Tag × Version → ℕ → Result Recipe RestoreErr → (ℕ → Peer) → (ℕ → Peer) → Type 0
+RecipeShown t link shape user key cloud (Ok recipe) before after = IsTrue (t.told link cloud) → ReadyAt shape user key recipe (after cloud)
+RecipeShown t link shape user key cloud (Err e) before after = Shown t link shape user key e before after
 
 -- what asking clouds for recipes leaves, told or not
 abbrev pub RecipesCaused : {L : Type 0} → LinkTelling L → L → Shape → UserId → Tag × Version → List ℕ → Result (List Recipe) RestoreErr → (ℕ → Peer) → (ℕ → Peer) → Type 0
 RecipesCaused t link shape user key clouds (Ok recipes) before after = ReadyWhere t link shape user key clouds recipes after
 RecipesCaused t link shape user key clouds (Err e) before after = Caused t link shape user key e before after
 
+abbrev pub RecipesShown : {L : Type 0} → LinkTelling L → L → Shape → UserId → Tag × Version → List ℕ → Result (List Recipe) RestoreErr → (ℕ → Peer) → (ℕ → Peer) → Type 0
+RecipesShown t link shape user key clouds (Ok recipes) before after = ReadyWhere t link shape user key clouds recipes after
+RecipesShown t link shape user key clouds (Err e) before after = Shown t link shape user key e before after
+
+-- the secrets have the same lengths in both
+abbrev pub SameLens : List Item → List Item → Type 0
+SameLens one other = (i : ℕ) → (item_of one i).secret_len ≡ (item_of other i).secret_len
+
 -- what asking a cloud for shares leaves, told or not
-abbrev pub SharesCaused : {L : Type 0} → LinkTelling L → L → Shape → UserId → Tag × Version → ℕ → Recipe → Result (Unit {0}) RestoreErr → (ℕ → Peer) → (ℕ → Peer) → Type 0
-SharesCaused t link shape user key cloud recipe result before after =
-    (IsTrue (t.told link cloud) → ReadyAt shape user key recipe (before cloud)) → Causes t link shape user key result before after
+abbrev pub SharesShown : {L : Type 0} → LinkTelling L → L → Shape → UserId → Tag × Version → ℕ → List Item → Recipe → Result (Unit {0}) RestoreErr → (ℕ → Peer) → (ℕ → Peer) → Type 0
+SharesShown t link shape user key cloud firsts recipe result before after =
+    (IsTrue (t.told link cloud) → ReadyAt shape user key recipe (before cloud)) → SameLens firsts recipe.items → Shows t link shape user key result before after
 
 -- what going on with these recipes leaves, told or not
 abbrev pub BatchCaused : {L : Type 0} → LinkTelling L → L → Shape → UserId → Tag × Version → List ℕ → List Recipe → Result (Unit {0}) RestoreErr → (ℕ → Peer) → (ℕ → Peer) → Type 0
 BatchCaused t link shape user key clouds recipes result before after =
     ReadyWhere t link shape user key clouds recipes before → Causes t link shape user key result before after
+
+-- the same where the secrets have these lengths in each recipe
+abbrev pub BatchShown : {L : Type 0} → LinkTelling L → L → Shape → UserId → Tag × Version → List ℕ → List Item → List Recipe → Result (Unit {0}) RestoreErr → (ℕ → Peer) → (ℕ → Peer) → Type 0
+BatchShown t link shape user key clouds firsts recipes result before after =
+    ReadyWhere t link shape user key clouds recipes before → All (λ (recipe : Recipe). SameLens firsts recipe.items) recipes → Shows t link shape user key result before after
+
+abbrev pub AgreedShown : {L : Type 0} → LinkTelling L → L → Shape → UserId → Tag × Version → List ℕ → List Recipe → Result (Unit {0}) RestoreErr → (ℕ → Peer) → (ℕ → Peer) → Type 0
+AgreedShown t link shape user key clouds recipes result before after =
+    ReadyWhere t link shape user key clouds recipes before → Shows t link shape user key result before after
 
 -- what a cloud with this list gives
 abbrev pub given_of : Peer → ℕ → Recipe → Given

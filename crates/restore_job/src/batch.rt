@@ -8,13 +8,13 @@ ghost use Rattle.cd_base.specs.declared.ids.Version.{Version};
 ghost use Rattle.message_fields.specs.Fingerprints.{batch_limit};
 ghost use Rattle.recipe.specs.Spelling.{item_limit};
 ghost use Rattle.reed_solomon.specs.Dispersal.{AreChoice};
-ghost use Rattle.restore_job.specs.Asking.{Asked, Leads, Readable, is_lost};
+ghost use Rattle.restore_job.specs.Asking.{Asked, LeadsAny, Readable, among, is_lost};
 ghost use Rattle.restore_job.specs.Reading.{Ends};
 ghost use Rattle.restore_job.specs.Brought.{AreSecrets, Extends};
 ghost use Rattle.restore_job.specs.Exchanges.{BatchRun, Exchange, HasSpoken, ItemsRun, LostSaid, Unlost};
 ghost use Rattle.restore_job.specs.Refusals.{Names};
 ghost use Rattle.restore_job.specs.Restored.{batch_opened, items_opened};
-ghost use Rattle.restore_job.specs.Steps.{AreItemsAt, BatchCaused, Grows, Ready, givens};
+ghost use Rattle.restore_job.specs.Steps.{AreItemsAt, BatchShown, Grows, Ready, givens};
 
 use crate::RestoreErr;
 use crate::fetching::fetch_batch;
@@ -69,8 +69,9 @@ fn restore_batch<L: Link>(
     requires room { count ≤ length rooms.old }
     ensures asked { Asked L.tells (numbers_of clouds.now) link.old link.new (is_lost result) }
     ensures told { (tag : Tag) (version : Version)
-        → Leads L.tells (numbers_of clouds.now) link.old link.new
-        (BatchCaused L.tells link.old shape user (tag, version) (numbers_of clouds.now) recipes.now result)
+        → LeadsAny L.tells (numbers_of clouds.now) link.old link.new
+        (λ these. BatchShown (among these L.tells) link.old shape user (tag, version) (numbers_of clouds.now) firsts.now
+        recipes.now result)
         (λ before after.
         Ready shape user (tag, version) (numbers_of clouds.now) recipes.now before
         → Ends (batch_opened shape firsts.now (givens before (numbers_of clouds.now) recipes.now) place count)
@@ -121,8 +122,9 @@ pub fn restore_items<L: Link>(
     requires few { length firsts.now ≤ item_limit }
     ensures asked { Asked L.tells (numbers_of clouds.now) link.old link.new (is_lost result) }
     ensures told { (tag : Tag) (version : Version)
-        → Leads L.tells (numbers_of clouds.now) link.old link.new
-        (BatchCaused L.tells link.old shape user (tag, version) (numbers_of clouds.now) recipes.now result)
+        → LeadsAny L.tells (numbers_of clouds.now) link.old link.new
+        (λ these. BatchShown (among these L.tells) link.old shape user (tag, version) (numbers_of clouds.now) firsts.now
+        recipes.now result)
         (λ before after.
         Ready shape user (tag, version) (numbers_of clouds.now) recipes.now before
         → Ends (items_opened shape firsts.now (givens before (numbers_of clouds.now) recipes.now))

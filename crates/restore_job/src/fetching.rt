@@ -17,14 +17,14 @@ ghost use Rattle.sha2.specs.Sha256.{sha256 as sha256_of};
 ghost use Rattle.user_dedup.specs.Link.{Asks, LeavesOthers, IsReading, exchange_of};
 ghost use Rattle.user_dedup.specs.Owning.{fps_in};
 ghost use Rattle.user_dedup.specs.Requests.{IsAsked};
-ghost use Rattle.restore_job.specs.Asking.{Asked, Leads, Readable, is_lost};
+ghost use Rattle.restore_job.specs.Asking.{Asked, LeadsAny, Readable, among, is_lost};
 ghost use Rattle.restore_job.specs.Brought.{HasShares};
 ghost use Rattle.restore_job.specs.Refusals.{Names};
 ghost use Rattle.restore_job.specs.Exchanges.{BatchSaid, Exchange, HasSpoken, LostSaid, RecipeSaid, RecipesSaid};
 ghost use Rattle.restore_job.specs.Exchanges.{SharesSaid, Unlost};
 ghost use Rattle.restore_job.specs.Restored.{item_of};
-ghost use Rattle.restore_job.specs.Steps.{AreItemsAt, BatchCaused, BatchTold, Ready, ReadyAt, RecipeCaused, RecipeTold};
-ghost use Rattle.restore_job.specs.Steps.{RecipesCaused, RecipesTold, SharesCaused, SharesTold, given_of, givens};
+ghost use Rattle.restore_job.specs.Steps.{AreItemsAt, BatchShown, BatchTold, Ready, ReadyAt, RecipeShown, RecipeTold};
+ghost use Rattle.restore_job.specs.Steps.{RecipesShown, RecipesTold, SharesShown, SharesTold, given_of, givens};
 ghost use Rattle.restore_job.specs.Steps.{room_of};
 
 use crate::RestoreErr;
@@ -84,8 +84,8 @@ fn fetch_recipe<L: Link>(
     ensures asked { Asked L.tells (cloud.0 ∷ []) link.old link.new (is_lost result) }
     ensures told { (user : UserId) (tag : Tag) (version : Version)
         → IsRequest request.now (requests.GetRecipe user tag version)
-        → Leads L.tells (cloud.0 ∷ []) link.old link.new
-        (RecipeCaused L.tells link.old shape user (tag, version) cloud.0 result)
+        → LeadsAny L.tells (cloud.0 ∷ []) link.old link.new
+        (λ these. RecipeShown (among these L.tells) link.old shape user (tag, version) cloud.0 result)
         (λ before after. RecipeTold shape user (tag, version) cloud result (before cloud.0) (after cloud.0)) }
     ensures named { IfErr result (Names (λ c. c ≡ cloud.0)) }
     ensures fits { IfOk result (Fits shape) }
@@ -127,8 +127,8 @@ pub fn fetch_recipes<L: Link>(
     ensures asked { Asked L.tells (numbers_of clouds.now) link.old link.new (is_lost result) }
     ensures told { (user : UserId) (tag : Tag) (version : Version)
         → IsRequest request.now (requests.GetRecipe user tag version)
-        → Leads L.tells (numbers_of clouds.now) link.old link.new
-        (RecipesCaused L.tells link.old shape user (tag, version) (numbers_of clouds.now) result)
+        → LeadsAny L.tells (numbers_of clouds.now) link.old link.new
+        (λ these. RecipesShown (among these L.tells) link.old shape user (tag, version) (numbers_of clouds.now) result)
         (λ before after. RecipesTold shape user (tag, version) (numbers_of clouds.now) result before after) }
     ensures named { IfErr result (Names (Contains (numbers_of clouds.now))) }
     ensures fits { IfOk result (All (Fits shape)) }
@@ -213,8 +213,9 @@ fn fetch_shares<L: Link>(
     requires room { count ≤ length rooms.old }
     ensures asked { Asked L.tells (cloud.0 ∷ []) link.old link.new (is_lost result) }
     ensures told { (tag : Tag) (version : Version)
-        → Leads L.tells (cloud.0 ∷ []) link.old link.new
-        (SharesCaused L.tells link.old shape user (tag, version) cloud.0 recipe.now result) (λ before after.
+        → LeadsAny L.tells (cloud.0 ∷ []) link.old link.new
+        (λ these. SharesShown (among these L.tells) link.old shape user (tag, version) cloud.0 firsts.now recipe.now
+        result) (λ before after.
         ReadyAt shape user (tag, version) recipe.now (before cloud.0)
         → SharesTold shape cloud firsts.now
         (given_of (before cloud.0) cloud.0 recipe.now) place count result rooms.old rooms.new (before cloud.0)
@@ -291,8 +292,9 @@ pub fn fetch_batch<L: Link>(
     requires room { count ≤ length rooms.old }
     ensures asked { Asked L.tells (numbers_of clouds.now) link.old link.new (is_lost result) }
     ensures told { (tag : Tag) (version : Version)
-        → Leads L.tells (numbers_of clouds.now) link.old link.new
-        (BatchCaused L.tells link.old shape user (tag, version) (numbers_of clouds.now) recipes.now result)
+        → LeadsAny L.tells (numbers_of clouds.now) link.old link.new
+        (λ these. BatchShown (among these L.tells) link.old shape user (tag, version) (numbers_of clouds.now) firsts.now
+        recipes.now result)
         (λ before after.
         Ready shape user (tag, version) (numbers_of clouds.now) recipes.now before
         → BatchTold shape (numbers_of clouds.now) firsts.now

@@ -12,13 +12,13 @@ ghost use Rattle.messages.specs.declared.request.Request.TheVariants as requests
 ghost use Rattle.messages.specs.Requests.{IsRequest};
 ghost use Rattle.recipe.specs.Spelling.{Fits};
 ghost use Rattle.reed_solomon.specs.Dispersal.{AreChoice};
-ghost use Rattle.restore_job.specs.Asking.{Asked, Leads, Readable, is_lost};
+ghost use Rattle.restore_job.specs.Asking.{Asked, Leads, LeadsAny, Readable, among, is_lost};
 ghost use Rattle.restore_job.specs.Reading.{Ends, Restores};
 ghost use Rattle.restore_job.specs.Brought.{Agree, Appends, Brought};
 ghost use Rattle.restore_job.specs.Exchanges.{AgreedRun, Exchange, HasSpoken, LostSaid, RestoreRun, RestoreSaid, Unlost};
-ghost use Rattle.restore_job.specs.Refusals.{Causes, Names};
+ghost use Rattle.restore_job.specs.Refusals.{CausesAmong, Names, Shows};
 ghost use Rattle.restore_job.specs.Restored.{agreed};
-ghost use Rattle.restore_job.specs.Steps.{BatchCaused, Grows, Ready, givens};
+ghost use Rattle.restore_job.specs.Steps.{AgreedShown, BatchCaused, Grows, Ready, givens};
 
 use crate::RestoreErr;
 use crate::batch::restore_items;
@@ -84,6 +84,15 @@ pub fn restore_agreed<L: Link>(
         Ready shape user (tag, version) (numbers_of clouds.now) recipes.now before
         → Ends (agreed shape (givens before (numbers_of clouds.now) recipes.now))
         (numbers_of clouds.now) result out.old out.new before after) }
+    // So of any of the clouds, whatever the others are.
+    ensures any { (tag : Tag) (version : Version)
+        → LeadsAny L.tells (numbers_of clouds.now) link.old link.new
+        (λ these. AgreedShown (among these L.tells) link.old shape user (tag, version) (numbers_of clouds.now)
+        recipes.now result)
+        (λ before after.
+        Ready shape user (tag, version) (numbers_of clouds.now) recipes.now before
+        → Ends (agreed shape (givens before (numbers_of clouds.now) recipes.now))
+        (numbers_of clouds.now) result out.old out.new before after) }
     ensures named { IfErr result (Names (Contains (numbers_of clouds.now))) }
     ensures brought { OnOk result (Agree recipes.now
         × Appends shape (numbers_of clouds.now) recipes.now out.old out.new) }
@@ -129,8 +138,9 @@ fn restore_into<L: Link>(
     requires choice { AreChoice shape (numbers_of clouds.now) }
     requires path { IsPath path.now }
     ensures asked { Asked L.tells (numbers_of clouds.now) link.old link.new (is_lost result) }
-    ensures restored { Leads L.tells (numbers_of clouds.now) link.old link.new
-        (Causes L.tells link.old shape user (record { 0 = tag_at shape path.now }, version) result)
+    ensures restored { LeadsAny L.tells (numbers_of clouds.now) link.old link.new
+        (λ these. Shows (among these L.tells) link.old shape user (record { 0 = tag_at shape path.now }, version)
+        result)
         (Restores shape user (record { 0 = tag_at shape path.now }, version)
         (numbers_of clouds.now) result out.old out.new) }
     ensures named { IfErr result (Names (Contains (numbers_of clouds.now))) }
@@ -192,11 +202,12 @@ pub fn restore<L: Link>(
     requires within { All (λ cloud. cloud < shape.n) clouds.now }
     requires path { IsPath path.now }
 
-    // From all that the clouds stood for they went on: only the named clouds were read, and a refusal is what it says
-    // at the cloud that it names (`Causes`), each told or not. Where the link tells all of these, the result is that of
-    // their lists as they stand after it, or a failed device's, a lost ask's or want of memory.
-    ensures restored { Leads L.tells clouds.now link.old link.new
-        (Causes L.tells link.old shape user (record { 0 = tag_at shape path.now }, version) result)
+    // From all that any of the clouds stood for they went on, whatever the others are: only the named clouds were read,
+    // and a refusal is what it says at the cloud that it names (`CausesAmong`), told or not. Where these hold all that
+    // are named and the link tells all of those, the result is that of their lists as they stand after it, or a failed
+    // device's, a lost ask's or want of memory.
+    ensures restored { LeadsAny L.tells clouds.now link.old link.new
+        (CausesAmong L.tells link.old shape user (record { 0 = tag_at shape path.now }, version) result)
         (Restores shape user (record { 0 = tag_at shape path.now }, version) clouds.now result out.old out.new) }
 
     // The other clouds stay, whatever these stand for. An ask is lost only where the link's count of losses rose, and never

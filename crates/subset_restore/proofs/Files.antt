@@ -1,6 +1,6 @@
 -- Why clouds with some lists give no file: one of them lacks it, or has a string of another length.
-use Rattle.std.proofs.Common.{◌≡◌, ◌≢◌, ℕ, zero, suc, ◌+◌, ◌-◌, ◌*◌, ◌<◌, ◌≤◌, ◌⊎◌, Bool, true, false, not, cond, List, [], ◌∷◌, ◌++◌, length, map, Option, Some, None, Result, Ok, Err, refl, sym, ap, ◌∙◌, subst, arith, inl, inr}
-use Rattle.std.specs.Prelude.{◌==◌, min, find, is_none, option_map}
+use Rattle.std.proofs.Common.{◌≡◌, ◌≢◌, ℕ, zero, suc, ◌+◌, ◌-◌, ◌*◌, ◌<◌, ◌≤◌, ◌⊎◌, Bool, true, false, cond, List, [], ◌∷◌, ◌++◌, length, map, Option, Some, None, Result, Ok, Err, refl, sym, ap, ◌∙◌, subst, arith, inl, inr}
+use Rattle.std.specs.Prelude.{min, find, is_none, option_map}
 use Rattle.std.specs.List.{Contains}
 use Rattle.std.proofs.lemmas.Bool.{cases_lt, cases_eq, eq-eqb, ne_eqb}
 use Rattle.cd_base.specs.Lengths.{share_len_of}
@@ -14,8 +14,9 @@ use Rattle.recipe.specs.declared.recipe.Recipe.{Recipe}
 use Rattle.user_dedup.specs.declared.command.Command.{Command}
 use Rattle.user_dedup.proofs.Owned.{contains_here, contains_later, contains_nothing, contains_cases}
 use Rattle.restore_job.specs.Restored
-use Rattle.restore_job.specs.Restored.{Unrestored, Given, or_else, unless, joined, behind, item_of, string_at, recipe_in, given_by, missing, items_difference, difference, differing, wrong_string, wrong_strings, wrong_length, secret_opened, of_secret, secrets_opened, batch_opened, batches_opened, batch_count, items_opened, agreed, restored_file}
+use Rattle.restore_job.specs.Restored.{Unrestored, Given, or_else, unless, joined, behind, item_of, string_at, recipe_in, given_by, missing, difference, differing, wrong_string, wrong_strings, wrong_length, secret_opened, of_secret, secrets_opened, batch_opened, batches_opened, batch_count, items_opened, agreed, restored_file}
 use Rattle.restore_job.proofs.Ending.{never_agreed}
+use Rattle.restore_job.proofs.Wrong.{SameItems, recipes_same}
 use Rattle.subset_restore.proofs.Elements.{mapped_from, contains_mapped}
 
 -- ---- outcomes and refusals
@@ -204,6 +205,9 @@ string_right shape items given i e = elim (cases_eq (length (string_at given i))
       (ne_eqb (length (string_at given i)) (share_len_of shape.k (item_of items i).secret_len) other)) ∙ e))
 ]
 
+pub wrong_is : (shape : Shape) (given : Given) (secret : ℕ) (why : Unrestored) → secret < length given.recipe.items → wrong_string shape given.recipe.items given secret ≡ Some why → IsWrong shape given
+wrong_is shape given secret why within e = record { i = secret; within = within; differ = (string_wrong shape given.recipe.items given secret why e).0 }
+
 -- one of so many strings is wrong
 record WrongOf (shape : Shape) (items : List Item) (given : Given) (place n : ℕ) (why : Unrestored) : Type 0 where
   pub i : ℕ
@@ -332,49 +336,6 @@ batches_right shape items all (suc m) place left file e enough given has i above
 
 -- ---- recipes that agree
 
-record SameLens (one other : List Item) : Type 0 where
-  pub count : length other ≡ length one
-  pub lens : (i : ℕ) → (item_of one i).secret_len ≡ (item_of other i).secret_len
-
-items_same : (place : ℕ) (one other : List Item) → items_difference place one other ≡ None → length one ≡ length other → (i : ℕ) → (item_of one i).secret_len ≡ (item_of other i).secret_len
-items_same place [] [] e count i = refl
-items_same place [] (b ∷ other) e count i = absurd (omega (arith, count))
-items_same place (a ∷ one) [] e count i = absurd (omega (arith, count))
-items_same place (a ∷ one) (b ∷ other) e count i = elim (cases_eq a.secret_len b.secret_len) [
-  | inl same ↦ go same (λ f j. items_same (place + 1) one other f (omega (arith, count)) j) (ap (λ (x : Bool). cond x (items_difference (place + 1) one other) (Some place)) (sym (eq-eqb a.secret_len b.secret_len same)) ∙ e) i
-  | inr differ ↦ absurd (some_num_none place (sym (ap (λ (x : Bool). cond x (items_difference (place + 1) one other) (Some place)) (ne_eqb a.secret_len b.secret_len differ)) ∙ e))
-]
-  where
-    some_num_none : (n : ℕ) → Some n ≡ None → ⊥
-    some_num_none n e = cc
-
-    go : a.secret_len ≡ b.secret_len → (items_difference (place + 1) one other ≡ None → (j : ℕ) → (item_of one j).secret_len ≡ (item_of other j).secret_len)
-        → items_difference (place + 1) one other ≡ None → (i : ℕ) → (item_of (a ∷ one) i).secret_len ≡ (item_of (b ∷ other) i).secret_len
-    go same more e zero = same
-    go same more e (suc i) = more e i
-
-recipes_same : (a b : Recipe) → difference a b ≡ None → SameLens a.items b.items
-recipes_same a b e = by_name (a.name_len == b.name_len) refl e
-  where
-    some_none_at : (n : ℕ) → Some n ≡ None → ⊥
-    some_none_at n e = cc
-
-    by_items : (x : Bool) → (length a.items == length b.items) ≡ x → cond (not x) (Some 2) (items_difference 3 a.items b.items) ≡ None → SameLens a.items b.items
-    by_items false t e = absurd (some_none_at 2 e)
-    by_items true t e = elim (cases_eq (length a.items) (length b.items)) [
-      | inl same ↦ record { count = sym same; lens = items_same 3 a.items b.items e same }
-      | inr differ ↦ absurd (let f = sym (ne_eqb (length a.items) (length b.items) differ) ∙ t in cc)
-    ]
-
-    by_file : (x : Bool) → (a.file_len == b.file_len) ≡ x → cond (not x) (Some 1) (cond (not (length a.items == length b.items)) (Some 2) (items_difference 3 a.items b.items)) ≡ None → SameLens a.items b.items
-    by_file false t e = absurd (some_none_at 1 e)
-    by_file true t e = by_items (length a.items == length b.items) refl e
-
-    by_name : (x : Bool) → (a.name_len == b.name_len) ≡ x
-        → cond (not x) (Some 0) (cond (not (a.file_len == b.file_len)) (Some 1) (cond (not (length a.items == length b.items)) (Some 2) (items_difference 3 a.items b.items))) ≡ None → SameLens a.items b.items
-    by_name false t e = absurd (some_none_at 0 e)
-    by_name true t e = by_file (a.file_len == b.file_len) refl e
-
 or_none : (one other : Option Unrestored) → or_else one other ≡ None → (one ≡ None) × (other ≡ None)
 or_none None other e = (refl, e)
 or_none (Some w) other e = absurd (some_none w e)
@@ -384,19 +345,19 @@ mapped_none make None e = refl
 mapped_none make (Some n) e = absurd (some_none (make n) e)
 
 all_same : (cloud : ℕ) (recipe : Recipe) (all : List Given) → differing cloud recipe (map (λ given. given.cloud) all) (map (λ given. given.recipe) all) ≡ None
-    → (given : Given) → Contains all given → SameLens recipe.items given.recipe.items
+    → (given : Given) → Contains all given → SameItems recipe.items given.recipe.items
 all_same cloud recipe [] e given has = absurd (contains_nothing given has)
 all_same cloud recipe (g ∷ all) e given has =
     let o = or_none (option_map (Restored.RecipesDiffer cloud g.cloud) (difference recipe g.recipe)) (differing cloud recipe (map (λ given. given.cloud) all) (map (λ given. given.recipe) all)) e in
     elim (contains_cases g all given has) [
-      | inl same ↦ subst (λ (x : Given). SameLens recipe.items x.recipe.items) same (recipes_same recipe g.recipe (mapped_none (Restored.RecipesDiffer cloud g.cloud) (difference recipe g.recipe) o.0))
+      | inl same ↦ subst (λ (x : Given). SameItems recipe.items x.recipe.items) same (recipes_same recipe g.recipe (mapped_none (Restored.RecipesDiffer cloud g.cloud) (difference recipe g.recipe) o.0))
       | inr h ↦ all_same cloud recipe all o.1 given h
     ]
 
 first_same : (a : Given) (others : List Given) → differing a.cloud a.recipe (map (λ given. given.cloud) others) (map (λ given. given.recipe) others) ≡ None
-    → (given : Given) → Contains (a ∷ others) given → SameLens a.recipe.items given.recipe.items
+    → (given : Given) → Contains (a ∷ others) given → SameItems a.recipe.items given.recipe.items
 first_same a others e given has = elim (contains_cases a others given has) [
-  | inl same ↦ subst (λ (x : Given). SameLens a.recipe.items x.recipe.items) same (record { count = refl; lens = λ i. refl })
+  | inl same ↦ subst (λ (x : Given). SameItems a.recipe.items x.recipe.items) same (record { count = refl; lens = λ i. refl })
   | inr h ↦ all_same a.cloud a.recipe others e given h
 ]
 

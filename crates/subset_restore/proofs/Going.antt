@@ -1,5 +1,6 @@
 -- A call under way, one choice after another.
 use Rattle.std.proofs.Common.{◌≡◌, ◌≢◌, ℕ, ◌≤◌, ◌⊎◌, Bool, true, false, List, [], ◌∷◌, ◌++◌, map, Some, None, Result, Ok, Err, refl, sym, ap, ◌∙◌, subst, inl, inr, length, arith, append_assoc, append-nil, length-append}
+use Rattle.std.specs.Prelude.{IsTrue}
 use Rattle.std.specs.List.{Contains}
 use Rattle.cd_base.specs.declared.ids.UserId.{UserId}
 use Rattle.cd_base.specs.declared.ids.Version.{Version}
@@ -8,29 +9,30 @@ use Rattle.cd_edges.specs.Causes.{Rose}
 use Rattle.user_dedup.specs.Exec.{Peer}
 use Rattle.user_dedup.specs.Link.{LinkTelling, Talk}
 use Rattle.user_dedup.proofs.Owned.{contains_here, contains_later, contains_nothing}
-use Rattle.restore_job.specs.Asking.{Asked, Leads, OnlyRead, AreRead, Readable, is_loss, is_lost}
+use Rattle.restore_job.specs.Asking.{Asked, LeadsAny, OnlyRead, AreRead, Readable, TellsAll, among, is_loss, is_lost}
 use Rattle.restore_job.specs.Brought.{Brought}
 use Rattle.restore_job.specs.Exchanges.{LostSaid, RestoreSaid, Unlost}
 use Rattle.restore_job.specs.Reading.{Ends, ReadsBy, Restores}
-use Rattle.restore_job.specs.Refusals.{Caused, Causes, Names}
+use Rattle.restore_job.specs.Refusals.{Caused, CausesAmong, ShownAmong, Names}
 use Rattle.restore_job.specs.Restored.{Unrestored}
 use Rattle.restore_job.specs.declared.error.RestoreErr.{RestoreErr}
 use Rattle.restore_job.specs.declared.error.RestoreErr.TheVariants as errors
-use Rattle.restore_job.proofs.Leading.{rose_on, rose_off, leads_on, leads_to, leads_none, asked_on, asked_in, asked_none}
+use Rattle.restore_job.proofs.Leading.{rose_on, rose_off, leads_on, leads_to, leads_none, leads_whole, told_among, asked_on, asked_in, asked_none}
 use Rattle.restore_job.proofs.Causing.{caused_on, names_to}
+use Rattle.restore_job.proofs.Wrong.{shown_caused}
 use Rattle.subset_restore.specs.Subsets.{subsets}
 use Rattle.subset_restore.specs.Tries.{Try, GoneThrough, NoneYet, Passed, Refused, HoldsRefuser, HasRefused, WasTried, refuser}
 use Rattle.subset_restore.specs.Restored.{first_bytes, first_given, restored_any}
-use Rattle.subset_restore.specs.Ends.{Sought, outcome_of, any_outcome, GivesNone, IsNone, NoneFailed, OneRestore, AllRefused, AllCaused, CameTold, Came, NoneTold, NoneCame, OnlyLeads, NoneBy}
+use Rattle.subset_restore.specs.Ends.{Sought, outcome_of, any_outcome, GivesNone, IsNone, NoneFailed, OneRestore, AllRefused, AllCaused, AllShown, CameTold, CameAlone, Came, NoneTold, NothingAlone, NoneCame, OnlyLeads, NoneBy}
 use Rattle.subset_restore.specs.Tracking.{Tracks, HoldsMarked, first_of}
-use Rattle.subset_restore.specs.Going.{sought, TryTold, EachTold, AllStand, EachCaused, Begun, SoFar, GoesOn, Goes}
+use Rattle.subset_restore.specs.Going.{sought, TryTold, EachTold, EachShown, EachAlone, TriesStand, AllStand, Begun, SoFar, GoesOn, Goes}
 use Rattle.subset_restore.specs.declared.refusals.Refusals.{Refusals}
 use Rattle.subset_restore.specs.declared.trying.Went.{Went}
 use Rattle.subset_restore.specs.declared.trying.Went.TheVariants as went
-use Rattle.subset_restore.proofs.Elements.{contains_front, contains_last, contains_end, all_of}
+use Rattle.subset_restore.proofs.Elements.{contains_front, contains_last, contains_end, all_of, of_all}
 use Rattle.subset_restore.proofs.Choices.{subset_among, only_choice, sole}
 use Rattle.subset_restore.proofs.Files.{gives}
-use Rattle.subset_restore.proofs.Standing.{told_later, told_first, may_reads, caused_later, tried_none, held_none, ends_among}
+use Rattle.subset_restore.proofs.Standing.{told_later, told_first, may_reads, caused_later, tried_none, held_none, held_alone, ends_among}
 
 -- ---- the first that gives bytes
 
@@ -148,7 +150,8 @@ module _ {L : Type 0} (t : LinkTelling L) (talk : L → ℕ → Talk → Type 0)
     lost = λ x has. absurd (contains_nothing x has);
     lossless = λ h x has. absurd (contains_nothing x has);
     refused = refl;
-    leads = leads_none t s.clouds start (EachCaused t start s []) (AllStand s [] bytes) (λ a x has. absurd (contains_nothing x has)) (λ a. record { each = λ x has. absurd (contains_nothing x has); none = λ e. refl; one = λ x e. absurd (no_tries x e) });
+    leads = λ these. leads_none (among these t) s.clouds start (TriesStand t start s [] bytes these) (AllStand s [] bytes) (λ a. record { shown = λ x has. absurd (contains_nothing x has); alone = λ x has. absurd (contains_nothing x has) })
+        (λ a. record { each = λ x has. absurd (contains_nothing x has); none = λ e. refl; one = λ x e. absurd (no_tries x e) });
   }
 
   each_behind : (done : List (List ℕ)) (tries : List Try) (subset : List ℕ) → ((x : List ℕ) → Contains done x → WasTried tries x ⊎ HoldsRefuser tries x) → WasTried tries subset ⊎ HoldsRefuser tries subset
@@ -175,13 +178,35 @@ module _ {L : Type 0} (t : LinkTelling L) (talk : L → ℕ → Talk → Type 0)
   pub record OneStep (now new : L) (subset bytes' : List ℕ) (result : Result (Unit {0}) RestoreErr) : Type 0 where
     pub among : (x : ℕ) → Contains subset x → Contains s.clouds x
     pub asked : Asked t subset now new (is_lost result)
-    pub restored : Leads t subset now new (Causes t now s.shape s.user (s.tag, s.version) result) (Restores s.shape s.user (s.tag, s.version) subset result bytes bytes')
+    pub restored : LeadsAny t subset now new (CausesAmong t now s.shape s.user (s.tag, s.version) result) (Restores s.shape s.user (s.tag, s.version) subset result bytes bytes')
     pub said : Unlost result (RestoreSaid talk now new s.shape s.user s.tag s.version subset bytes bytes' result)
     pub beside : LostSaid talk now new result
     pub readable : Readable t now new result
 
   free_later : (tries : List Try) (subset : List ℕ) → (HoldsRefuser tries subset → ⊥) → (x : Try) → Contains tries x → (cloud : ℕ) → refuser x.refusal ≡ Some cloud → Contains subset cloud → ⊥
   free_later tries subset free x has cloud refused holds = free (cloud, holds, (x, has, refused))
+
+  -- what a restore says, of told clouds too
+  record StepSays (now new : L) (subset bytes' : List ℕ) (result : Result (Unit {0}) RestoreErr) (these : ℕ → Bool) (b c : ℕ → Peer) : Type 0 where
+    pub causes : CausesAmong t now s.shape s.user (s.tag, s.version) result these b c
+    pub told : TellsAll (among these t) now subset → Restores s.shape s.user (s.tag, s.version) subset result bytes bytes' b c
+
+  step_says : (now new : L) (subset bytes' : List ℕ) (result : Result (Unit {0}) RestoreErr) → OneStep now new subset bytes' result
+      → LeadsAny t subset now new (StepSays now new subset bytes' result) (Restores s.shape s.user (s.tag, s.version) subset result bytes bytes')
+  step_says now new subset bytes' result step these =
+      leads_to (among these t) subset subset now new _ (StepSays now new subset bytes' result these) _ _ (step.restored these) (λ x has. has)
+      (λ b c one causes told. record { causes = causes; told = told }) (λ b c one r. r)
+
+  told_now : (these : ℕ → Bool) (now : L) (subset : List ℕ) → t.told now ≡ t.told start → TellsAll (among these t) start subset → TellsAll (among these t) now subset
+  told_now these now subset same tells x has = subst (λ (f : ℕ → Bool). IsTrue (f x)) (sym (told_among t these start now same)) (tells x has)
+
+  -- what stood of the tries stands behind one more
+  shown_later : (these : ℕ → Bool) (tries : List Try) (subset : List ℕ) (a b c : ℕ → Peer) → (HoldsRefuser tries subset → ⊥) → OnlyRead subset b c → EachShown t start s tries these a b → EachShown t start s tries these a c
+  shown_later these tries subset a b c free only shown x has named =
+      caused_later t start s subset x.refusal a b c (shown x has named) only (free_later tries subset free x has)
+
+  alone_later : (these : ℕ → Bool) (tries : List Try) (subset : List ℕ) (a b c : ℕ → Peer) → OnlyRead subset b c → EachAlone t start s tries bytes these a b → EachAlone t start s tries bytes these a c
+  alone_later these tries subset a b c only alone x has tells = told_later s x.subset x.refusal bytes a b c (alone x has tells) only.read
 
   pub so_far_refused : (now new : L) (done : List (List ℕ)) (tries : List Try) (subset : List ℕ) (e : RestoreErr) → SoFar t talk s start now bytes done tries → (HoldsRefuser tries subset → ⊥)
       → e ≢ errors.NoMemory → Names (Contains subset) e → OneStep now new subset bytes (Err e)
@@ -201,11 +226,15 @@ module _ {L : Type 0} (t : LinkTelling L) (talk : L → ℕ → Talk → Type 0)
             (λ is. rose_on (t.losses start) (t.losses now) (t.losses new) f.asked.later (step.asked.lost is));
         lossless = λ h. of_more (λ x. is_loss x.refusal ≡ false) tries y (f.lossless h) (step.asked.lossless (f.asked.lossless h).1).0;
         refused = all_refused_more t talk s bytes start now new tries y f.refused (record { asked = step.asked; said = step.said; beside = step.beside; readable = step.readable });
-        leads = leads_on t s.clouds subset s.clouds start now new _ _ (EachCaused t start s (tries ++ y ∷ [])) _ _ (AllStand s (tries ++ y ∷ []) bytes) f.leads f.asked.told step.restored
+        leads = λ these. leads_on (among these t) s.clouds subset s.clouds start now new _ _ (TriesStand t start s (tries ++ y ∷ []) bytes these) _ _ (AllStand s (tries ++ y ∷ []) bytes)
+            (f.leads these) (told_among t these start now f.asked.told) (step_says now new subset bytes (Err e) step these)
             (λ x has. has) step.among
-            (λ a b c one two r q. of_more (λ x. Caused t start s.shape s.user (s.tag, s.version) x.refusal a c) tries y
-            (λ x has. caused_later t start s subset x.refusal a b c (r x has) two (free_later tries subset free x has))
-            (caused_on t start now s.shape s.user (s.tag, s.version) e a b c f.asked.told one.read q))
+            (λ a b c one two r q. record {
+              shown = of_more (λ x. ShownAmong t start s.shape s.user (s.tag, s.version) these x.refusal a c) tries y (shown_later these tries subset a b c free two r.shown)
+                  (λ named. caused_on t start now s.shape s.user (s.tag, s.version) e a b c f.asked.told one.read (q.causes named));
+              alone = of_more (λ x. TellsAll (among these t) start x.subset → TryTold s x.subset x.refusal bytes a c) tries y (alone_later these tries subset a b c two r.alone)
+                  (λ tells. told_first s subset e bytes a b c one.read (q.told (told_now these now subset f.asked.told tells)));
+            })
             (λ a b c one two r q. record {
               each = of_more (λ x. TryTold s x.subset x.refusal bytes a c) tries y
                   (λ x has. told_later s x.subset x.refusal bytes a b c (r.each x has) two.read)
@@ -223,6 +252,24 @@ module _ {L : Type 0} (t : LinkTelling L) (talk : L → ℕ → Talk → Type 0)
   none_from tries a c plain told subset (inr holds) =
       let x = holds.2.0 in
       held_none s tries x x.refusal bytes a c subset holds.0 holds.2.1 refl (told x holds.2.1) holds.2.2 holds.1
+
+  -- the same of told clouds alone
+  none_alone : (these : ℕ → Bool) (tries : List Try) (a c : ℕ → Peer) → ((x : Try) → Contains tries x → x.refusal ≢ errors.NoMemory) → EachShown t start s tries these a c → EachAlone t start s tries bytes these a c
+      → (subset : List ℕ) → WasTried tries subset ⊎ HoldsRefuser tries subset → TellsAll (among these t) start subset → IsNone s tries a c subset
+  none_alone these tries a c plain shown alone subset (inl was) tells =
+      subst (IsNone s tries a c) was.2 (tried_none s tries was.0 was.0.refusal bytes a c was.1 refl (plain was.0 was.1)
+      (alone was.0 was.1 (subst (TellsAll (among these t) start) (sym was.2) tells)))
+  none_alone these tries a c plain shown alone subset (inr holds) tells =
+      let x = holds.2.0 in
+      held_alone t start s tries these x x.refusal a c subset holds.0 holds.2.1 refl (shown x holds.2.1) tells holds.2.2 holds.1
+
+  -- where all are told, none of the named clouds is another
+  all_caused : (tries : List Try) (a c : ℕ → Peer) → ((x : Try) → Contains tries x → Names (Contains s.clouds) x.refusal) → AllShown t start s tries (λ x. true) a c → AllCaused t start s tries a c
+  all_caused tries a c named shown =
+      all_of (λ x. Caused t start s.shape s.user (s.tag, s.version) x.refusal a c) tries
+      (λ x has. shown_caused t start s.shape s.user (s.tag, s.version) x.refusal a c
+      (of_all (λ x. ShownAmong t start s.shape s.user (s.tag, s.version) (λ y. true) x.refusal a c) tries x shown has
+      (names_to (Contains s.clouds) (λ y. IsTrue true) x.refusal (λ y in_it. refl) (named x has))))
 
   lost_is : (e : RestoreErr) (cloud : ℕ) → e ≡ errors.Lost (record { 0 = cloud }) → is_loss e ≡ true
   lost_is e cloud same = ap is_loss same
@@ -260,6 +307,25 @@ module _ {L : Type 0} (t : LinkTelling L) (talk : L → ℕ → Talk → Type 0)
             (sole done subset rest s.clouds (sym split ∙ only_choice s.shape.k s.clouds few)) (record { ends = r.ends; read = read });
       }
 
+  came_any : (now new : L) (done : List (List ℕ)) (tries : List Try) (subset : List ℕ) (rest : List (List ℕ)) (bytes' : List ℕ) → SoFar t talk s start now bytes done tries
+      → (HoldsRefuser tries subset → ⊥) → OneStep now new subset bytes' (Ok tt) → subsets s.shape.k s.clouds ≡ done ++ subset ∷ rest
+      → LeadsAny t s.clouds start new (CameAlone t start s tries done subset bytes bytes') (CameTold s tries done subset (t.losses start) (t.losses new) bytes bytes')
+  came_any now new done tries subset rest bytes' f free step split these =
+      leads_on (among these t) s.clouds subset s.clouds start now new _ _ (CameAlone t start s tries done subset bytes bytes' these) _ _ (CameTold s tries done subset (t.losses start) (t.losses new) bytes bytes')
+      (f.leads these) (told_among t these start now f.asked.told) (step_says now new subset bytes' (Ok tt) step these)
+      (λ x has. has) step.among
+      (λ a b c one two r q.
+      let shown = shown_later these tries subset a b c free two r.shown in
+      let alone = alone_later these tries subset a b c two r.alone in
+      record {
+        shown = all_of (λ x. ShownAmong t start s.shape s.user (s.tag, s.version) these x.refusal a c) tries shown;
+        came = λ tells. (let k = q.told (told_now these now subset f.asked.told tells) in
+            record { ends = k.ends; read = λ x has. may_reads (a x) (b x) (c x) (one.read x) (k.read x has) });
+        none = all_of (λ chosen. TellsAll (among these t) start chosen → IsNone s tries a c chosen) done
+            (λ chosen has. none_alone these tries a c f.plain shown alone chosen (f.each chosen has));
+      })
+      (λ a b c one two r q. came_told now new done tries subset rest bytes' a b c f step.asked.later split one two r q)
+
   pub came : (now new : L) (done : List (List ℕ)) (tries : List Try) (subset : List ℕ) (rest : List (List ℕ)) (bytes' : List ℕ) → SoFar t talk s start now bytes done tries
       → (HoldsRefuser tries subset → ⊥) → OneStep now new subset bytes' (Ok tt) → Brought s.shape subset bytes bytes' → subsets s.shape.k s.clouds ≡ done ++ subset ∷ rest
       → Came t talk s start new bytes bytes'
@@ -275,11 +341,11 @@ module _ {L : Type 0} (t : LinkTelling L) (talk : L → ℕ → Talk → Type 0)
     mid = now;
     refused = f.refused;
     restored = record { asked = step.asked; said = step.said; beside = step.beside; readable = step.readable };
-    leads = leads_on t s.clouds subset s.clouds start now new _ _ (AllCaused t start s tries) _ _ (CameTold s tries done subset (t.losses start) (t.losses new) bytes bytes') f.leads f.asked.told step.restored
-        (λ x has. has) step.among
-        (λ a b c one two r q. all_of (λ x. Caused t start s.shape s.user (s.tag, s.version) x.refusal a c) tries
-        (λ x has. caused_later t start s subset x.refusal a b c (r x has) two (free_later tries subset free x has)))
-        (λ a b c one two r q. came_told now new done tries subset rest bytes' a b c f step.asked.later split one two r q);
+    leads = leads_to t s.clouds s.clouds start new (CameAlone t start s tries done subset bytes bytes' (λ x. true)) (AllCaused t start s tries) _ _
+        (leads_whole t s.clouds start new (CameAlone t start s tries done subset bytes bytes' (λ x. true)) _ (came_any now new done tries subset rest bytes' f free step split (λ x. true)))
+        (λ x has. has) (λ a c only r known. all_caused tries a c f.named r.shown) (λ a c only r. r);
+    alone = λ these. leads_to (among these t) s.clouds s.clouds start new _ _ _ _ (came_any now new done tries subset rest bytes' f free step split these)
+        (λ x has. has) (λ a c only r known. r) (λ a c only r. tt);
   }
 
   pub asked_behind : (now new : L) (done : List (List ℕ)) (tries : List Try) (subset bytes' : List ℕ) (result : Result (Unit {0}) RestoreErr) → SoFar t talk s start now bytes done tries
@@ -290,12 +356,17 @@ module _ {L : Type 0} (t : LinkTelling L) (talk : L → ℕ → Talk → Type 0)
   -- ---- memory runs out
 
   pub lacked : (now : L) (done : List (List ℕ)) (tries : List Try) → SoFar t talk s start now bytes done tries → OnlyLeads t s.clouds start now
-  lacked now done tries f = leads_to t s.clouds s.clouds start now _ _ _ _ f.leads (λ x has. has) (λ a b one r known. tt) (λ a b one r. tt)
+  lacked now done tries f =
+      leads_to t s.clouds s.clouds start now (TriesStand t start s tries bytes (λ x. true)) _ _ _
+      (leads_whole t s.clouds start now (TriesStand t start s tries bytes (λ x. true)) (AllStand s tries bytes) (f.leads (λ x. true))) (λ x has. has) (λ a b one r known. tt) (λ a b one r. tt)
 
   pub lacked_behind : (now new : L) (done : List (List ℕ)) (tries : List Try) (subset bytes' : List ℕ) (result : Result (Unit {0}) RestoreErr) → SoFar t talk s start now bytes done tries
       → OneStep now new subset bytes' result → OnlyLeads t s.clouds start new
   lacked_behind now new done tries subset bytes' result f step =
-      leads_on t s.clouds subset s.clouds start now new _ _ _ _ _ _ f.leads f.asked.told step.restored (λ x has. has) step.among (λ a b c one two r q. tt) (λ a b c one two r q. tt)
+      leads_on t s.clouds subset s.clouds start now new (TriesStand t start s tries bytes (λ x. true)) (StepSays now new subset bytes' result (λ x. true)) _ _ _ _
+      (leads_whole t s.clouds start now (TriesStand t start s tries bytes (λ x. true)) (AllStand s tries bytes) (f.leads (λ x. true))) f.asked.told
+      (leads_whole t subset now new (StepSays now new subset bytes' result (λ x. true)) (Restores s.shape s.user (s.tag, s.version) subset result bytes bytes') (step_says now new subset bytes' result step (λ x. true)))
+      (λ x has. has) step.among (λ a b c one two r q. tt) (λ a b c one two r q. tt)
 
   -- ---- no file comes
 
@@ -346,6 +417,21 @@ module _ {L : Type 0} (t : LinkTelling L) (talk : L → ℕ → Talk → Type 0)
         just = λ few. just_first tries e first rest a b f.gone split one (told.each y has).ends told.one (only_choice s.shape.k s.clouds few);
       }
 
+  none_any : (now : L) (tries : List Try) (e : RestoreErr) (first : List ℕ) (rest : List (List ℕ)) → SoFar t talk s start now bytes (subsets s.shape.k s.clouds) tries
+      → subsets s.shape.k s.clouds ≡ first ∷ rest → FirstTry tries e first
+      → LeadsAny t s.clouds start now (NothingAlone t start s tries first e bytes) (NoneTold s tries first (t.losses start) (t.losses now) e bytes)
+  none_any now tries e first rest f split one these =
+      let y : Try = record { subset = first; refusal = e } in
+      let has_first : Contains tries y = subst (λ (l : List Try). Contains l y) (sym one.is) (contains_here y one.more) in
+      leads_to (among these t) s.clouds s.clouds start now _ (NothingAlone t start s tries first e bytes these) _ (NoneTold s tries first (t.losses start) (t.losses now) e bytes) (f.leads these) (λ x has. has)
+      (λ a b only r known. record {
+        shown = all_of (λ x. ShownAmong t start s.shape s.user (s.tag, s.version) these x.refusal a b) tries r.shown;
+        ends = λ tells. (r.alone y has_first tells).ends;
+        none = all_of (λ chosen. TellsAll (among these t) start chosen → IsNone s tries a b chosen) (subsets s.shape.k s.clouds)
+            (λ chosen has. none_alone these tries a b f.plain r.shown r.alone chosen (f.each chosen has));
+      })
+      (λ a b only r. none_told now tries e first rest a b f split one r)
+
   none_came : (now : L) (tries : List Try) (e : RestoreErr) (first : List ℕ) (rest : List (List ℕ)) → SoFar t talk s start now bytes (subsets s.shape.k s.clouds) tries
       → subsets s.shape.k s.clouds ≡ first ∷ rest → FirstTry tries e first → NoneCame t talk s start now bytes e
   none_came now tries e first rest f split one = record {
@@ -358,9 +444,11 @@ module _ {L : Type 0} (t : LinkTelling L) (talk : L → ℕ → Talk → Type 0)
     gone = f.gone;
     each = all_of (λ subset. WasTried tries subset ⊎ HoldsRefuser tries subset) (subsets s.shape.k s.clouds) f.each;
     refused = f.refused;
-    leads = leads_to t s.clouds s.clouds start now _ _ _ _ f.leads (λ x has. has)
-        (λ a b one r known. all_of (λ x. Caused t start s.shape s.user (s.tag, s.version) x.refusal a b) tries r)
-        (λ a b only r. none_told now tries e first rest a b f split one r);
+    leads = leads_to t s.clouds s.clouds start now (NothingAlone t start s tries first e bytes (λ x. true)) (AllCaused t start s tries) _ _
+        (leads_whole t s.clouds start now (NothingAlone t start s tries first e bytes (λ x. true)) _ (none_any now tries e first rest f split one (λ x. true)))
+        (λ x has. has) (λ a b only r known. all_caused tries a b f.named r.shown) (λ a b only r. r);
+    alone = λ these. leads_to (among these t) s.clouds s.clouds start now _ _ _ _ (none_any now tries e first rest f split one these)
+        (λ x has. has) (λ a b only r known. r) (λ a b only r. tt);
   }
 
   none_by : (now : L) (e : RestoreErr) → e ≢ errors.NoMemory → NoneCame t talk s start now bytes e → NoneBy t talk s start now bytes e
@@ -482,7 +570,7 @@ module _ {L : Type 0} (t : LinkTelling L) (talk : L → ℕ → Talk → Type 0)
   pub record Restored (old new : L) (bytes bytes' subset : List ℕ) (result : Result (Unit {0}) RestoreErr) : Type 0 where
     pub asked : Asked t subset old new (is_lost result)
     pub restored : (clouds : List ℕ) → let s = sought shape user path version clouds in
-        Leads t subset old new (Causes t old s.shape s.user (s.tag, s.version) result) (Restores s.shape s.user (s.tag, s.version) subset result bytes bytes')
+        LeadsAny t subset old new (CausesAmong t old s.shape s.user (s.tag, s.version) result) (Restores s.shape s.user (s.tag, s.version) subset result bytes bytes')
     pub said : (clouds : List ℕ) → let s = sought shape user path version clouds in
         Unlost result (RestoreSaid talk old new s.shape s.user s.tag s.version subset bytes bytes' result)
     pub beside : LostSaid talk old new result

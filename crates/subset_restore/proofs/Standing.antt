@@ -1,23 +1,25 @@
 -- What refusals say stands while other clouds are asked.
-use Rattle.std.proofs.Common.{◌≡◌, ℕ, ◌⊎◌, List, [], ◌∷◌, ◌++◌, Some, None, Result, Err, refl, sym, ◌∙◌, subst, inl, inr}
+use Rattle.std.proofs.Common.{◌≡◌, ℕ, ◌<◌, ◌⊎◌, Bool, true, false, length, List, [], ◌∷◌, ◌++◌, Some, None, Result, Err, refl, sym, ◌∙◌, subst, inl, inr}
+use Rattle.std.specs.Prelude.{IsTrue}
 use Rattle.std.specs.List.{Contains}
+use Rattle.cd_base.specs.declared.ids.CloudNo.{CloudNo}
 use Rattle.std.proofs.lemmas.Bool.{cases_eq}
 use Rattle.user_dedup.specs.declared.command.Command.{Command}
 use Rattle.user_dedup.specs.Exec.{Peer, Stays, Settles, MaySettleAs}
 use Rattle.user_dedup.specs.Link.{LinkTelling}
-use Rattle.restore_job.specs.Asking.{MayRead, Reads, OnlyRead, StoppedAt}
+use Rattle.restore_job.specs.Asking.{MayRead, Reads, OnlyRead, StoppedAt, TellsAll, among}
 use Rattle.restore_job.specs.Reading.{Ends, Restores}
-use Rattle.restore_job.specs.Refusals.{Caused}
+use Rattle.restore_job.specs.Refusals.{Shown, ShownAmong}
 use Rattle.restore_job.specs.Restored
-use Rattle.restore_job.specs.Restored.{Unrestored, recipe_in, given_by}
+use Rattle.restore_job.specs.Restored.{Unrestored, recipe_in, given_by, wrong_string}
 use Rattle.restore_job.specs.declared.error.RestoreErr.{RestoreErr}
 use Rattle.restore_job.specs.declared.error.RestoreErr.TheVariants as errors
-use Rattle.restore_job.proofs.Leading.{rose_on, rose_off, settled_same, may_on, settle_along, no_pending}
+use Rattle.restore_job.proofs.Leading.{and_both, rose_on, rose_off, settled_same, may_on, settle_along, no_pending}
 use Rattle.subset_restore.specs.Ends.{Sought, outcome_of, IsNone}
 use Rattle.subset_restore.specs.Going.{AreSettled, TryTold}
 use Rattle.subset_restore.specs.Tries.{Try, refuser}
 use Rattle.subset_restore.proofs.Elements.{contains_last}
-use Rattle.subset_restore.proofs.Files.{same_file, same_missing, missing_lacks, lacking_refuses, length_is_wrong, wrong_refuses}
+use Rattle.subset_restore.proofs.Files.{same_file, same_missing, missing_lacks, lacking_refuses, length_is_wrong, wrong_is, wrong_refuses}
 
 -- ---- over told clouds
 
@@ -102,8 +104,8 @@ may_reads a b c one two = (go one.0, (may_on a b c one (inr two.0, two.1)).1)
 -- ---- told or not
 
 -- what a refusal says stands while the cloud that refused isn't asked
-pub caused_later : {L : Type 0} (t : LinkTelling L) (link : L) (s : Sought) (subset : List ℕ) (e : RestoreErr) (a b c : ℕ → Peer) → Caused t link s.shape s.user (s.tag, s.version) e a b
-    → OnlyRead subset b c → ((cloud : ℕ) → refuser e ≡ Some cloud → Contains subset cloud → ⊥) → Caused t link s.shape s.user (s.tag, s.version) e a c
+pub caused_later : {L : Type 0} (t : LinkTelling L) (link : L) (s : Sought) (subset : List ℕ) (e : RestoreErr) (a b c : ℕ → Peer) → Shown t link s.shape s.user (s.tag, s.version) e a b
+    → OnlyRead subset b c → ((cloud : ℕ) → refuser e ≡ Some cloud → Contains subset cloud → ⊥) → Shown t link s.shape s.user (s.tag, s.version) e a c
 caused_later t link s subset (errors.Missing n) a b c caused only free =
     λ told. subst (λ (p : Peer). recipe_in s.shape p.list s.user (s.tag, s.version) ≡ None) (sym (only.others n.0 (free n.0 refl))) (caused told)
 caused_later t link s subset (errors.Lost n) a b c caused only free = tt
@@ -113,7 +115,10 @@ caused_later t link s subset (errors.CloudRotten n named found) a b c caused onl
 caused_later t link s subset (errors.CloudNoMemory n) a b c caused only free = caused
 caused_later t link s subset (errors.Strange n kind) a b c caused only free = caused
 caused_later t link s subset (errors.RecipesDiffer x y place) a b c caused only free = tt
-caused_later t link s subset (errors.ShareLength n secret found wanted) a b c caused only free = tt
+caused_later t link s subset (errors.ShareLength n secret found wanted) a b c caused only free =
+    λ told. subst (λ (p : Peer). let given = given_by s.shape (λ x. p.list) s.user (s.tag, s.version) n.0 in
+    (secret < length given.recipe.items) × (wrong_string s.shape given.recipe.items given secret ≡ Some (Restored.ShareLength n.0 secret found wanted)))
+    (sym (only.others n.0 (free n.0 refl))) (caused told)
 caused_later t link s subset (errors.BadShare n secret named found) a b c caused only free = caused
 caused_later t link s subset (errors.BadSecret secret named found) a b c caused only free = tt
 caused_later t link s subset (errors.BadPad secret at byte) a b c caused only free = tt
@@ -166,6 +171,42 @@ held_none s tries x (errors.BadShare n secret named found) bytes a c subset clou
 held_none s tries x (errors.BadSecret secret named found) bytes a c subset cloud has is told refused holds = absurd (none_cloud cloud refused)
 held_none s tries x (errors.BadPad secret at byte) bytes a c subset cloud has is told refused holds = absurd (none_cloud cloud refused)
 held_none s tries x errors.NoMemory bytes a c subset cloud has is told refused holds = absurd (none_cloud cloud refused)
+
+never_told : (b : Bool) → b ≡ false → IsTrue b → ⊥
+never_told b one other = (let f : false ≡ true = sym one ∙ other in cc)
+
+-- one of told clouds alone, with a cloud that refused
+pub held_alone : {L : Type 0} (t : LinkTelling L) (link : L) (s : Sought) (tries : List Try) (these : ℕ → Bool) (x : Try) (e : RestoreErr) (a c : ℕ → Peer) (subset : List ℕ) (cloud : ℕ) → Contains tries x → x.refusal ≡ e
+    → ShownAmong t link s.shape s.user (s.tag, s.version) these e a c → TellsAll (among these t) link subset → refuser e ≡ Some cloud → Contains subset cloud → IsNone s tries a c subset
+held_alone {L} t link s tries these x e a c subset cloud has is shown tells refused holds = go e is shown refused
+  where
+    here : (n : CloudNo) → Some n.0 ≡ Some cloud → Contains subset n.0
+    here n same = subst (λ (y : ℕ). Contains subset y) (sym (some_cloud n.0 cloud same)) holds
+
+    told : (n : CloudNo) → Some n.0 ≡ Some cloud → IsTrue (these n.0) × IsTrue (t.told link n.0)
+    told n same = and_both (these n.0) (t.told link n.0) (tells n.0 (here n same))
+
+    never : (n : CloudNo) → Some n.0 ≡ Some cloud → (IsTrue (these n.0) → t.told link n.0 ≡ false) → ⊥
+    never n same said = never_told (t.told link n.0) (said (told n same).0) (told n same).1
+
+    go : (e : RestoreErr) → x.refusal ≡ e → ShownAmong t link s.shape s.user (s.tag, s.version) these e a c → refuser e ≡ Some cloud → IsNone s tries a c subset
+    go (errors.Missing n) is shown refused =
+        inl (lacking_refuses s.shape (lists_of c) s.user (s.tag, s.version) subset n.0 (here n refused) (shown (told n refused).0 (told n refused).1))
+    go (errors.Lost n) is shown refused = inr (n.0, here n refused, inr (x, has, is))
+    go (errors.CloudFault n) is shown refused = inr (n.0, here n refused, inl (shown (told n refused).0))
+    go (errors.CloudDamaged n at byte) is shown refused = absurd (never n refused shown)
+    go (errors.CloudRotten n named found) is shown refused = absurd (never n refused shown)
+    go (errors.CloudNoMemory n) is shown refused = absurd (never n refused shown)
+    go (errors.Strange n kind) is shown refused = absurd (never n refused shown)
+    go (errors.RecipesDiffer y z place) is shown refused = absurd (none_cloud cloud refused)
+    go (errors.ShareLength n secret found wanted) is shown refused =
+        let wrong = shown (told n refused).0 (told n refused).1 in
+        inl (wrong_refuses s.shape (lists_of c) s.user (s.tag, s.version) subset n.0 (here n refused)
+        (wrong_is s.shape (given_by s.shape (lists_of c) s.user (s.tag, s.version) n.0) secret (Restored.ShareLength n.0 secret found wanted) wrong.0 wrong.1))
+    go (errors.BadShare n secret named found) is shown refused = absurd (never n refused shown)
+    go (errors.BadSecret secret named found) is shown refused = absurd (none_cloud cloud refused)
+    go (errors.BadPad secret at byte) is shown refused = absurd (none_cloud cloud refused)
+    go errors.NoMemory is shown refused = absurd (none_cloud cloud refused)
 
 -- the refusal of a choice is one of all clouds
 pub ends_among : (outcome other : Result (List ℕ) Unrestored) (subset clouds : List ℕ) (e : RestoreErr) (bytes : List ℕ) (a c : ℕ → Peer) → other ≡ outcome → ((x : ℕ) → Contains subset x → Contains clouds x)

@@ -1,5 +1,5 @@
 -- How a restore from any k of some clouds ends.
-use Rattle.std.specs.Prelude.{◌≡◌, ℕ, ◌⊎◌, List, [], ◌∷◌, ◌++◌, length, Result, Ok, Err, All}
+use Rattle.std.specs.Prelude.{◌≡◌, ℕ, ◌⊎◌, Bool, List, [], ◌∷◌, ◌++◌, length, Result, Ok, Err, All}
 use Rattle.std.specs.List.{Contains}
 use Rattle.cd_base.specs.declared.ids.Tag.{Tag}
 use Rattle.cd_base.specs.declared.ids.UserId.{UserId}
@@ -8,11 +8,11 @@ use Rattle.cd_base.specs.declared.shape.Shape.{Shape}
 use Rattle.cd_edges.specs.Causes.{Rose}
 use Rattle.user_dedup.specs.Exec.{Peer}
 use Rattle.user_dedup.specs.Link.{LinkTelling, Talk}
-use Rattle.restore_job.specs.Asking.{Asked, Leads, AreRead, Readable, is_lost}
+use Rattle.restore_job.specs.Asking.{Asked, Leads, LeadsAny, AreRead, Readable, TellsAll, among, is_lost}
 use Rattle.restore_job.specs.Brought.{Brought}
 use Rattle.restore_job.specs.Exchanges.{LostSaid, RestoreSaid, Unlost}
 use Rattle.restore_job.specs.Reading.{Ends, Restores}
-use Rattle.restore_job.specs.Refusals.{Caused}
+use Rattle.restore_job.specs.Refusals.{Caused, ShownAmong}
 use Rattle.restore_job.specs.Restored.{Unrestored, restored_file}
 use Rattle.restore_job.specs.declared.error.RestoreErr.{RestoreErr}
 use Rattle.restore_job.specs.declared.error.RestoreErr.TheVariants as errors
@@ -90,6 +90,38 @@ abbrev pub AllCaused : {L : Type 0} → LinkTelling L → L → Sought → List 
 AllCaused t link s tries before after =
     All (λ x. Caused t link s.shape s.user (s.tag, s.version) x.refusal before after) tries
 
+-- what each refusal says of the cloud that it names, where that is one of these
+abbrev pub AllShown : {L : Type 0} → LinkTelling L → L → Sought → List Try → (ℕ → Bool) → (ℕ → Peer) → (ℕ → Peer)
+    → Type 0
+AllShown t link s tries these before after =
+    All (λ x. ShownAmong t link s.shape s.user (s.tag, s.version) these x.refusal before after) tries
+
+-- From no choice of these the file comes whose clouds are all told and among these, whatever the other clouds are.
+abbrev pub NoneAlone : {L : Type 0} → LinkTelling L → L → Sought → List Try → List (List ℕ) → (ℕ → Bool) → (ℕ → Peer)
+    → (ℕ → Peer) → Type 0
+NoneAlone t link s tries choices these before after =
+    All (λ chosen. TellsAll (among these t) link chosen → IsNone s tries before after chosen) choices
+
+-- So the file came from one choice, if all its clouds are told and among these: it is what their lists give.
+pub record OneCame (s : Sought) (subset old new : List ℕ) (before after : ℕ → Peer) : Type 0 where
+  pub ends : Ends (outcome_of s after subset) subset (Ok tt) old new before after
+  pub read : AreRead subset before after
+
+-- The file came, where any of the clouds are told: what it says of these, whatever the others are.
+pub record CameAlone {L : Type 0} (t : LinkTelling L) (link : L) (s : Sought) (tries : List Try)
+    (front : List (List ℕ)) (subset old new : List ℕ) (these : ℕ → Bool) (before after : ℕ → Peer) : Type 0 where
+  pub shown : AllShown t link s tries these before after
+  pub came : TellsAll (among these t) link subset → OneCame s subset old new before after
+  pub none : NoneAlone t link s tries front these before after
+
+-- No file came, where any of the clouds are told: what it says of these, whatever the others are.
+pub record NothingAlone {L : Type 0} (t : LinkTelling L) (link : L) (s : Sought) (tries : List Try) (first : List ℕ)
+    (e : RestoreErr) (bytes : List ℕ) (these : ℕ → Bool) (before after : ℕ → Peer) : Type 0 where
+  pub shown : AllShown t link s tries these before after
+  pub ends : TellsAll (among these t) link first
+      → Ends (outcome_of s after first) first (Err e) bytes bytes before after
+  pub none : NoneAlone t link s tries (subsets s.shape.k s.clouds) these before after
+
 -- The file came over told clouds: from these clouds, all of which were read, and from no choice in front of them. It is
 -- that of any k of the clouds where none failed.
 pub record CameTold (s : Sought) (tries : List Try) (front : List (List ℕ)) (subset : List ℕ)
@@ -117,6 +149,7 @@ pub record Came {L : Type 0} (t : LinkTelling L) (talk : L → ℕ → Talk → 
   pub restored : OneRestore t talk s subset old new mid (Ok tt) end
   pub leads : Leads t s.clouds start end (AllCaused t start s tries)
       (CameTold s tries front subset (t.losses start) (t.losses end) old new)
+  pub alone : LeadsAny t s.clouds start end (CameAlone t start s tries front subset old new) (λ before after. Unit {0})
 
 -- No file came over told clouds: from no choice, and the refusal is that of the first. It is that of any k of the clouds
 -- where none failed.
@@ -143,6 +176,7 @@ pub record NoneCame {L : Type 0} (t : LinkTelling L) (talk : L → ℕ → Talk 
   pub refused : AllRefused t talk s bytes start tries end
   pub leads : Leads t s.clouds start end (AllCaused t start s tries)
       (NoneTold s tries first (t.losses start) (t.losses end) e bytes)
+  pub alone : LeadsAny t s.clouds start end (NothingAlone t start s tries first e bytes) (λ before after. Unit {0})
 
 -- these were read at most
 abbrev pub OnlyLeads : {L : Type 0} → LinkTelling L → List ℕ → L → L → Type 0

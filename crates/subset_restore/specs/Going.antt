@@ -1,5 +1,5 @@
 -- A call under way: which choices were gone through, and what is left.
-use Rattle.std.specs.Prelude.{◌≡◌, ◌≢◌, ℕ, ◌⊎◌, List, [], ◌∷◌, ◌++◌, IsTrue, false, true, None, Err}
+use Rattle.std.specs.Prelude.{◌≡◌, ◌≢◌, ℕ, ◌⊎◌, Bool, List, [], ◌∷◌, ◌++◌, IsTrue, false, true, None, Err}
 use Rattle.std.specs.List.{Contains}
 use Rattle.cd_base.specs.declared.ids.UserId.{UserId}
 use Rattle.cd_base.specs.declared.ids.Version.{Version}
@@ -8,9 +8,9 @@ use Rattle.cd_edges.specs.Causes.{Rose}
 use Rattle.caont_rs.specs.Package.{tag as tag_at}
 use Rattle.user_dedup.specs.Exec.{Peer}
 use Rattle.user_dedup.specs.Link.{LinkTelling, Talk}
-use Rattle.restore_job.specs.Asking.{Asked, Leads, is_loss}
+use Rattle.restore_job.specs.Asking.{Asked, LeadsAny, TellsAll, among, is_loss}
 use Rattle.restore_job.specs.Reading.{Ends, ReadsBy}
-use Rattle.restore_job.specs.Refusals.{Caused, Names}
+use Rattle.restore_job.specs.Refusals.{ShownAmong, Names}
 use Rattle.restore_job.specs.declared.error.RestoreErr.{RestoreErr}
 use Rattle.restore_job.specs.declared.error.RestoreErr.TheVariants as errors
 use Rattle.subset_restore.specs.Subsets.{subsets}
@@ -68,9 +68,22 @@ pub record AllStand (s : Sought) (tries : List Try) (bytes : List ℕ) (before a
   pub none : tries ≡ [] → after ≡ before
   pub one : (x : Try) → tries ≡ x ∷ [] → ReadsBy x.subset (Err x.refusal) before after
 
-abbrev pub EachCaused : {L : Type 0} → LinkTelling L → L → Sought → List Try → (ℕ → Peer) → (ℕ → Peer) → Type 0
-EachCaused t link s tries before after =
-    (x : Try) → Contains tries x → Caused t link s.shape s.user (s.tag, s.version) x.refusal before after
+abbrev pub EachShown : {L : Type 0} → LinkTelling L → L → Sought → List Try → (ℕ → Bool) → (ℕ → Peer) → (ℕ → Peer)
+    → Type 0
+EachShown t link s tries these before after =
+    (x : Try) → Contains tries x → ShownAmong t link s.shape s.user (s.tag, s.version) these x.refusal before after
+
+-- each stands whose clouds are all told and among these
+abbrev pub EachAlone : {L : Type 0} → LinkTelling L → L → Sought → List Try → List ℕ → (ℕ → Bool) → (ℕ → Peer)
+    → (ℕ → Peer) → Type 0
+EachAlone t link s tries bytes these before after = (x : Try) → Contains tries x
+    → TellsAll (among these t) link x.subset → TryTold s x.subset x.refusal bytes before after
+
+-- what stands of the tries, where any of the clouds are told
+pub record TriesStand {L : Type 0} (t : LinkTelling L) (link : L) (s : Sought) (tries : List Try) (bytes : List ℕ)
+    (these : ℕ → Bool) (before after : ℕ → Peer) : Type 0 where
+  pub shown : EachShown t link s tries these before after
+  pub alone : EachAlone t link s tries bytes these before after
 
 -- ---- so far
 
@@ -93,7 +106,8 @@ pub record SoFar {L : Type 0} (t : LinkTelling L) (talk : L → ℕ → Talk →
   pub lost : (x : Try) → Contains tries x → is_loss x.refusal ≡ true → Rose (t.losses start) (t.losses now)
   pub lossless : IsTrue (t.lossless start) → (x : Try) → Contains tries x → is_loss x.refusal ≡ false
   pub refused : AllRefused t talk s bytes start tries now
-  pub leads : Leads t s.clouds start now (EachCaused t start s tries) (AllStand s tries bytes)
+  pub leads : LeadsAny t s.clouds start now (TriesStand t start s tries bytes)
+      (AllStand s tries bytes)
 
 -- ---- further
 

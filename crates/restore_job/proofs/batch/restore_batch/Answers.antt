@@ -3,7 +3,7 @@ use Rattle.std.specs.List.{Contains}
 use Rattle.std.proofs.lemmas.List.{length-map}
 use Rattle.cd_base.specs.Numbers.{numbers_of}
 use Rattle.cd_base.specs.declared.ids.CloudNo.{CloudNo}
-use Rattle.restore_job.specs.Asking.{is_loss}
+use Rattle.restore_job.specs.Asking.{among, is_loss}
 use Rattle.restore_job.specs.Brought.{Extends, HasShares}
 use Rattle.restore_job.specs.Steps.{room_of}
 use Rattle.restore_job.proofs.Causing.{names_to}
@@ -21,21 +21,21 @@ abbrev bad : RestoreErr → Result (Unit {0}) RestoreErr
 bad e = Err e
 
 pub returns-in-Ok-open_batch-clause-told : goal.returns-in-Ok-open_batch-clause-told
-returns-in-Ok-open_batch-clause-told g c tag version =
-    opened_batch g.L.Link.tells c.args.shape c.args.user (tag, version) (numbers_of c.args.clouds.now) c.args.points.now c.args.firsts.now c.args.recipes.now c.args.place c.args.count c.args.link.now c.fetch_batch.new.link c.clear.new.self c.fetch_batch.new.rooms c.args.out.now c.open_batch.new.out (Ok tt)
-    c.requires.points (length-map c.args.clouds.now (λ (cloud : CloudNo). cloud.0) ∙ c.requires.pairs) (λ j lt. c.clear.ensures.empty j (let room = c.requires.room in omega arith)) (c.in-Ok.ensures.told tag version) c.in-Ok-open_batch.ensures.opens tt
+returns-in-Ok-open_batch-clause-told g c tag version these =
+    opened_batch (among these g.L.Link.tells) c.args.shape c.args.user (tag, version) (numbers_of c.args.clouds.now) c.args.points.now c.args.firsts.now c.args.recipes.now c.args.place c.args.count c.args.link.now c.fetch_batch.new.link c.clear.new.self c.fetch_batch.new.rooms c.args.out.now c.open_batch.new.out (Ok tt)
+    c.requires.points (length-map c.args.clouds.now (λ (cloud : CloudNo). cloud.0) ∙ c.requires.pairs) (λ j lt. c.clear.ensures.empty j (let room = c.requires.room in omega arith)) (c.in-Ok.ensures.told tag version these) c.in-Ok-open_batch.ensures.opens tt
 
 pub returns-in-Err-open_batch-clause-asked : goal.returns-in-Err-open_batch-clause-asked
 returns-in-Err-open_batch-clause-asked g c = asked_as g.L.Link.tells (numbers_of c.args.clouds.now) c.args.link.now c.fetch_batch.new.link _ (is_loss c.in-Err-open_batch.e) (sym c.in-Err-open_batch.ensures.found) c.in-Ok.ensures.asked
 
 pub returns-in-Err-open_batch-clause-told : goal.returns-in-Err-open_batch-clause-told
-returns-in-Err-open_batch-clause-told g c tag version =
-    opened_batch g.L.Link.tells c.args.shape c.args.user (tag, version) (numbers_of c.args.clouds.now) c.args.points.now c.args.firsts.now c.args.recipes.now c.args.place c.args.count c.args.link.now c.fetch_batch.new.link c.clear.new.self c.fetch_batch.new.rooms c.args.out.now c.open_batch.new.out (Err c.in-Err-open_batch.e)
-    c.requires.points (length-map c.args.clouds.now (λ (cloud : CloudNo). cloud.0) ∙ c.requires.pairs) (λ j lt. c.clear.ensures.empty j (let room = c.requires.room in omega arith)) (c.in-Ok.ensures.told tag version) c.in-Err-open_batch.ensures.opens c.in-Err-open_batch.ensures.alone
+returns-in-Err-open_batch-clause-told g c tag version these =
+    opened_batch (among these g.L.Link.tells) c.args.shape c.args.user (tag, version) (numbers_of c.args.clouds.now) c.args.points.now c.args.firsts.now c.args.recipes.now c.args.place c.args.count c.args.link.now c.fetch_batch.new.link c.clear.new.self c.fetch_batch.new.rooms c.args.out.now c.open_batch.new.out (Err c.in-Err-open_batch.e)
+    c.requires.points (length-map c.args.clouds.now (λ (cloud : CloudNo). cloud.0) ∙ c.requires.pairs) (λ j lt. c.clear.ensures.empty j (let room = c.requires.room in omega arith)) (c.in-Ok.ensures.told tag version these) c.in-Err-open_batch.ensures.opens c.in-Err-open_batch.ensures.alone
 
 pub returns-in-Err-clause-told : goal.returns-in-Err-clause-told
-returns-in-Err-clause-told g c tag version =
-    refused_batch g.L.Link.tells c.args.shape c.args.user (tag, version) (numbers_of c.args.clouds.now) c.args.firsts.now c.args.recipes.now c.args.place c.args.count c.args.link.now c.fetch_batch.new.link c.clear.new.self c.fetch_batch.new.rooms c.args.out.now c.in-Err.e (c.in-Err.ensures.told tag version)
+returns-in-Err-clause-told g c tag version these =
+    refused_batch (among these g.L.Link.tells) c.args.shape c.args.user (tag, version) (numbers_of c.args.clouds.now) c.args.firsts.now c.args.recipes.now c.args.place c.args.count c.args.link.now c.fetch_batch.new.link c.clear.new.self c.fetch_batch.new.rooms c.args.out.now c.in-Err.e (c.in-Err.ensures.told tag version these)
 
 pub returns-in-Err-open_batch-clause-named : goal.returns-in-Err-open_batch-clause-named
 returns-in-Err-open_batch-clause-named g c = names_to (λ x. ⊥) (Contains (numbers_of c.args.clouds.now)) c.in-Err-open_batch.e (λ x none. absurd none) c.in-Err-open_batch.ensures.alone

@@ -1,6 +1,7 @@
 use Rattle.std.proofs.Common.{◌≡◌, ◌≤◌, ◌<◌, ◌+◌, ◌-◌, ◌∙◌, ℕ, [], length, refl, subst, arith}
 use Rattle.std.specs.Prelude.{min}
 use Rattle.cd_base.specs.Numbers.{numbers_of}
+use Rattle.restore_job.specs.Asking.{among}
 use Rattle.restore_job.proofs.Leading.{leads_none, asked_on}
 use Rattle.restore_job.specs.Brought.{AreSecrets}
 use Rattle.restore_job.proofs.Bringing.{extends_none, extends_on}
@@ -13,7 +14,7 @@ use Rattle.restore_job.specs.declared.error.RestoreErr.TheVariants as errors
 use Rattle.restore_job.proofs.batch.restore_items.Goals as goal
 
 pub returns-in-Err-clause-told : goal.returns-in-Err-clause-told
-returns-in-Err-clause-told g c tag version = leads_none g.L.Link.tells (numbers_of c.args.clouds.now) c.args.link.now _ _ (λ a ready. tt) (λ a ready. tt)
+returns-in-Err-clause-told g c tag version these = leads_none (among these g.L.Link.tells) (numbers_of c.args.clouds.now) c.args.link.now _ _ (λ a ready alike. tt) (λ a ready. tt)
 
 pub loop-place-init : goal.loop-place-init
 loop-place-init g c = record {

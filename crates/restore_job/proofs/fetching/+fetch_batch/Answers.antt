@@ -11,27 +11,27 @@ use Rattle.restore_job.specs.Steps.{AreItemsAt, room_of}
 use Rattle.restore_job.proofs.Bringing.{has_none, has_more}
 use Rattle.restore_job.proofs.Causing.{names_to}
 use Rattle.restore_job.proofs.Batches.{batch_none, batch_more, batch_stops, batch_as}
-use Rattle.restore_job.specs.Asking.{Asked, is_loss}
-use Rattle.restore_job.proofs.Leading.{asked_on, asked_in, asked_at}
+use Rattle.restore_job.specs.Asking.{Asked, among, is_loss}
+use Rattle.restore_job.proofs.Leading.{asked_on, asked_in, asked_at, told_among}
 use Rattle.restore_job.proofs.Speaking.{unlost_as, batch_said_none, batch_said_one, batch_said_stop}
 use Rattle.restore_job.proofs.Beside.{lost_on}
 use Rattle.restore_job.proofs.Readable.{none_asked, readable_on, readable_stop}
 use Rattle.restore_job.proofs.fetching.+fetch_batch.Goals as goal
 
 pub returns-in_default-clause-told : goal.returns-in_default-clause-told
-returns-in_default-clause-told g t c tag version =
-    let tells = g.L.Link.tells in
+returns-in_default-clause-told g t c tag version these =
+    let tells = among these g.L.Link.tells in
     batch_as tells c.args.shape c.args.user (tag, version) c.args.firsts.now c.args.place c.args.count c.args.link.now c.args.link.now c.args.rooms.now c.args.rooms.now (Ok tt)
     [] (numbers_of c.args.clouds.now) c.args.recipes.now c.args.recipes.now (ap numbers_of c.in_default.ensures.clouds) (λ i. c.args.recipes.now)
     (batch_none tells c.args.shape c.args.user (tag, version) c.args.firsts.now c.args.recipes.now c.args.place c.args.count c.args.link.now c.args.rooms.now)
 
 pub returns-in-Err-clause-told : goal.returns-in-Err-clause-told
-returns-in-Err-clause-told g t c tag version =
-    let tells = g.L.Link.tells in
+returns-in-Err-clause-told g t c tag version these =
+    let tells = among these g.L.Link.tells in
     batch_as tells c.args.shape c.args.user (tag, version) c.args.firsts.now c.args.place c.args.count c.args.link.now c.fetch_shares.new.link c.args.rooms.now c.fetch_shares.new.rooms (Err c.in-Err.e)
     (c.in-Some.cloud.0 ∷ numbers_of c.in-Some.more.now) (numbers_of c.args.clouds.now) (c.in-Some.recipe.now ∷ c.in-Some.rest.now) c.args.recipes.now (ap numbers_of c.in-Some.ensures.clouds) c.in-Some.ensures.recipes
     (batch_stops tells c.args.shape c.args.user (tag, version) c.in-Some.cloud (numbers_of c.in-Some.more.now) c.args.firsts.now c.in-Some.recipe.now c.in-Some.rest.now c.args.place c.args.count
-    c.args.link.now c.fetch_shares.new.link c.args.rooms.now c.fetch_shares.new.rooms c.in-Err.e (c.in-Err.ensures.told tag version))
+    c.args.link.now c.fetch_shares.new.link c.args.rooms.now c.fetch_shares.new.rooms c.in-Err.e (c.in-Err.ensures.told tag version these))
 
 pub fetch_batch-requires : goal.fetch_batch-requires
 fetch_batch-requires g t c =
@@ -49,20 +49,20 @@ fetch_batch-requires g t c =
     search rules
 
 pub returns-in-Ok-fetch_batch-clause-told : goal.returns-in-Ok-fetch_batch-clause-told
-returns-in-Ok-fetch_batch-clause-told g t c tag version =
-    let tells = g.L.Link.tells in
+returns-in-Ok-fetch_batch-clause-told g t c tag version these =
+    let tells = among these g.L.Link.tells in
     batch_as tells c.args.shape c.args.user (tag, version) c.args.firsts.now c.args.place c.args.count c.args.link.now c.fetch_batch.new.link c.args.rooms.now c.fetch_batch.new.rooms (Ok tt)
     (c.in-Some.cloud.0 ∷ numbers_of c.in-Some.more.now) (numbers_of c.args.clouds.now) (c.in-Some.recipe.now ∷ c.in-Some.rest.now) c.args.recipes.now (ap numbers_of c.in-Some.ensures.clouds) c.in-Some.ensures.recipes
     (batch_more tells c.args.shape c.args.user (tag, version) c.in-Some.cloud (numbers_of c.in-Some.more.now) c.args.firsts.now c.in-Some.recipe.now c.in-Some.rest.now c.args.place c.args.count
-    c.args.link.now c.fetch_shares.new.link c.fetch_batch.new.link c.args.rooms.now c.fetch_shares.new.rooms c.fetch_batch.new.rooms (Ok tt) c.in-Ok.ensures.asked.told (c.in-Ok.ensures.told tag version) (c.in-Ok-fetch_batch.ensures.told tag version))
+    c.args.link.now c.fetch_shares.new.link c.fetch_batch.new.link c.args.rooms.now c.fetch_shares.new.rooms c.fetch_batch.new.rooms (Ok tt) (told_among g.L.Link.tells these c.args.link.now c.fetch_shares.new.link c.in-Ok.ensures.asked.told) (c.in-Ok.ensures.told tag version these) (c.in-Ok-fetch_batch.ensures.told tag version these))
 
 pub returns-in-Err-fetch_batch-clause-told : goal.returns-in-Err-fetch_batch-clause-told
-returns-in-Err-fetch_batch-clause-told g t c tag version =
-    let tells = g.L.Link.tells in
+returns-in-Err-fetch_batch-clause-told g t c tag version these =
+    let tells = among these g.L.Link.tells in
     batch_as tells c.args.shape c.args.user (tag, version) c.args.firsts.now c.args.place c.args.count c.args.link.now c.fetch_batch.new.link c.args.rooms.now c.fetch_batch.new.rooms (Err c.in-Err-fetch_batch.e)
     (c.in-Some.cloud.0 ∷ numbers_of c.in-Some.more.now) (numbers_of c.args.clouds.now) (c.in-Some.recipe.now ∷ c.in-Some.rest.now) c.args.recipes.now (ap numbers_of c.in-Some.ensures.clouds) c.in-Some.ensures.recipes
     (batch_more tells c.args.shape c.args.user (tag, version) c.in-Some.cloud (numbers_of c.in-Some.more.now) c.args.firsts.now c.in-Some.recipe.now c.in-Some.rest.now c.args.place c.args.count
-    c.args.link.now c.fetch_shares.new.link c.fetch_batch.new.link c.args.rooms.now c.fetch_shares.new.rooms c.fetch_batch.new.rooms (Err c.in-Err-fetch_batch.e) c.in-Ok.ensures.asked.told (c.in-Ok.ensures.told tag version) (c.in-Err-fetch_batch.ensures.told tag version))
+    c.args.link.now c.fetch_shares.new.link c.fetch_batch.new.link c.args.rooms.now c.fetch_shares.new.rooms c.fetch_batch.new.rooms (Err c.in-Err-fetch_batch.e) (told_among g.L.Link.tells these c.args.link.now c.fetch_shares.new.link c.in-Ok.ensures.asked.told) (c.in-Ok.ensures.told tag version these) (c.in-Err-fetch_batch.ensures.told tag version these))
 
 pub returns-in-Err-clause-named : goal.returns-in-Err-clause-named
 returns-in-Err-clause-named g t c =

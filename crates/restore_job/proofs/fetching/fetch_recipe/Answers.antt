@@ -12,8 +12,9 @@ use Rattle.restore_job.specs.Steps.{RecipeFrom, RecipeTold, NamesKind}
 use Rattle.restore_job.proofs.Speaking.{unlost}
 use Rattle.restore_job.specs.declared.error.RestoreErr.{RestoreErr}
 use Rattle.restore_job.specs.declared.error.RestoreErr.TheVariants as errors
-use Rattle.restore_job.proofs.Causing.{FaultRose, recipe_names, recipe_caused}
-use Rattle.restore_job.proofs.Leading.{one_step}
+use Rattle.restore_job.specs.Asking.{among}
+use Rattle.restore_job.proofs.Causing.{FaultRose, fault_any, recipe_names, recipe_caused}
+use Rattle.restore_job.proofs.Leading.{step_among}
 use Rattle.restore_job.proofs.Held.{recipe_moves, lost_moves, lost_recipe, error_is}
 use Rattle.restore_job.specs.Exchanges.{Exchange}
 use Rattle.restore_job.proofs.Beside.{lost_as, lost_spoken}
@@ -25,25 +26,25 @@ names shape cloud content (Ok recipe) from = tt
 names shape cloud content (Err e) from = recipe_names shape cloud (reply_at content) e from
 
 pub returns-in-Ok-clause-told : goal.returns-in-Ok-clause-told
-returns-in-Ok-clause-told g c user tag version is =
+returns-in-Ok-clause-told g c user tag version is these =
     let t = g.L.Link.tells in
-    recipe_caused t c.args.shape user (tag, version) c.args.cloud c.args.link.now c.ask.new.link c.recipe_from.result (names c.args.shape c.args.cloud c.content.result.now c.recipe_from.result c.recipe_from.ensures.from)
-    (one_step t c.args.cloud.0 c.args.link.now c.ask.new.link (FaultRose c.recipe_from.result) (RecipeTold c.args.shape user (tag, version) c.args.cloud c.recipe_from.result) c.requires.reached c.in-Ok.ensures.others
+    recipe_caused (among these t) c.args.shape user (tag, version) c.args.cloud c.args.link.now c.ask.new.link c.recipe_from.result (names c.args.shape c.args.cloud c.content.result.now c.recipe_from.result c.recipe_from.ensures.from)
+    (step_among t these c.args.cloud.0 c.args.link.now c.ask.new.link (FaultRose c.recipe_from.result) (RecipeTold c.args.shape user (tag, version) c.args.cloud c.recipe_from.result) c.requires.reached c.in-Ok.ensures.others
     (recipe_moves t c.args.shape user tag version c.args.cloud c.args.link.now c.ask.new.link c.content.result.now c.recipe_from.result c.requires.shape (g.met.L.Link.sound c.args.link.now) c.recipe_from.ensures.bytes
     (subst (λ (l : List ℕ). Asks {E = RestoreErr} t c.args.cloud.0 c.args.link.now (requests.GetRecipe user tag version) l (Ok tt) c.ask.new.link) (sym c.content.ensures.value)
     (c.in-Ok.ensures.exec (requests.GetRecipe user tag version) (record { asked = is; recipe = tt })))
-    c.recipe_from.ensures.from))
+    c.recipe_from.ensures.from) (fault_any c.recipe_from.result))
 
 pub returns-in-Err-clause-told : goal.returns-in-Err-clause-told
-returns-in-Err-clause-told g c user tag version is =
+returns-in-Err-clause-told g c user tag version is these =
     let t = g.L.Link.tells in
     let P : Peer → Peer → Type 0 = RecipeTold c.args.shape user (tag, version) c.args.cloud (Err c.in-Err.e) in
     let lost : c.in-Err.e ≡ errors.Lost c.args.cloud = error_is c.in-Err.e (errors.Lost c.args.cloud) c.in-Err.ensures.lost in
-    recipe_caused t c.args.shape user (tag, version) c.args.cloud c.args.link.now c.ask.new.link (Err c.in-Err.e) (subst (Names (λ x. x ≡ c.args.cloud.0)) (sym lost) refl)
-    (one_step t c.args.cloud.0 c.args.link.now c.ask.new.link (FaultRose {A = Recipe} (Err c.in-Err.e)) P c.requires.reached c.in-Err.ensures.others
+    recipe_caused (among these t) c.args.shape user (tag, version) c.args.cloud c.args.link.now c.ask.new.link (Err c.in-Err.e) (subst (Names (λ x. x ≡ c.args.cloud.0)) (sym lost) refl)
+    (step_among t these c.args.cloud.0 c.args.link.now c.ask.new.link (FaultRose {A = Recipe} (Err c.in-Err.e)) P c.requires.reached c.in-Err.ensures.others
     (lost_moves t c.args.cloud.0 c.args.link.now c.ask.new.link (requests.GetRecipe user tag version) c.ask.new.reply c.in-Err.e (FaultRose {A = Recipe} (Err c.in-Err.e)) P (λ list. refl)
     (c.in-Err.ensures.exec (requests.GetRecipe user tag version) (record { asked = is; recipe = tt })) (λ p q. subst (λ (x : RestoreErr). FaultRose {A = Recipe} (Err x) p q) (sym lost) tt)
-    (λ p q. lost_recipe c.args.shape user (tag, version) c.args.cloud c.in-Err.e p q c.in-Err.ensures.lost)))
+    (λ p q. lost_recipe c.args.shape user (tag, version) c.args.cloud c.in-Err.e p q c.in-Err.ensures.lost)) (fault_any {A = Recipe} (Err c.in-Err.e)))
 
 pub returns-in-Ok-clause-named : goal.returns-in-Ok-clause-named
 returns-in-Ok-clause-named g c = names c.args.shape c.args.cloud c.content.result.now c.recipe_from.result c.recipe_from.ensures.from

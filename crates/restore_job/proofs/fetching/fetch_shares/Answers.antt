@@ -61,7 +61,7 @@ returns-clause-told g c tag version =
     (subst (λ (l : List Item). IsRequest c.in-Ok.request (requests.GetShares c.args.user (fps_in (part place n l)))) c.as_slice-items.ensures c.in-Ok.ensures.asks) in
     let fits : place + n ≤ length items = (let a = c.requires.firsts in let b = c.requires.same in omega arith) in
     shares_lost t c.args.shape c.args.user (tag, version) c.args.cloud c.args.firsts.now c.args.recipe.now place n c.args.link.now c.ask.new.link c.ask.new.reply c.args.rooms.now c.args.rooms.now c.in-Err-ask.e
-    c.requires.reached c.in-Err-ask.ensures.others
+    c.requires.reached c.in-Err-ask.ensures.others fits
     (c.in-Err-ask.ensures.exec (requests.GetShares c.args.user (fps_in (part place n items))) (record { asked = asked; recipe = tt })) c.in-Err-ask.ensures.lost
 
 taken_names : (shape : Shape) (cloud : CloudNo) (firsts items : List Item) (place n : ℕ) (shares rooms filled : List (List ℕ)) (res : Result (Unit {0}) RestoreErr) → Takes shape cloud firsts items place n shares rooms filled res

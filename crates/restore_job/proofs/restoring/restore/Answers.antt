@@ -1,33 +1,42 @@
 use Rattle.std.proofs.Common.{List, ℕ, Ok, Err, subst}
 use Rattle.std.specs.List.{Contains}
 use Rattle.caont_rs.specs.Package.{tag as tag_at}
-use Rattle.restore_job.specs.Asking.{Leads}
+use Rattle.cd_base.specs.declared.ids.Tag.{Tag}
+use Rattle.cd_base.specs.declared.ids.Version.{Version}
+use Rattle.cd_base.specs.declared.shape.Shape.{Shape}
+use Rattle.restore_job.specs.Asking.{Leads, LeadsAny, among}
 use Rattle.restore_job.specs.Brought.{Brought}
-use Rattle.restore_job.specs.Refusals.{Causes, Names}
+use Rattle.restore_job.specs.Refusals.{CausesAmong, Names, Shows}
 use Rattle.restore_job.specs.Reading.{Restores}
 use Rattle.restore_job.proofs.Leading.{leads_to}
 use Rattle.restore_job.proofs.Ending.{cut_back}
+use Rattle.restore_job.proofs.Wrong.{causes_among}
 use Rattle.std.proofs.Common.{refl}
 use Rattle.restore_job.proofs.Speaking.{unlost_as}
 use Rattle.restore_job.proofs.restoring.restore.Goals as goal
 
+abbrev key : Shape → List ℕ → Version → Tag × Version
+key shape path version = (record { 0 = tag_at shape path }, version)
+
 pub returns-in-Ok-clause-restored : goal.returns-in-Ok-clause-restored
 returns-in-Ok-clause-restored g c =
-    subst (λ (l : List ℕ). Leads g.L.Link.tells l c.args.link.now c.restore_into.new.link (Causes g.L.Link.tells c.args.link.now c.args.shape c.args.user (record { 0 = tag_at c.args.shape c.args.path.now }, c.args.version) (Ok tt))
-    (Restores c.args.shape c.args.user (record { 0 = tag_at c.args.shape c.args.path.now }, c.args.version) l (Ok tt) c.args.out.now c.restore_into.new.out)) c.as_slice.ensures c.in-Ok.ensures.restored
+    subst (λ (l : List ℕ). LeadsAny g.L.Link.tells l c.args.link.now c.restore_into.new.link (λ these a b. Unit {0})
+    (Restores c.args.shape c.args.user (key c.args.shape c.args.path.now c.args.version) l (Ok tt) c.args.out.now c.restore_into.new.out)) c.as_slice.ensures c.in-Ok.ensures.restored
 
 pub returns-in-Err-clause-restored : goal.returns-in-Err-clause-restored
-returns-in-Err-clause-restored g c =
-    leads_to g.L.Link.tells c.args.clouds.now c.args.clouds.now c.args.link.now c.restore_into.new.link
-    (Causes g.L.Link.tells c.args.link.now c.args.shape c.args.user (record { 0 = tag_at c.args.shape c.args.path.now }, c.args.version) (Err c.in-Err.e))
-    (Causes g.L.Link.tells c.args.link.now c.args.shape c.args.user (record { 0 = tag_at c.args.shape c.args.path.now }, c.args.version) (Err c.in-Err.e))
-    (Restores c.args.shape c.args.user (record { 0 = tag_at c.args.shape c.args.path.now }, c.args.version) c.args.clouds.now (Err c.in-Err.e) c.args.out.now c.restore_into.new.out)
-    (Restores c.args.shape c.args.user (record { 0 = tag_at c.args.shape c.args.path.now }, c.args.version) c.args.clouds.now (Err c.in-Err.e) c.args.out.now c.truncate.new.self)
-    (subst (λ (l : List ℕ). Leads g.L.Link.tells l c.args.link.now c.restore_into.new.link (Causes g.L.Link.tells c.args.link.now c.args.shape c.args.user (record { 0 = tag_at c.args.shape c.args.path.now }, c.args.version) (Err c.in-Err.e))
-    (Restores c.args.shape c.args.user (record { 0 = tag_at c.args.shape c.args.path.now }, c.args.version) l (Err c.in-Err.e) c.args.out.now c.restore_into.new.out)) c.as_slice.ensures c.in-Err.ensures.restored)
+returns-in-Err-clause-restored g c these =
+    let t = g.L.Link.tells in
+    let k = key c.args.shape c.args.path.now c.args.version in
+    let shows = Shows (among these t) c.args.link.now c.args.shape c.args.user k (Err c.in-Err.e) in
+    leads_to (among these t) c.args.clouds.now c.args.clouds.now c.args.link.now c.restore_into.new.link shows
+    (CausesAmong t c.args.link.now c.args.shape c.args.user k (Err c.in-Err.e) these)
+    (Restores c.args.shape c.args.user k c.args.clouds.now (Err c.in-Err.e) c.args.out.now c.restore_into.new.out)
+    (Restores c.args.shape c.args.user k c.args.clouds.now (Err c.in-Err.e) c.args.out.now c.truncate.new.self)
+    (subst (λ (l : List ℕ). Leads (among these t) l c.args.link.now c.restore_into.new.link shows
+    (Restores c.args.shape c.args.user k l (Err c.in-Err.e) c.args.out.now c.restore_into.new.out)) c.as_slice.ensures (c.in-Err.ensures.restored these))
     (λ x has. has)
-    (λ a b one r known. r)
-    (λ a b one r. cut_back c.args.shape c.args.user (record { 0 = tag_at c.args.shape c.args.path.now }, c.args.version) c.args.clouds.now c.in-Err.e c.args.out.now c.restore_into.new.out c.truncate.new.self a b r)
+    (λ a b one r known. causes_among t these c.args.link.now c.args.shape c.args.user k (Err c.in-Err.e) a b r)
+    (λ a b one r. cut_back c.args.shape c.args.user k c.args.clouds.now c.in-Err.e c.args.out.now c.restore_into.new.out c.truncate.new.self a b r)
 
 pub returns-in-Err-clause-named : goal.returns-in-Err-clause-named
 returns-in-Err-clause-named g c = subst (λ (l : List ℕ). Names (Contains l) c.in-Err.e) c.as_slice.ensures c.in-Err.ensures.named

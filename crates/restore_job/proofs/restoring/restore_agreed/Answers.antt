@@ -15,7 +15,7 @@ use Rattle.restore_job.proofs.Bringing.{none_differs}
 use Rattle.restore_job.specs.Asking.{is_loss}
 use Rattle.restore_job.proofs.Causing.{compared_found, compared_names}
 use Rattle.restore_job.proofs.Leading.{asked_as, asked_none}
-use Rattle.restore_job.proofs.Ending.{agreed_as, agreed_differs, agreed_items, agreed_unmade, items_as, fits_items}
+use Rattle.restore_job.proofs.Ending.{agreed_as, agreed_differs, agreed_items, agreed_told, agreed_unmade, items_as, fits_items}
 use Rattle.std.proofs.Common.{Result, rules}
 use Rattle.cd_base.specs.declared.ids.UserId.{UserId}
 use Rattle.cd_base.specs.declared.shape.Shape.{Shape}
@@ -39,15 +39,23 @@ others_long clouds others recipes rest first recipe c r pairs =
     let m : length (numbers_of others) ≡ length others = length-map others (λ (cloud : CloudNo). cloud.0) in
     omega arith
 
-pub returns-in-Err-clause-told : goal.returns-in-Err-clause-told
-returns-in-Err-clause-told g c =
+pub returns-in-Err-clause-any : goal.returns-in-Err-clause-any
+returns-in-Err-clause-any g c =
     agreed_as g.L.Link.tells c.args.shape c.args.user c.args.link.now c.args.link.now c.args.out.now c.args.out.now (Err c.in-Err.e) (c.in-Some.first.0 ∷ numbers_of c.in-Some.others.now) (numbers_of c.args.clouds.now) (c.in-Some.recipe.now ∷ c.in-Some.rest.now) c.args.recipes.now
     (ap numbers_of c.in-Some.ensures.clouds) c.in-Some.ensures.recipes
     (agreed_differs g.L.Link.tells c.args.shape c.args.user c.in-Some.first.0 c.in-Some.recipe.now (numbers_of c.in-Some.others.now) c.in-Some.rest.now c.args.link.now c.args.out.now c.in-Err.e
     (others_long c.args.clouds.now c.in-Some.others.now c.args.recipes.now c.in-Some.rest.now c.in-Some.first c.in-Some.recipe.now c.in-Some.ensures.clouds c.in-Some.ensures.recipes c.requires.pairs) c.in-Err.ensures.compares)
 
+pub returns-in-Err-points_of-clause-any : goal.returns-in-Err-points_of-clause-any
+returns-in-Err-points_of-clause-any g c = agreed_unmade g.L.Link.tells c.args.shape c.args.user (numbers_of c.args.clouds.now) c.args.recipes.now c.args.link.now c.args.out.now
+
+pub returns-in-Err-clause-told : goal.returns-in-Err-clause-told
+returns-in-Err-clause-told g c =
+    agreed_told g.L.Link.tells c.args.shape c.args.user c.args.link.now c.args.link.now c.args.out.now c.args.out.now (Err c.in-Err.e) (numbers_of c.args.clouds.now) c.args.recipes.now (returns-in-Err-clause-any g c)
+
 pub returns-in-Err-points_of-clause-told : goal.returns-in-Err-points_of-clause-told
-returns-in-Err-points_of-clause-told g c = agreed_unmade g.L.Link.tells c.args.shape c.args.user (numbers_of c.args.clouds.now) c.args.recipes.now c.args.link.now c.args.out.now
+returns-in-Err-points_of-clause-told g c =
+    agreed_told g.L.Link.tells c.args.shape c.args.user c.args.link.now c.args.link.now c.args.out.now c.args.out.now (Err errors.NoMemory) (numbers_of c.args.clouds.now) c.args.recipes.now (returns-in-Err-points_of-clause-any g c)
 
 pub restore_items-requires-clause-lens : goal.restore_items-requires-clause-lens
 restore_items-requires-clause-lens g c =
@@ -57,8 +65,8 @@ restore_items-requires-clause-lens g c =
 pub restore_items-requires-clause-items : goal.restore_items-requires-clause-items
 restore_items-requires-clause-items g c = All-weaker (Fits c.args.shape) (λ (r : Recipe). AreItemsAt r.items) (λ r f. fits_items r.items f.items) c.args.recipes.now c.requires.fits
 
-pub returns-in-Ok-restore_items-clause-told : goal.returns-in-Ok-restore_items-clause-told
-returns-in-Ok-restore_items-clause-told g c =
+pub returns-in-Ok-restore_items-clause-any : goal.returns-in-Ok-restore_items-clause-any
+returns-in-Ok-restore_items-clause-any g c =
     let t = g.L.Link.tells in
     agreed_as t c.args.shape c.args.user c.args.link.now c.restore_items.new.link c.args.out.now c.restore_items.new.out (Ok tt) (c.in-Some.first.0 ∷ numbers_of c.in-Some.others.now) (numbers_of c.args.clouds.now) (c.in-Some.recipe.now ∷ c.in-Some.rest.now) c.args.recipes.now
     (ap numbers_of c.in-Some.ensures.clouds) c.in-Some.ensures.recipes
@@ -67,8 +75,8 @@ returns-in-Ok-restore_items-clause-told g c =
     (items_as t c.args.shape c.args.user c.args.link.now c.restore_items.new.link c.args.out.now c.restore_items.new.out (Ok tt) (c.in-Some.first.0 ∷ numbers_of c.in-Some.others.now) (numbers_of c.args.clouds.now) (c.in-Some.recipe.now ∷ c.in-Some.rest.now) c.args.recipes.now
     c.in-Some.recipe.now.items c.as_slice-firsts.result.now (ap numbers_of c.in-Some.ensures.clouds) c.in-Some.ensures.recipes c.as_slice-firsts.ensures c.in-Ok-restore_items.ensures.told))
 
-pub returns-clause-told : goal.returns-clause-told
-returns-clause-told g c =
+pub returns-clause-any : goal.returns-clause-any
+returns-clause-any g c =
     let t = g.L.Link.tells in
     agreed_as t c.args.shape c.args.user c.args.link.now c.restore_items.new.link c.args.out.now c.restore_items.new.out (Err c.in-Err-restore_items.e) (c.in-Some.first.0 ∷ numbers_of c.in-Some.others.now) (numbers_of c.args.clouds.now) (c.in-Some.recipe.now ∷ c.in-Some.rest.now) c.args.recipes.now
     (ap numbers_of c.in-Some.ensures.clouds) c.in-Some.ensures.recipes
@@ -76,6 +84,14 @@ returns-clause-told g c =
     (others_long c.args.clouds.now c.in-Some.others.now c.args.recipes.now c.in-Some.rest.now c.in-Some.first c.in-Some.recipe.now c.in-Some.ensures.clouds c.in-Some.ensures.recipes c.requires.pairs) c.in-Ok.ensures.compares
     (items_as t c.args.shape c.args.user c.args.link.now c.restore_items.new.link c.args.out.now c.restore_items.new.out (Err c.in-Err-restore_items.e) (c.in-Some.first.0 ∷ numbers_of c.in-Some.others.now) (numbers_of c.args.clouds.now) (c.in-Some.recipe.now ∷ c.in-Some.rest.now) c.args.recipes.now
     c.in-Some.recipe.now.items c.as_slice-firsts.result.now (ap numbers_of c.in-Some.ensures.clouds) c.in-Some.ensures.recipes c.as_slice-firsts.ensures c.in-Err-restore_items.ensures.told))
+
+pub returns-in-Ok-restore_items-clause-told : goal.returns-in-Ok-restore_items-clause-told
+returns-in-Ok-restore_items-clause-told g c =
+    agreed_told g.L.Link.tells c.args.shape c.args.user c.args.link.now c.restore_items.new.link c.args.out.now c.restore_items.new.out (Ok tt) (numbers_of c.args.clouds.now) c.args.recipes.now (returns-in-Ok-restore_items-clause-any g c)
+
+pub returns-clause-told : goal.returns-clause-told
+returns-clause-told g c =
+    agreed_told g.L.Link.tells c.args.shape c.args.user c.args.link.now c.restore_items.new.link c.args.out.now c.restore_items.new.out (Err c.in-Err-restore_items.e) (numbers_of c.args.clouds.now) c.args.recipes.now (returns-clause-any g c)
 
 pub returns-in-Err-clause-asked : goal.returns-in-Err-clause-asked
 returns-in-Err-clause-asked g c =

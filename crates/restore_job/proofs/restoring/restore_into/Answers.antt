@@ -29,7 +29,7 @@ returns-in-Ok-restore_agreed-clause-restored g c =
     let asks = subst (λ (l : List ℕ). IsRequest l (requests.GetRecipe c.args.user (record { 0 = tag_at c.args.shape c.args.path.now }) c.args.version)) (sym c.as_slice.ensures) c.in-Ok.ensures.asks in
     all_restored t c.args.shape c.args.user (record { 0 = tag_at c.args.shape c.args.path.now }) c.args.version (numbers_of c.args.clouds.now) c.in-Ok-fetch_recipes.recipes c.args.link.now c.fetch_recipes.new.link c.restore_agreed.new.link (Ok tt) c.args.out.now c.restore_agreed.new.out
     (c.in-Ok-fetch_recipes.ensures.told c.args.user (record { 0 = tag_at c.args.shape c.args.path.now }) c.args.version asks) c.in-Ok-fetch_recipes.ensures.asked.told
-    (subst (λ (r : List Recipe). AgreedLeads t c.args.shape c.args.user c.fetch_recipes.new.link c.restore_agreed.new.link c.args.out.now c.restore_agreed.new.out (Ok tt) (numbers_of c.args.clouds.now) r) c.as_slice-in-Ok-fetch_recipes.ensures c.in-Ok-restore_agreed.ensures.told)
+    (subst (λ (r : List Recipe). AgreedLeads t c.args.shape c.args.user c.fetch_recipes.new.link c.restore_agreed.new.link c.args.out.now c.restore_agreed.new.out (Ok tt) (numbers_of c.args.clouds.now) r) c.as_slice-in-Ok-fetch_recipes.ensures c.in-Ok-restore_agreed.ensures.any)
 
 pub returns-in-Ok-fetch_recipes-clause-restored : goal.returns-in-Ok-fetch_recipes-clause-restored
 returns-in-Ok-fetch_recipes-clause-restored g c =
@@ -37,7 +37,7 @@ returns-in-Ok-fetch_recipes-clause-restored g c =
     let asks = subst (λ (l : List ℕ). IsRequest l (requests.GetRecipe c.args.user (record { 0 = tag_at c.args.shape c.args.path.now }) c.args.version)) (sym c.as_slice.ensures) c.in-Ok.ensures.asks in
     all_restored t c.args.shape c.args.user (record { 0 = tag_at c.args.shape c.args.path.now }) c.args.version (numbers_of c.args.clouds.now) c.in-Ok-fetch_recipes.recipes c.args.link.now c.fetch_recipes.new.link c.restore_agreed.new.link (Err c.in-Err-restore_agreed.e) c.args.out.now c.restore_agreed.new.out
     (c.in-Ok-fetch_recipes.ensures.told c.args.user (record { 0 = tag_at c.args.shape c.args.path.now }) c.args.version asks) c.in-Ok-fetch_recipes.ensures.asked.told
-    (subst (λ (r : List Recipe). AgreedLeads t c.args.shape c.args.user c.fetch_recipes.new.link c.restore_agreed.new.link c.args.out.now c.restore_agreed.new.out (Err c.in-Err-restore_agreed.e) (numbers_of c.args.clouds.now) r) c.as_slice-in-Ok-fetch_recipes.ensures c.in-Err-restore_agreed.ensures.told)
+    (subst (λ (r : List Recipe). AgreedLeads t c.args.shape c.args.user c.fetch_recipes.new.link c.restore_agreed.new.link c.args.out.now c.restore_agreed.new.out (Err c.in-Err-restore_agreed.e) (numbers_of c.args.clouds.now) r) c.as_slice-in-Ok-fetch_recipes.ensures c.in-Err-restore_agreed.ensures.any)
 
 pub returns-clause-restored : goal.returns-clause-restored
 returns-clause-restored g c =
