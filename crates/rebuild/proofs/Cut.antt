@@ -1,5 +1,6 @@
 -- A rebuild that is cut is the front of one that would go on.
 use Rattle.std.proofs.Common.{◌≡◌, ◌≢◌, ℕ, List, [], ◌∷◌, ◌++◌, Some, None, Result, Ok, Err, refl, sym, ap, ◌∙◌, subst, inl, inr, ◌⊎◌, append_assoc, append-nil}
+use Rattle.std.specs.Prelude.{IfErr}
 use Rattle.std.specs.List.{Contains, flat_map}
 use Rattle.std.proofs.lemmas.Bool.{cases_eq}
 use Rattle.std.proofs.lemmas.List.Concat.{flat_map-cons}
@@ -22,7 +23,7 @@ use Rattle.rebuild.specs.declared.error.RebuildErr.{RebuildErr}
 use Rattle.rebuild.specs.declared.error.RebuildErr.TheVariants as errors
 use Rattle.rebuild.specs.declared.skips.Rebuilt.{Rebuilt}
 use Rattle.rebuild.specs.Found.{Finding, findings, first_of}
-use Rattle.rebuild.specs.Rebuilding.{StopsAs, Progressed, nothing_yet, BringsAll, asked_under, asked_for, EndsAs, LeavesBut, ComesBefore, IsCut}
+use Rattle.rebuild.specs.Rebuilding.{StopsAs, Progressed, nothing_yet, BringsAll, asked_under, asked_for, EndsAs, IsNoLack, LeavesBut, ComesBefore, IsCut}
 use Rattle.rebuild.proofs.Stable.{findings_same}
 use Rattle.rebuild.specs.Filling.{GoesOn}
 use Rattle.rebuild.proofs.Cutting.{brings_then}
@@ -169,6 +170,7 @@ module _ (shape : Shape) (user : UserId) (target : ℕ) (serve : List Command �
           (brings_then shape target serve found goes.front nothing_yet r goes.last (before target) mid goes.end us (vs ++ goes.more) brought none goes.brings));
       ends = ends;
     };
+    whole = whole_by goes.ends;
     leaves = record {
       read = λ c ne. pick_may c goes.end (after c) (before c) (cases_eq c target) (is_in from c) ne (leaves.read c ne);
       others = λ c ne out. pick_other c goes.end (after c) (before c) (cases_eq c target) (is_in from c) ne out (leaves.others c ne out);
@@ -200,12 +202,16 @@ module _ (shape : Shape) (user : UserId) (target : ℕ) (serve : List Command �
           let here = asked_in from fs c first has in
           pick_reads c goes.end (after c) (before c) (cases_eq c target) (is_in from c) (not_target c here) here (leaves.read c (not_target c here))
 
-      would_by : ((goes.left ≡ []) × (goes.last.stop ≡ None)) ⊎ ((said : Reply) × (e : RebuildErr) × (goes.last.stop ≡ Some said) × StopsAs said e) → Result Rebuilt RebuildErr
+      would_by : ((goes.left ≡ []) × (goes.last.stop ≡ None)) ⊎ ((said : Reply) × (e : RebuildErr) × (goes.last.stop ≡ Some said) × StopsAs said e × IsNoLack e) → Result Rebuilt RebuildErr
       would_by (inl all) = Ok (record { files = goes.last.files; skipped = goes.last.skips })
       would_by (inr stop) = Err stop.1
 
       would : Result Rebuilt RebuildErr
       would = would_by goes.ends
+
+      whole_by : (e : ((goes.left ≡ []) × (goes.last.stop ≡ None)) ⊎ ((said : Reply) × (e : RebuildErr) × (goes.last.stop ≡ Some said) × StopsAs said e × IsNoLack e)) → IfErr (would_by e) IsNoLack
+      whole_by (inl all) = tt
+      whole_by (inr stop) = stop.4
 
       all_are : findings shape (λ cloud. (later cloud).list) from user ≡ (found ++ goes.front) ++ goes.left
       all_are = findings_are ∙ ap (λ (l : List Finding). found ++ l) goes.split ∙ sym (append_assoc found goes.front goes.left)
@@ -213,7 +219,7 @@ module _ (shape : Shape) (user : UserId) (target : ℕ) (serve : List Command �
       stop_is : (last : Progressed) → last.stop ≡ None → last ≡ record { files = last.files; skips = last.skips; stop = None }
       stop_is last e = λ i. record { files = last.files; skips = last.skips; stop = e i }
 
-      ends_by : (e : ((goes.left ≡ []) × (goes.last.stop ≡ None)) ⊎ ((said : Reply) × (e : RebuildErr) × (goes.last.stop ≡ Some said) × StopsAs said e))
+      ends_by : (e : ((goes.left ≡ []) × (goes.last.stop ≡ None)) ⊎ ((said : Reply) × (e : RebuildErr) × (goes.last.stop ≡ Some said) × StopsAs said e × IsNoLack e))
           → EndsAs (found ++ goes.front) (findings shape (λ cloud. (later cloud).list) from user) goes.last from before later (would_by e)
       ends_by (inl all) = (sym (all_are ∙ ap (λ (l : List Finding). (found ++ goes.front) ++ l) all.0 ∙ append-nil (found ++ goes.front)), stop_is goes.last all.1, are_read (found ++ goes.front))
       ends_by (inr stop) = stops_end (found ++ goes.front) (findings shape (λ cloud. (later cloud).list) from user) goes.last from before later stop.0 stop.1 stop.2 stop.3 (are_read (found ++ goes.front))

@@ -125,7 +125,7 @@ module _ (shape : Shape) (target : ℕ) (serve : List Command → Request → Ou
         );
         comes = refl;
         counts = (it_fails shape serve at request).counts;
-        ends = inr (replies.Fault, errors.TargetFault, stop, refl);
+        ends = inr (replies.Fault, errors.TargetFault, stop, refl, tt);
       }
 
   pub goes_on : (fs : List Finding) (r : Progressed) (at : Peer) → r.stop ≡ None → GoesOn shape target serve fs r at [] at

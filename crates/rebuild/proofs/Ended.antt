@@ -71,7 +71,7 @@ module _ {L : Type 0} (t : LinkTelling L) (talk : L → ℕ → Talk → Type 0)
       leads_as t talk target from old new ended (done rebuilt) (Holds t old shape user target ended) (Holds t old shape user target (done rebuilt))
       (λ turns a at b. RunsTo shape user target (serves t old target) from (done rebuilt) turns a at b)
       (λ turns a at b. RunsTo shape user target (serves t old target) from (done rebuilt) turns a at b × Refills shape target from user b (done rebuilt)) leads
-      (λ last p q x. x) (λ turns a b x. record { caused = tt; said = tt; own = x.own })
+      (λ last p q x. x) (λ turns a b x. record { caused = tt; said = tt; ended = tt; own = x.own })
       (λ turns a at b x. (
         x,
         refills shape user target (t.full old target) from turns rebuilt a b choice
@@ -98,7 +98,7 @@ module _ {L : Type 0} (t : LinkTelling L) (talk : L → ℕ → Talk → Type 0)
         leaves,
         (([], refl), peers target (all target (contains_here target from)), refl),
         (refl, refl),
-        record { caused = tt; said = tt; own = lanes_none shape user target },
+        record { caused = tt; said = tt; ended = tt; own = lanes_none shape user target },
         λ told. (
           cut_by shape user target serve from before before [] (findings shape (λ cloud. (before cloud).list) from user) nothing_yet (before target) (before target) [] []
               (first_in shape from count) apart refl (refl, refl, refl) refl

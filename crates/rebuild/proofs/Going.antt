@@ -30,7 +30,7 @@ use Rattle.rebuild.specs.Steps.{IsFound, ReadEnds}
 use Rattle.rebuild.specs.Entering.{EntryFound, EntryStops, EntryTold, noted}
 use Rattle.rebuild.specs.Several.{AllFound, KeysBrought, KeysCut, KeysTold, keys_of}
 use Rattle.rebuild.proofs.Cutting.{goes_on, with_first}
-use Rattle.rebuild.proofs.Telling.{lanes_none, lanes_on, said_as, said_on}
+use Rattle.rebuild.proofs.Telling.{lanes_none, lanes_on, said_as, said_on, ends_behind, reply_of}
 use Rattle.rebuild.proofs.Joining.{Along, ByTurns, along_read, leads_as, serves_same, then_err}
 use Rattle.rebuild.proofs.Staying.{found_before, found_later}
 
@@ -173,7 +173,7 @@ causes_before t old mid target (Err errors.TargetFault) a b c same grow y = rose
 causes_before t old mid target (Err (errors.TargetDamaged place byte)) a b c same grow y = sym (ap (λ (f : ℕ → Bool). f target) same) ∙ y
 causes_before t old mid target (Err (errors.TargetRotten named hash)) a b c same grow y = sym (ap (λ (f : ℕ → Bool). f target) same) ∙ y
 causes_before t old mid target (Err (errors.TargetFull room used need limit)) a b c same grow y = y
-causes_before t old mid target (Err (errors.TargetLacking place)) a b c same grow y = y
+causes_before t old mid target (Err (errors.TargetLacking place)) a b c same grow y = sym (ap (λ (f : ℕ → Bool). f target) same) ∙ y
 causes_before t old mid target (Err errors.TargetNoMemory) a b c same grow y = y
 causes_before t old mid target (Err (errors.TargetStrange kind)) a b c same grow y = y
 causes_before t old mid target (Err errors.NoMemory) a b c same grow y = y
@@ -184,6 +184,7 @@ pub holds_on : {L A B : Type 0} (t : LinkTelling L) (old mid : L) (shape : Shape
 holds_on t old mid shape user target v r one two a b c same grow x y = record {
   caused = causes_before t old mid target r a b c same grow y.caused;
   said = said_on r one two y.said;
+  ended = reply_of r _ _ (ends_behind shape user target one two) y.ended;
   own = lanes_on shape user target one two x.own y.own;
 }
 
@@ -193,13 +194,14 @@ pub holds_before : {L A : Type 0} (t : LinkTelling L) (old mid : L) (shape : Sha
 holds_before t old mid shape user target r turns a b c same grow y = record {
   caused = causes_before t old mid target r a b c same grow y.caused;
   said = y.said;
+  ended = y.ended;
   own = y.own;
 }
 
 -- of another result that failed so
 pub holds_as : (A B : Type 0) {L : Type 0} (t : LinkTelling L) (link : L) (shape : Shape) (user : UserId) (target : ℕ) (e : RebuildErr) (turns : List (Turn Peer)) (a b : ℕ → Peer) → Holds {L = L} {A = A} t link shape user target (Err e) turns a b
     → Holds {L = L} {A = B} t link shape user target (Err e) turns a b
-holds_as A B t link shape user target e turns a b x = record { caused = causes_as A B t link target e a b x.caused; said = said_as A B e turns x.said; own = x.own }
+holds_as A B t link shape user target e turns a b x = record { caused = causes_as A B t link target e a b x.caused; said = said_as A B e turns x.said; ended = x.ended; own = x.own }
 
 pub faults_grow : (from : List ℕ) (target : ℕ) (a b : ℕ → Peer) → LeavesBut from target a b → (x : ℕ) → (a x).faults ≤ (b x).faults
 faults_grow from target a b leaves x =
@@ -429,7 +431,7 @@ module _ {L : Type 0} (t : LinkTelling L) (talk : L → ℕ → Talk → Type 0)
   KeysLeads serve old new keys r next result = Leads t talk target from old new result (Holds t old shape user target result) (KeysTold shape user target serve from keys r next result)
 
   pub keys_done : (link : L) (r : Progressed) → KeysLeads (serves t link target) link link [] r r (Ok tt)
-  keys_done link r = leads_still t talk target from link (tt {0}) _ _ (λ a. record { caused = tt {0}; said = tt {0}; own = lanes_none shape user target }) (λ a. keys_none shape user target (serves t link target) from apart r a)
+  keys_done link r = leads_still t talk target from link (tt {0}) _ _ (λ a. record { caused = tt {0}; said = tt {0}; ended = tt {0}; own = lanes_none shape user target }) (λ a. keys_none shape user target (serves t link target) from apart r a)
 
   pub keys_then : (old mid new : L) (key : Tag × Version) (more : List (Tag × Version)) (skip : Option SkipWhy) (r next : Progressed) (result : Result (Unit {0}) RebuildErr) → EntryLeads old mid key (ok_of skip)
       → Asked t target from old mid false → KeysLeads (serves t mid target) mid new more (noted key skip r) next result → KeysLeads (serves t old target) old new (key ∷ more) r next result
@@ -448,5 +450,5 @@ module _ {L : Type 0} (t : LinkTelling L) (talk : L → ℕ → Talk → Type 0)
   pub keys_full : (old new : L) (key : Tag × Version) (more : List (Tag × Version)) (skip : Option SkipWhy) (r next : Progressed) → r.stop ≡ None → EntryLeads old new key (ok_of skip)
       → KeysLeads (serves t old target) old new (key ∷ more) r next (Err errors.NoMemory)
   keys_full old new key more skip r next none first =
-      leads_out t talk target from old new skip (keys_err errors.NoMemory) _ _ _ _ first refl (λ turns a b x. record { caused = tt {0}; said = tt {0}; own = x.own })
+      leads_out t talk target from old new skip (keys_err errors.NoMemory) _ _ _ _ first refl (λ turns a b x. record { caused = tt {0}; said = tt {0}; ended = tt {0}; own = x.own })
       (λ turns a b x. cut_noted shape user target (serves t old target) from apart key more skip r turns a b none x)

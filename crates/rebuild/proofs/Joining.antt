@@ -35,11 +35,11 @@ use Rattle.rebuild.specs.declared.versions.Found.{Found as FoundThere}
 use Rattle.rebuild.specs.Rebuilding.{LeavesBut, lane_ended, up_to}
 use Rattle.rebuild.specs.Filling.{BringsTold, BringCaused, BringHolds, EndsBy, OfTarget, LaneEnds, StopsBy, failed_as}
 use Rattle.rebuild.specs.Over.{Reading, TargetAlong, ThenLost, Leads, Causes, HandsOn, Holds, ReadCaused, is_lost}
-use Rattle.rebuild.specs.Turns.{OwnLanes}
+use Rattle.rebuild.specs.Turns.{EndsLane, OwnLanes}
 use Rattle.rebuild.specs.Steps.{IsFound, FindsTold, ReadEnds, found_of, skip_as}
 use Rattle.rebuild.specs.Entering.{EntryBrought, EntryFound, EntryStops, EntryTold, entered_as, stopped_as}
 use Rattle.rebuild.proofs.Stable.{SameOn, missing_same, version_same}
-use Rattle.rebuild.proofs.Telling.{lanes_none, said_stopped}
+use Rattle.rebuild.proofs.Telling.{lanes_none, said_stopped, reply_stopped}
 
 -- ---- the target's own results
 
@@ -295,15 +295,15 @@ own_caused t link target known (Err errors.TargetFault) p a c is own same y = su
 own_caused t link target known (Err (errors.TargetDamaged place byte)) p a c is own same y = sym is ∙ y
 own_caused t link target known (Err (errors.TargetRotten named hash)) p a c is own same y = sym is ∙ y
 own_caused t link target known (Err (errors.TargetFull room used need limit)) p a c is own same y = tt
-own_caused t link target known (Err (errors.TargetLacking place)) p a c is own same y = tt
+own_caused t link target known (Err (errors.TargetLacking place)) p a c is own same y = sym is ∙ y
 own_caused t link target known (Err errors.TargetNoMemory) p a c is own same y = absurd y
 own_caused t link target known (Err (errors.TargetStrange kind)) p a c is own same y = absurd y
 own_caused t link target known (Err errors.NoMemory) p a c is own same y = tt
 
 -- the target alone had turns
 pub own_holds : {L B : Type 0} (t : LinkTelling L) (link : L) (shape : Shape) (user : UserId) (target : ℕ) (known : Bool) (r : Result B RebuildErr) (turns : List (Turn Peer)) (p : Peer) (a c : ℕ → Peer) → known ≡ t.told link target → OfTarget r
-    → p ≡ a target → BringHolds known (OwnLanes shape user target) r turns p (c target) → Holds t link shape user target r turns a c
-own_holds t link shape user target known r turns p a c is own same x = record { caused = own_caused t link target known r p a c is own same x.caused; said = x.said; own = x.own }
+    → p ≡ a target → BringHolds known (OwnLanes shape user target) (EndsLane shape user target) r turns p (c target) → Holds t link shape user target r turns a c
+own_holds t link shape user target known r turns p a c is own same x = record { caused = own_caused t link target known r p a c is own same x.caused; said = x.said; ended = x.ended; own = x.own }
 
 -- a cloud that is read stopped it
 pub stopped_holds : {L : Type 0} (B : Type 0) (t : LinkTelling L) (link : L) (shape : Shape) (user : UserId) (target : ℕ) (e : RestoreErr) (a b : ℕ → Peer) → ReadCaused t link e a b
@@ -311,6 +311,7 @@ pub stopped_holds : {L : Type 0} (B : Type 0) (t : LinkTelling L) (link : L) (sh
 stopped_holds B t link shape user target e a b x = record {
   caused = stopped_caused B t link target e a b x;
   said = said_stopped B e [];
+  ended = reply_stopped B e _;
   own = lanes_none shape user target;
 }
 
@@ -408,7 +409,7 @@ module _ (shape : Shape) (target : ℕ) (serve : List Command → Request → Ou
 
 -- the target isn't asked
 pub skipped_leads : {L : Type 0} (t : LinkTelling L) (talk : L → ℕ → Talk → Type 0) (target : ℕ) (link : L) (known : Bool) (shape : Shape) (user : UserId) (serve : List Command → Request → Outcome) (key : Tag × Version) (why : SkipWhy)
-    → Leads {L = L} {A = Option SkipWhy} t talk target [] link link (Ok (Some why)) (λ turns before after. BringHolds {A = Option SkipWhy} known (OwnLanes shape user target) (Ok (Some why)) turns (before target) (after target))
+    → Leads {L = L} {A = Option SkipWhy} t talk target [] link link (Ok (Some why)) (λ turns before after. BringHolds {A = Option SkipWhy} known (OwnLanes shape user target) (EndsLane shape user target) (Ok (Some why)) turns (before target) (after target))
     (λ turns before at after. EntryBrought shape target serve key (Err why) (Ok (Some why)) turns (before target) at (after target))
 skipped_leads t talk target link known shape user serve key why these all before peers = (
   before,
@@ -419,7 +420,7 @@ skipped_leads t talk target link known shape user serve key why these all before
   record { read = λ c ne. may_stay (before c); others = λ c ne out. refl; counts = (may_stay (before target)).1 },
   (([], refl), peers target (all target (contains_here target [])), refl),
   (refl, refl),
-  record { caused = tt; said = tt; own = lanes_none shape user target },
+  record { caused = tt; said = tt; ended = tt; own = lanes_none shape user target },
   λ told r. (refl, refl, refl),
 )
 

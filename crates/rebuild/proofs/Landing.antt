@@ -1,5 +1,5 @@
 -- A lane brought to its end at the target.
-use Rattle.std.proofs.Common.{◌≡◌, ◌⊎◌, ℕ, ◌<◌, ◌+◌, zero, suc, Bool, true, false, cond, List, [], ◌∷◌, ◌++◌, length, map, Option, Some, None, Result, Ok, Err, refl, sym, ap, ◌∙◌, subst, inl, inr, arith, eqb, eq-eqb, append-nil}
+use Rattle.std.proofs.Common.{◌≡◌, ◌⊎◌, ℕ, ◌<◌, ◌≤◌, ◌+◌, zero, suc, Bool, true, false, cond, List, [], ◌∷◌, ◌++◌, length, map, Option, Some, None, Result, Ok, Err, refl, sym, ap, ◌∙◌, subst, inl, inr, arith, eqb, eq-eqb, append-nil}
 use Rattle.std.specs.Prelude.{IsTrue, MatchOption, ◌==◌}
 use Rattle.std.specs.List.{count_by, range_with_len}
 use Rattle.std.proofs.lemmas.Option.{same_Some}
@@ -7,6 +7,7 @@ use Rattle.std.proofs.lemmas.Bool.{cases_eq, ne_eqb}
 use Rattle.std.proofs.lemmas.List.{length-map}
 use Rattle.std.proofs.lemmas.List.FromFn.{length-range_with_len}
 use Rattle.cd_edges.specs.Causes.{Rose}
+use Rattle.cd_base.specs.Limits.{IsPath}
 use Rattle.cd_base.specs.declared.shape.Shape.{Shape}
 use Rattle.messages.specs.declared.request.Request.{Request}
 use Rattle.messages.specs.declared.reply.Reply.{Reply}
@@ -32,11 +33,12 @@ use Rattle.restore_job.proofs.Leading.{rose_on, may_stay, counts_on}
 use Rattle.rebuild.specs.declared.error.RebuildErr.{RebuildErr}
 use Rattle.rebuild.specs.declared.error.RebuildErr.TheVariants as errors
 use Rattle.rebuild.specs.Found.{Finding}
-use Rattle.rebuild.specs.Rebuilding.{Progressed, lane_ended, lane_of, last_said, BringsOne, BringsAll, StopsAs}
+use Rattle.rebuild.specs.Rebuilding.{Progressed, lane_ended, lane_of, last_said, BringsOne, BringsAll, IsNoLack, StopsAs}
 use Rattle.rebuild.specs.Over.{Leads, TargetAlong, ThenLost}
 use Rattle.rebuild.specs.Filling.{BringsTold, BringCaused, BringHolds, EndsBy, GoesOn, LaneCut, failed_as, last_of}
-use Rattle.rebuild.specs.Turns.{LaneGoes, SaidLast}
-use Rattle.rebuild.proofs.Telling.{goes_along}
+use Rattle.rebuild.specs.Turns.{LaneEnded, LaneGoes, SaidLast}
+use Rattle.rebuild.proofs.Telling.{goes_along, goes_there, reply_always}
+use Rattle.rebuild.proofs.Lacking.{never_lacking}
 use Rattle.rebuild.proofs.Cutting.{first_request, goes_on, same_counts, with_fault, with_first}
 use Rattle.rebuild.proofs.Turning.{Alike, BringEnds, fault_rose, peer_turns, EndsAll, GoesFurther, HasEnded, PeerTurns, expected, follows, last_turn, untold_by, no_memory, never_damaged, never_rotten}
 
@@ -171,8 +173,8 @@ module _ (shape : Shape) (target : ℕ) (full : List Command → Command → Opt
 
   -- a lane that was cut
   stop_by : (f : Finding) (fs : List Finding) (r next : Progressed) (start at : Peer) (turns : List (Turn Peer)) (said : Reply) (e : RebuildErr) → BringsOne shape target (served shape target full) f.key f.found r start turns next at
-      → next.stop ≡ Some said → StopsAs said e → GoesOn shape target (served shape target full) (f ∷ fs) r start turns at
-  stop_by f fs r next start at turns said e one stop stops = record {
+      → next.stop ≡ Some said → StopsAs said e → IsNoLack e → GoesOn shape target (served shape target full) (f ∷ fs) r start turns at
+  stop_by f fs r next start at turns said e one stop stops whole = record {
     front = f ∷ [];
     left = fs;
     split = refl;
@@ -190,7 +192,7 @@ module _ (shape : Shape) (target : ℕ) (full : List Command → Command → Opt
     );
     comes = refl;
     counts = same_counts shape target (served shape target full) at;
-    ends = inr (said, e, stop, stops);
+    ends = inr (said, e, stop, stops, whole);
   }
     where
       nothing : List (Turn Peer)
@@ -202,9 +204,21 @@ module _ (shape : Shape) (target : ℕ) (full : List Command → Command → Opt
       subst (λ (l : List (Turn Peer)). GoesOn shape target (served shape target full) (f ∷ fs) r start l at) (append-nil turns)
       (with_first shape target (served shape target full) f fs r next start at at turns [] one goes (goes_on shape target (served shape target full) fs next at goes))
 
+  no_lack : (said : Reply) (e : RebuildErr) → StopsAs said e → ((place : ℕ) → said ≡ replies.Lacking place → ⊥) → IsNoLack e
+  no_lack said (errors.FromRestore e) stops none = tt
+  no_lack said errors.TargetLost stops none = tt
+  no_lack said errors.TargetFault stops none = tt
+  no_lack said (errors.TargetDamaged place byte) stops none = tt
+  no_lack said (errors.TargetRotten named hash) stops none = tt
+  no_lack said (errors.TargetFull room used need limit) stops none = tt
+  no_lack said (errors.TargetLacking place) stops none = none place stops
+  no_lack said errors.TargetNoMemory stops none = tt
+  no_lack said (errors.TargetStrange kind) stops none = tt
+  no_lack said errors.NoMemory stops none = tt
+
   cut_ended : (v : FileVersion) (due : Result Bool RebuildErr) (last : Progress) (said : Reply) (turns : List (Turn Peer)) (start at : Peer) → BringEnds due last.lane.state said
-      → LaneRun Turned (lane_of shape target v) start turns last at → last_said turns ≡ Some said → LaneCut shape target (served shape target full) v start turns at
-  cut_ended v due last said turns start at ends run is f fs r found none = by_due_cut due ends
+      → LaneRun Turned (lane_of shape target v) start turns last at → last_said turns ≡ Some said → ((place : ℕ) → said ≡ replies.Lacking place → ⊥) → LaneCut shape target (served shape target full) v start turns at
+  cut_ended v due last said turns start at ends run is whole f fs r found none = by_due_cut due ends
     where
       next : Progressed
       next = lane_ended f.key last.lane.state said r
@@ -221,18 +235,19 @@ module _ (shape : Shape) (target : ℕ) (full : List Command → Command → Opt
       by_due_cut : (due : Result Bool RebuildErr) → BringEnds due last.lane.state said → GoesOn shape target (served shape target full) (f ∷ fs) r start turns at
       by_due_cut (Ok true) ends = goes_by f fs r next start at turns one (stop_done ends)
       by_due_cut (Ok false) ends = goes_by f fs r next start at turns one (stop_exists ends.0 ends.1)
-      by_due_cut (Err e) ends = stop_by f fs r next start at turns said e one (ends.1 f.key r) ends.0
+      by_due_cut (Err e) ends = stop_by f fs r next start at turns said e one (ends.1 f.key r) ends.0 (no_lack said e ends.0 whole)
 
-  pub lane_cut : (v : FileVersion) (last : Progress) (start at : Peer) (turns : List (Turn Peer)) (told : List LaneNews) → LaneAlong Turned (lane_of shape target v) start turns last at
+  pub lane_cut : (v : FileVersion) (last : Progress) (start at : Peer) (turns : List (Turn Peer)) (told : List LaneNews) → IsPath v.path → length v.file ≤ 67108864 → LaneAlong Turned (lane_of shape target v) start turns last at
       → Tell (lane_of shape target v).lane turns told → LaneCut shape target (served shape target full) v start turns at
-  lane_cut v last start at [] told along tell f fs r found none =
+  lane_cut v last start at [] told named few along tell f fs r found none =
       let further = subst GoesFurther (sym along.0) (begun_further v) in
       with_fault shape target (served shape target full) f fs r v last start at [] further.1.0 found along further.0 further.1.1
-  lane_cut v last start at (t ∷ turns) told along tell f fs r found none =
+  lane_cut v last start at (t ∷ turns) told named few along tell f fs r found none =
       let e = lane_end v last start at t turns told along tell in
       elim e.way [
         | inl further ↦ with_fault shape target (served shape target full) f fs r v last start at (t ∷ turns) further.1.0 found along further.0 further.1.1
-        | inr way ↦ cut_ended v way.1.0 last e.reply (t ∷ turns) start at way.1.1 (run_of Turned (lane_of shape target v) last start at (t ∷ turns) along way.0) e.said f fs r found none
+        | inr way ↦ cut_ended v way.1.0 last e.reply (t ∷ turns) start at way.1.1 (run_of Turned (lane_of shape target v) last start at (t ∷ turns) along way.0) e.said
+            (λ place lacks. never_lacking shape target full v last start at (t ∷ turns) place named few along (e.said ∙ ap (λ (x : Reply). Some x) lacks)) f fs r found none
       ]
 
 -- ---- over a link
@@ -359,6 +374,7 @@ abbrev CausedBy : Bool → LaneNews → Peer → Peer → Type 0
 CausedBy known news.Fault p q = Rose p.faults q.faults
 CausedBy known (news.Damaged at byte) p q = known ≡ false
 CausedBy known (news.Rotten named hash) p q = known ≡ false
+CausedBy known (news.Lacking place) p q = known ≡ false
 CausedBy known news.NoMemory p q = ⊥
 CausedBy known told p q = Unit {0}
 
@@ -366,7 +382,7 @@ caused_end : (known : Bool) (tells : LaneNews) (r : Result Bool RebuildErr) (p q
 caused_end known news.Committed r p q is by = subst (λ (x : Result Bool RebuildErr). BringCaused known x p q) (sym is) tt
 caused_end known news.Exists r p q is by = subst (λ (x : Result Bool RebuildErr). BringCaused known x p q) (sym is) tt
 caused_end known (news.Full room used need limit) r p q is by = subst (λ (x : Result Bool RebuildErr). BringCaused known x p q) (sym is) tt
-caused_end known (news.Lacking place) r p q is by = subst (λ (x : Result Bool RebuildErr). BringCaused known x p q) (sym is) tt
+caused_end known (news.Lacking place) r p q is by = subst (λ (x : Result Bool RebuildErr). BringCaused known x p q) (sym is) by
 caused_end known news.Fault r p q is by = subst (λ (x : Result Bool RebuildErr). BringCaused known x p q) (sym is) by
 caused_end known (news.Damaged at byte) r p q is by = subst (λ (x : Result Bool RebuildErr). BringCaused known x p q) (sym is) by
 caused_end known (news.Rotten named hash) r p q is by = subst (λ (x : Result Bool RebuildErr). BringCaused known x p q) (sym is) by
@@ -388,23 +404,23 @@ said_end (news.Stored new sent) r reply turns is said so = subst (λ (x : Result
 
 -- what an executed request says of the target, by the news of its reply
 caused_news : (shape : Shape) (target : ℕ) (full : List Command → Command → Option FullRoom) (known : Bool) (w : Work) (state : LaneState) (request : Request) (reply : Reply) (tells : LaneNews) (p mid q : Peer) → CountsOn p mid
-    → lane_request w state ≡ Some request → Exec shape known (served shape target full) mid request reply q → Tells tells reply → CausedBy known tells p q
-caused_news shape target full known w state request reply news.Committed p mid q counts asks goes so = tt
-caused_news shape target full known w state request reply news.Exists p mid q counts asks goes so = tt
-caused_news shape target full known w state request reply (news.Full room used need limit) p mid q counts asks goes so = tt
-caused_news shape target full known w state request reply (news.Lacking place) p mid q counts asks goes so = tt
-caused_news shape target full known w state request reply news.Fault p mid q counts asks goes so =
+    → lane_request w state ≡ Some request → Exec shape known (served shape target full) mid request reply q → ((place : ℕ) → reply ≡ replies.Lacking place → known ≡ false) → Tells tells reply → CausedBy known tells p q
+caused_news shape target full known w state request reply news.Committed p mid q counts asks goes lacks so = tt
+caused_news shape target full known w state request reply news.Exists p mid q counts asks goes lacks so = tt
+caused_news shape target full known w state request reply (news.Full room used need limit) p mid q counts asks goes lacks so = tt
+caused_news shape target full known w state request reply (news.Lacking place) p mid q counts asks goes lacks so = lacks place so
+caused_news shape target full known w state request reply news.Fault p mid q counts asks goes lacks so =
     rose_on p.faults mid.faults q.faults counts.faults (fault_rose shape target full known w state request reply mid q asks goes so)
-caused_news shape target full known w state request reply (news.Damaged at byte) p mid q counts asks goes so =
+caused_news shape target full known w state request reply (news.Damaged at byte) p mid q counts asks goes lacks so =
     untold_by shape target full known w state request (replies.Damaged at byte) mid q asks (subst (λ (x : Reply). Exec shape known (served shape target full) mid request x q) so goes) (never_damaged at byte)
     (λ e. let f : replies.Damaged at byte ≡ replies.Fault = e in cc)
-caused_news shape target full known w state request reply (news.Rotten named hash) p mid q counts asks goes so =
+caused_news shape target full known w state request reply (news.Rotten named hash) p mid q counts asks goes lacks so =
     untold_by shape target full known w state request (replies.Rotten named hash) mid q asks (subst (λ (x : Reply). Exec shape known (served shape target full) mid request x q) so goes) (never_rotten named hash)
     (λ e. let f : replies.Rotten named hash ≡ replies.Fault = e in cc)
-caused_news shape target full known w state request reply news.NoMemory p mid q counts asks goes so =
+caused_news shape target full known w state request reply news.NoMemory p mid q counts asks goes lacks so =
     no_memory shape target full known w state request mid q asks (subst (λ (x : Reply). Exec shape known (served shape target full) mid request x q) so goes)
-caused_news shape target full known w state request reply (news.Known marks asked) p mid q counts asks goes so = tt
-caused_news shape target full known w state request reply (news.Stored new sent) p mid q counts asks goes so = tt
+caused_news shape target full known w state request reply (news.Known marks asked) p mid q counts asks goes lacks so = tt
+caused_news shape target full known w state request reply (news.Stored new sent) p mid q counts asks goes lacks so = tt
 
 then_none : {L : Type 0} (t : LinkTelling L) (target : ℕ) (link : L) (q : Peer) (o : Option LaneNews) (r : Result Bool RebuildErr) → EndsBy o r → ThenLost t target link q r link q
 then_none t target link q None r is = subst (λ (x : Result Bool RebuildErr). ThenLost t target link q x link q) (sym is) (refl, refl)
@@ -452,9 +468,9 @@ lane_still Goes views i last old new turns lt along =
 pub lanes_long : (shape : Shape) (v : FileVersion) (target : ℕ) → length (lane_begun shape v target) ≡ shape.n
 lanes_long shape v target = length-map (range_with_len 0 shape.n) (alone_in shape v target) ∙ length-range_with_len 0 shape.n
 
-module _ {L : Type 0} (t : LinkTelling L) (talk : L → ℕ → Talk → Type 0) (shape : Shape) (target : ℕ) (from : List ℕ) (v : FileVersion) (old : L) (same : t.shape old ≡ shape) where
+module _ {L : Type 0} (t : LinkTelling L) (talk : L → ℕ → Talk → Type 0) (shape : Shape) (target : ℕ) (from : List ℕ) (v : FileVersion) (named : IsPath v.path) (few : length v.file ≤ 67108864) (old : L) (same : t.shape old ≡ shape) where
   abbrev Brought : L → Result Bool RebuildErr → Peer → Type 0
-  Brought new r p = Moved t talk target from old new r (BringHolds (t.told old target) (LaneGoes (lane_of shape target v)) r) (BringsTold shape target (serves t old target) v r) p
+  Brought new r p = Moved t talk target from old new r (BringHolds (t.told old target) (LaneGoes (lane_of shape target v)) (LaneEnded (lane_of shape target v)) r) (BringsTold shape target (serves t old target) v r) p
 
   alike : Alike t old old
   alike = record { shape = refl; told = refl; full = refl }
@@ -475,29 +491,43 @@ module _ {L : Type 0} (t : LinkTelling L) (talk : L → ℕ → Talk → Type 0)
       subst (λ (s : Shape). LaneAlong (Exec s true (served s target (t.full old target))) (lane_of shape target v) p turns last q) same
       (subst (λ (b : Bool). LaneAlong (Exec (t.shape old) b (served (t.shape old) target (t.full old target))) (lane_of shape target v) p turns last q) told along)
 
+  -- one whose lane ended by a share that is lacking isn't told
+  not_told : (last : Progress) (p q : Peer) (turns : List (Turn Peer)) (place : ℕ) → LaneAlong (Does t target old) (lane_of shape target v) p turns last q → last_said turns ≡ Some (replies.Lacking place) → t.told old target ≡ false
+  not_told last p q turns place along said = by_told (t.told old target) refl
+    where
+      by_told : (b : Bool) → t.told old target ≡ b → t.told old target ≡ false
+      by_told true e = absurd (never_lacking shape target (t.full old target) v last p q turns place named few (as_told last p q turns e along) said)
+      by_told false e = e
+
   does_counts : (p q : Peer) (request : Request) (reply : Reply) → Does t target old p request reply q → CountsOn p q
   does_counts p q request reply x = x.counts
 
   goes_by_turns : (last : Progress) (p q : Peer) (turns : List (Turn Peer)) → LaneAlong (Does t target old) (lane_of shape target v) p turns last q → LaneGoes (lane_of shape target v) turns
   goes_by_turns last p q turns along = goes_along (Does t target old) (lane_of shape target v) last p q turns along
 
-  holds_by : (last : Progress) (p q : Peer) (turns : List (Turn Peer)) (told : List LaneNews) (r : Result Bool RebuildErr) → LaneAlong (Does t target old) (lane_of shape target v) p turns last q → Tell (lane_of shape target v).lane turns told → EndsBy (last_of told) r
-      → BringHolds (t.told old target) (LaneGoes (lane_of shape target v)) r turns p q
-  holds_by last p q [] told r along tell ends =
+  ended_by : (last : Progress) (p q : Peer) (turns : List (Turn Peer)) → LaneAlong (Does t target old) (lane_of shape target v) p turns last q → HasEnded last → LaneEnded (lane_of shape target v) turns
+  ended_by last p q turns along ended = subst HasEnded (goes_there (Does t target old) (lane_of shape target v) last p q turns along) ended
+
+  holds_by : (last : Progress) (p q : Peer) (turns : List (Turn Peer)) (told : List LaneNews) (r : Result Bool RebuildErr) → LaneAlong (Does t target old) (lane_of shape target v) p turns last q → HasEnded last → Tell (lane_of shape target v).lane turns told → EndsBy (last_of told) r
+      → BringHolds (t.told old target) (LaneGoes (lane_of shape target v)) (LaneEnded (lane_of shape target v)) r turns p q
+  holds_by last p q [] told r along ended tell ends =
       let is : r ≡ Err errors.NoMemory = subst (λ (l : List LaneNews). EndsBy (last_of l) r) tell ends in
       record {
         caused = subst (λ (x : Result Bool RebuildErr). BringCaused (t.told old target) x p q) (sym is) tt;
         said = subst (λ (x : Result Bool RebuildErr). SaidLast x []) (sym is) tt;
+        ended = reply_always r _ (ended_by last p q [] along ended);
         own = tt;
       }
-  holds_by last p q (u ∷ turns) told r along tell ends =
+  holds_by last p q (u ∷ turns) told r along ended tell ends =
       let lt = last_turn (Does t target old) does_counts (lane_of shape target v) last p q u turns told along tell in
       let is = subst (λ (o : Option LaneNews). EndsBy o r) lt.says ends in
       let so = news_tells lt.state lt.reply lt.tells lt.told_is in
       record {
         caused = caused_end (t.told old target) lt.tells r p q is
-            (caused_news (t.shape old) target (t.full old target) (t.told old target) lt.work lt.state lt.request lt.reply lt.tells p lt.before q lt.counts lt.asks lt.goes so);
+            (caused_news (t.shape old) target (t.full old target) (t.told old target) lt.work lt.state lt.request lt.reply lt.tells p lt.before q lt.counts lt.asks lt.goes
+            (λ place is. not_told last p q (u ∷ turns) place along (lt.said ∙ ap (λ (x : Reply). Some x) is)) so);
         said = said_end lt.tells r lt.reply (u ∷ turns) is lt.said so;
+        ended = reply_always r _ (ended_by last p q (u ∷ turns) along ended);
         own = goes_by_turns last p q (u ∷ turns) along;
       }
 
@@ -515,7 +545,7 @@ module _ {L : Type 0} (t : LinkTelling L) (talk : L → ℕ → Talk → Type 0)
         counts = w.counts;
         along = w.along;
         then = then_none t target new w.end (last_of told) r ends;
-        always = holds_by last p w.end w.turns told r w.runs w.tells ends;
+        always = holds_by last p w.end w.turns told r w.runs along.1 w.tells ends;
         told = λ is_told. subst (λ (s : Shape). BringsTold shape target (served s target (t.full old target)) v r w.turns p w.end w.end) (sym same)
             (brought_told shape target (t.full old target) v last p w.end w.end w.turns told r (as_told last p w.end w.turns is_told w.runs) along.1 w.tells ends);
       }
@@ -524,7 +554,7 @@ module _ {L : Type 0} (t : LinkTelling L) (talk : L → ℕ → Talk → Type 0)
       → LaneCut shape target (serves t old target) v p turns q
   cut_told last p q turns told is_told along tell =
       subst (λ (s : Shape). LaneCut shape target (served s target (t.full old target)) v p turns q) (sym same)
-      (lane_cut shape target (t.full old target) v last p q turns told (as_told last p q turns is_told along) tell)
+      (lane_cut shape target (t.full old target) v last p q turns told named few (as_told last p q turns is_told along) tell)
 
   -- memory ran out behind these turns
   pub memory_moves : (new : L) (lane last : Progress) (turns : List (Turn L)) (told : List LaneNews) (p : Peer) → lane ≡ lane_of shape target v → LaneAlong (Heard t talk target) lane old turns last new → Tell lane.lane turns told → t.stands old target p
@@ -540,7 +570,7 @@ module _ {L : Type 0} (t : LinkTelling L) (talk : L → ℕ → Talk → Type 0)
         counts = w.counts;
         along = w.along;
         then = (refl, refl);
-        always = record { caused = tt; said = tt; own = goes_by_turns last p w.end w.turns w.runs };
+        always = record { caused = tt; said = tt; ended = tt; own = goes_by_turns last p w.end w.turns w.runs };
         told = λ is_told. cut_told last p w.end w.turns told is_told w.runs w.tells;
       }
 
@@ -558,7 +588,7 @@ module _ {L : Type 0} (t : LinkTelling L) (talk : L → ℕ → Talk → Type 0)
         counts = counts_on p w.end g.0 w.counts (loses_counts t target mid w.end g.0 request g.2);
         along = w.along;
         then = (request, lost, g.2);
-        always = record { caused = tt; said = tt; own = goes_by_turns last p w.end w.turns w.runs };
+        always = record { caused = tt; said = tt; ended = tt; own = goes_by_turns last p w.end w.turns w.runs };
         told = λ is_told. cut_told last p w.end w.turns told is_told w.runs w.tells;
       }
 

@@ -7,6 +7,7 @@ pub mod Going
 pub mod Joined
 pub mod Joining
 pub mod KeptFiles
+pub mod Lacking
 pub mod Landing
 pub mod Lanes
 pub mod Listed

@@ -352,7 +352,7 @@ module _ {L : Type 0} (t : LinkTelling L) (talk : L → ℕ → Talk → Type 0)
 
   pub paged_none : (link : L) → So link link None nothing_yet
   paged_none link = record {
-    leads = leads_still t talk target from link (tt {0}) _ _ (λ a. record { caused = tt {0}; said = tt {0}; own = lanes_none shape user target }) (λ a. pages_none shape user target (serves t link target) from apart cloud.0 here a);
+    leads = leads_still t talk target from link (tt {0}) _ _ (λ a. record { caused = tt {0}; said = tt {0}; ended = tt {0}; own = lanes_none shape user target }) (λ a. pages_none shape user target (serves t link target) from apart cloud.0 here a);
     asked = asked_none t target from link;
     lanes = own_none t shape user target from link;
   }

@@ -23,7 +23,7 @@ use Rattle.rebuild.specs.declared.error.RebuildErr.TheVariants as errors
 use Rattle.rebuild.specs.Entering.{stopped_as}
 use Rattle.rebuild.specs.Over.{IsOfLane}
 use Rattle.rebuild.specs.Rebuilding.{lane_of, last_said}
-use Rattle.rebuild.specs.Turns.{LaneGoes, LanesGo, OwnLanes, SaidLast}
+use Rattle.rebuild.specs.Turns.{EndsLane, LaneEnded, LaneGoes, LanesGo, OfReply, OwnLanes, SaidLast, goes_to}
 use Rattle.rebuild.proofs.Lanes.{lane_asks_no_delete}
 
 -- ---- whose lanes
@@ -32,7 +32,28 @@ pub goes_along : (Goes : Peer → Request → Reply → Peer → Type 0) (p last
 goes_along Goes p last old new [] along = tt
 goes_along Goes p last old new (t ∷ turns) along = (along.0, along.2, goes_along Goes (progress_after p t.reply) last along.3.0 new turns along.3.2)
 
+-- by these turns it came there
+pub goes_there : (Goes : Peer → Request → Reply → Peer → Type 0) (p last : Progress) (old new : Peer) (turns : List (Turn Peer)) → LaneAlong Goes p old turns last new → last ≡ goes_to p turns
+goes_there Goes p last old new [] along = along.0
+goes_there Goes p last old new (t ∷ turns) along = goes_there Goes (progress_after p t.reply) last along.3.0 new turns along.3.2
+
 module _ (shape : Shape) (user : UserId) (target : ℕ) where
+  -- a lane that came to its end
+  pub ends_one : (v : FileVersion) (turns : List (Turn Peer)) → v.user ≡ user → LaneGoes (lane_of shape target v) turns → LaneEnded (lane_of shape target v) turns → EndsLane shape user target turns
+  ends_one v turns same goes ended = record { front = []; lane = turns; version = v; split = refl; user_is = same; goes = goes; ended = ended }
+
+  -- behind others
+  pub ends_behind : (us vs : List (Turn Peer)) → EndsLane shape user target vs → EndsLane shape user target (us ++ vs)
+  ends_behind us vs x = record {
+    front = us ++ x.front;
+    lane = x.lane;
+    version = x.version;
+    split = ap (λ (l : List (Turn Peer)). us ++ l) x.split ∙ sym (append_assoc us x.front x.lane);
+    user_is = x.user_is;
+    goes = x.goes;
+    ended = x.ended;
+  }
+
   pub lanes_none : OwnLanes shape user target []
   lanes_none = ([], refl)
 
@@ -133,3 +154,51 @@ said_stopped A (refusals.BadShare c secret named hash) turns = tt
 said_stopped A (refusals.BadSecret secret named hash) turns = tt
 said_stopped A (refusals.BadPad secret at byte) turns = tt
 said_stopped A refusals.NoMemory turns = tt
+
+-- ---- an error that a reply made
+
+pub of_reply : (e : RebuildErr) (P Q : Type 0) → (P → Q) → OfReply {A = Unit {0}} (Err e) P → OfReply {A = Unit {0}} (Err e) Q
+of_reply (errors.FromRestore e) P Q f x = tt
+of_reply errors.TargetLost P Q f x = tt
+of_reply errors.TargetFault P Q f x = f x
+of_reply (errors.TargetDamaged place byte) P Q f x = f x
+of_reply (errors.TargetRotten named hash) P Q f x = f x
+of_reply (errors.TargetFull room used need limit) P Q f x = f x
+of_reply (errors.TargetLacking place) P Q f x = f x
+of_reply errors.TargetNoMemory P Q f x = f x
+of_reply (errors.TargetStrange kind) P Q f x = tt
+of_reply errors.NoMemory P Q f x = tt
+
+pub reply_of : {A : Type 0} (r : Result A RebuildErr) (P Q : Type 0) → (P → Q) → OfReply r P → OfReply r Q
+reply_of (Ok x) P Q f y = tt
+reply_of (Err e) P Q f y = of_reply e P Q f y
+
+-- what holds anyway
+pub reply_always : {A : Type 0} (r : Result A RebuildErr) (P : Type 0) → P → OfReply r P
+reply_always (Ok x) P p = tt
+reply_always (Err (errors.FromRestore e)) P p = tt
+reply_always (Err errors.TargetLost) P p = tt
+reply_always (Err errors.TargetFault) P p = p
+reply_always (Err (errors.TargetDamaged place byte)) P p = p
+reply_always (Err (errors.TargetRotten named hash)) P p = p
+reply_always (Err (errors.TargetFull room used need limit)) P p = p
+reply_always (Err (errors.TargetLacking place)) P p = p
+reply_always (Err errors.TargetNoMemory) P p = p
+reply_always (Err (errors.TargetStrange kind)) P p = tt
+reply_always (Err errors.NoMemory) P p = tt
+
+-- a cloud that is read made none
+pub reply_stopped : (A : Type 0) (e : RestoreErr) (P : Type 0) → OfReply {A = A} (Err (stopped_as e)) P
+reply_stopped A (refusals.Missing c) P = tt
+reply_stopped A (refusals.Lost c) P = tt
+reply_stopped A (refusals.CloudFault c) P = tt
+reply_stopped A (refusals.CloudDamaged c at byte) P = tt
+reply_stopped A (refusals.CloudRotten c named hash) P = tt
+reply_stopped A (refusals.CloudNoMemory c) P = tt
+reply_stopped A (refusals.Strange c kind) P = tt
+reply_stopped A (refusals.RecipesDiffer one other place) P = tt
+reply_stopped A (refusals.ShareLength c secret size wanted) P = tt
+reply_stopped A (refusals.BadShare c secret named hash) P = tt
+reply_stopped A (refusals.BadSecret secret named hash) P = tt
+reply_stopped A (refusals.BadPad secret at byte) P = tt
+reply_stopped A refusals.NoMemory P = tt

@@ -20,8 +20,8 @@ use Rattle.lane_steps.specs.declared.error.StepErr.TheVariants as step_errors
 use Rattle.rebuild.specs.declared.error.RebuildErr.{RebuildErr}
 use Rattle.rebuild.specs.declared.error.RebuildErr.TheVariants as errors
 use Rattle.rebuild.specs.Found.{Finding}
-use Rattle.rebuild.specs.Rebuilding.{Progressed, lane_ended, lane_of, last_said, BringsAll, ComesBefore, StopsAs}
-use Rattle.rebuild.specs.Turns.{SaidLast}
+use Rattle.rebuild.specs.Rebuilding.{Progressed, lane_ended, lane_of, last_said, BringsAll, ComesBefore, IsNoLack, StopsAs}
+use Rattle.rebuild.specs.Turns.{OfReply, SaidLast}
 
 -- the last of some news
 abbrev pub last_of : List LaneNews → Option LaneNews
@@ -48,7 +48,7 @@ EndsBy (Some news.NoMemory) r = r ≡ Err errors.TargetNoMemory
 EndsBy said r = r ≡ Err errors.NoMemory
 
 -- Some of what is still to be brought would be: from a state on, with the turns that there were, and more behind the state that these
--- led to. The target's own reply, or nothing, would end it.
+-- led to. The target's own reply, which is none that a share is lacking, or nothing would end it.
 pub record GoesOn (shape : Shape) (target : ℕ) (serve : List Command → Request → Outcome) (fs : List Finding) (r : Progressed) (start : Peer) (turns : List (Turn Peer)) (at : Peer) : Type 0 where
   pub front : List Finding
   pub left : List Finding
@@ -59,7 +59,7 @@ pub record GoesOn (shape : Shape) (target : ℕ) (serve : List Command → Reque
   pub brings : BringsAll shape target serve front r start (turns ++ more) last end
   pub comes : ComesBefore more end at
   pub counts : CountsOn at end
-  pub ends : ((left ≡ []) × (last.stop ≡ None)) ⊎ ((said : Reply) × (e : RebuildErr) × (last.stop ≡ Some said) × StopsAs said e)
+  pub ends : ((left ≡ []) × (last.stop ≡ None)) ⊎ ((said : Reply) × (e : RebuildErr) × (last.stop ≡ Some said) × StopsAs said e × IsNoLack e)
 
 -- the lane of the version was cut behind these turns
 abbrev pub LaneCut : Shape → ℕ → (List Command → Request → Outcome) → FileVersion → Peer → List (Turn Peer) → Peer → Type 0
@@ -90,20 +90,23 @@ BringsTold shape target serve v (Err errors.NoMemory) turns start at end = LaneC
 BringsTold shape target serve v (Err errors.TargetLost) turns start at end = LaneCut shape target serve v start turns at
 BringsTold shape target serve v (Err e) turns start at end = LaneEnds shape target serve v start turns end (StopsBy e)
 
--- Told or not, its count rose where it failed; it is damaged or rotten only where it isn't told; and it answers nothing strange, nor
--- that its memory ran out.
+-- Told or not, its count rose where it failed; it is damaged, rotten or lacking a share only where it isn't told; and it answers
+-- nothing strange, nor that its memory ran out.
 abbrev pub BringCaused : {A : Type 0} → Bool → Result A RebuildErr → Peer → Peer → Type 0
 BringCaused told (Err errors.TargetFault) start end = Rose start.faults end.faults
 BringCaused told (Err (errors.TargetDamaged at byte)) start end = told ≡ false
 BringCaused told (Err (errors.TargetRotten named found)) start end = told ≡ false
+BringCaused told (Err (errors.TargetLacking place)) start end = told ≡ false
 BringCaused told (Err errors.TargetNoMemory) start end = ⊥
 BringCaused told (Err (errors.TargetStrange kind)) start end = ⊥
 BringCaused told result start end = Unit {0}
 
--- What holds, told or not: a result has its cause, and says what the target said last, if that made it; and its turns are so.
-pub record BringHolds {A : Type 0} (told : Bool) (Own : List (Turn Peer) → Type 0) (result : Result A RebuildErr) (turns : List (Turn Peer)) (start end : Peer) : Type 0 where
+-- What holds, told or not: a result has its cause, and says what the target said last, if that made it, and that so they ended; and its
+-- turns are so.
+pub record BringHolds {A : Type 0} (told : Bool) (Own Ended : List (Turn Peer) → Type 0) (result : Result A RebuildErr) (turns : List (Turn Peer)) (start end : Peer) : Type 0 where
   pub caused : BringCaused told result start end
   pub said : SaidLast result turns
+  pub ended : OfReply result (Ended turns)
   pub own : Own turns
 
 -- it is none that a cloud which is read made

@@ -19,7 +19,7 @@ use Rattle.restore_job.specs.declared.error.RestoreErr.TheVariants as refusals
 use Rattle.rebuild.specs.declared.error.RebuildErr.{RebuildErr}
 use Rattle.rebuild.specs.declared.error.RebuildErr.TheVariants as errors
 use Rattle.rebuild.specs.Rebuilding.{LeavesBut}
-use Rattle.rebuild.specs.Turns.{OwnLanes, SaidLast}
+use Rattle.rebuild.specs.Turns.{EndsLane, OfReply, OwnLanes, SaidLast}
 
 -- ---- the clouds
 
@@ -125,20 +125,23 @@ ReadCaused t link (refusals.BadShare c secret named found) before after = t.told
 ReadCaused t link e before after = Unit {0}
 
 -- What a result says, told or not: of a cloud that is read as above; the target's count rose where it failed; only one that isn't
--- told is damaged or rotten; and a target that stands for a peer never answers what no server gives, nor that its memory ran out.
+-- told is damaged, rotten or lacking a share; and a target that stands for a peer never answers what no server gives, nor that its
+-- memory ran out.
 abbrev pub Causes : {L A : Type 0} → LinkTelling L → L → ℕ → Result A RebuildErr → (ℕ → Peer) → (ℕ → Peer) → Type 0
 Causes t link target (Err (errors.FromRestore e)) before after = ReadCaused t link e before after
 Causes t link target (Err errors.TargetFault) before after = Rose (before target).faults (after target).faults
 Causes t link target (Err (errors.TargetDamaged at byte)) before after = t.told link target ≡ false
 Causes t link target (Err (errors.TargetRotten named found)) before after = t.told link target ≡ false
+Causes t link target (Err (errors.TargetLacking place)) before after = t.told link target ≡ false
 Causes t link target (Err errors.TargetNoMemory) before after = ⊥
 Causes t link target (Err (errors.TargetStrange kind)) before after = ⊥
 Causes t link target result before after = Unit {0}
 
--- What holds, told or not: a result has its cause, and says what the target said last, if that made it; and the target's turns are
--- those of the lanes of some versions of this user, one after another.
+-- What holds, told or not: a result has its cause, and says what the target said last, if that made it, at the end of its lane; and the
+-- target's turns are those of the lanes of some versions of this user, one after another.
 pub record Holds {L A : Type 0} (t : LinkTelling L) (link : L) (shape : Shape) (user : UserId) (target : ℕ) (result : Result A RebuildErr)
     (turns : List (Turn Peer)) (before after : ℕ → Peer) : Type 0 where
   pub caused : Causes t link target result before after
   pub said : SaidLast result turns
+  pub ended : OfReply result (EndsLane shape user target turns)
   pub own : OwnLanes shape user target turns

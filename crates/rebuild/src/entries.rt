@@ -9,7 +9,7 @@ ghost use Rattle.rebuild.specs.Entering.{EntryBrought, EntryTold, entered_as, st
 ghost use Rattle.rebuild.specs.Filling.{BringHolds, OfTarget};
 ghost use Rattle.rebuild.specs.Over.{Asked, BringsOwn, HandsOn, Holds, Leads, is_lost};
 ghost use Rattle.rebuild.specs.Steps.{VersionFits, found_of};
-ghost use Rattle.rebuild.specs.Turns.{OwnLanes};
+ghost use Rattle.rebuild.specs.Turns.{EndsLane, OwnLanes};
 
 use crate::{Found, RebuildErr, SkipWhy, bring, find_version};
 use cd_base::{Bytes, CloudNo, Shape, Tag, UserId, Version};
@@ -70,6 +70,7 @@ fn bring_found<L: Link>(
     requires fit { VersionFits found.now }
     ensures brings { (tag : Tag) → Leads L.tells L.talk target.0 [] link.old link.new result
         (λ turns before after. BringHolds (L.tells.told link.old target.0) (OwnLanes shape user target.0)
+        (EndsLane shape user target.0)
         result turns (before target.0) (after target.0))
         (λ turns before at after. EntryBrought shape target.0 (serves L.tells link.old target.0) (tag, version)
         (found_of user (tag, version) found.now) result turns (before target.0) at (after target.0)) }

@@ -8,7 +8,7 @@ ghost use Rattle.user_dedup.specs.Link.{serves};
 ghost use Rattle.rebuild.specs.Filling.{BringHolds, BringsTold, EndsBy, OfTarget, failed_as, last_of};
 ghost use Rattle.rebuild.specs.Over.{Asked, BringsOwn, Leads, is_lost};
 ghost use Rattle.rebuild.specs.Rebuilding.{lane_of};
-ghost use Rattle.rebuild.specs.Turns.{LaneGoes};
+ghost use Rattle.rebuild.specs.Turns.{LaneEnded, LaneGoes};
 
 use crate::RebuildErr;
 use cd_base::{Bytes, CloudNo, NoMemory, Shape, UserId, Version};
@@ -100,6 +100,8 @@ pub fn bring<L: Link>(
         → Leads L.tells L.talk target.0 from link.old link.new result
         (λ turns before after. BringHolds (L.tells.told link.old target.0)
         (LaneGoes (lane_of shape target.0 (record { user = user; path = path.now; number = version; file = file.now })))
+        (LaneEnded (lane_of shape target.0
+        (record { user = user; path = path.now; number = version; file = file.now })))
         result turns (before target.0) (after target.0))
         (λ turns before at after. BringsTold shape target.0 (serves L.tells link.old target.0)
         (record { user = user; path = path.now; number = version; file = file.now }) result turns (before target.0) at

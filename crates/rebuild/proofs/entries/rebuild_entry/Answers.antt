@@ -11,7 +11,7 @@ use Rattle.rebuild.specs.declared.error.RebuildErr.{RebuildErr}
 use Rattle.rebuild.specs.declared.error.SkipWhy.{SkipWhy}
 use Rattle.rebuild.specs.Entering.{EntryBrought, EntryTold, stopped_as}
 use Rattle.rebuild.specs.Filling.{BringHolds}
-use Rattle.rebuild.specs.Turns.{OwnLanes}
+use Rattle.rebuild.specs.Turns.{EndsLane, OwnLanes}
 use Rattle.rebuild.specs.Over.{Holds, Leads, is_lost}
 use Rattle.rebuild.specs.Steps.{found_of}
 use Rattle.rebuild.proofs.Joining.{read_then, read_stops, then_stopped, stopped_holds, stopped_told, own_holds, found_brought, serves_same}
@@ -39,7 +39,7 @@ returns-in-Ok-clause-rebuilt g c =
     let asked = c.in-Ok.ensures.asked in
     let own = c.bring_found.ensures.own in
     let apart = c.requires.apart in
-    let second = subst (λ (serve : List Command → Request → Outcome). Leads t talk target [] mid new r (λ turns before after. BringHolds (t.told mid target) (OwnLanes c.args.shape c.args.user target) r turns (before target) (after target))
+    let second = subst (λ (serve : List Command → Request → Outcome). Leads t talk target [] mid new r (λ turns before after. BringHolds (t.told mid target) (OwnLanes c.args.shape c.args.user target) (EndsLane c.args.shape c.args.user target) r turns (before target) (after target))
     (λ turns before at after. EntryBrought c.args.shape target serve key (found_of c.args.user key c.in-Ok.found) r turns (before target) at (after target))) (serves_same t target old mid asked.shape asked.full)
     (c.bring_found.ensures.brings c.args.tag) in
     read_then t talk target from old mid new r _ _ _ _ _ _ apart (asked.asks, asked.passed) asked.told c.in-Ok.ensures.told second

@@ -1,4 +1,4 @@
-use Rattle.std.proofs.Common.{◌≡◌, ◌<◌, List, [], ◌++◌, length, Option, Result, Ok, Err, false, true, refl, sym, ap, ◌∙◌, subst, arith}
+use Rattle.std.proofs.Common.{◌≡◌, ◌<◌, ◌≤◌, List, [], ◌++◌, length, Option, Result, Ok, Err, false, true, refl, sym, ap, ◌∙◌, subst, arith}
 use Rattle.cd_base.specs.declared.shape.Shape.{Shape}
 use Rattle.upload_job.specs.declared.news.LaneNews.{LaneNews}
 use Rattle.upload_job.specs.Upload.{FileVersion}
@@ -13,7 +13,7 @@ use Rattle.lane_steps.specs.Steps.{Heard}
 use Rattle.lane_steps.specs.declared.error.StepErr.{StepErr}
 use Rattle.rebuild.specs.declared.error.RebuildErr.{RebuildErr}
 use Rattle.rebuild.specs.Over.{Leads, is_lost}
-use Rattle.rebuild.specs.Turns.{LaneGoes}
+use Rattle.rebuild.specs.Turns.{LaneEnded, LaneGoes}
 use Rattle.rebuild.specs.Filling.{BringHolds, BringsTold, EndsBy, OfTarget, failed_as, last_of}
 use Rattle.rebuild.proofs.Joining.{ends_own, failed_own, failed_found}
 use Rattle.rebuild.proofs.Passing.{asked_lane, asked_none, failed_lost, lane_own, own_none}
@@ -30,8 +30,9 @@ returns-in-Err-clause-brings g c =
     let link = c.args.link.now in
     let v : FileVersion = record { user = c.args.user; path = c.args.path.now; number = c.args.version; file = c.args.file.now } in
     let lane = lane_of c.args.shape target v in
+    let few : length v.file ≤ 67108864 = c.requires.few in
     λ from apart. target_leads t g.L.Link.talk target from link link _ _ _ (no_others t target link)
-    (λ p stands. memory_moves t g.L.Link.talk c.args.shape target from v link c.requires.shape link lane lane [] [] p refl (refl, refl) refl stands)
+    (λ p stands. memory_moves t g.L.Link.talk c.args.shape target from v c.requires.path few link c.requires.shape link lane lane [] [] p refl (refl, refl) refl stands)
 
 pub finish_any-requires-clause-below : goal.finish_any-requires-clause-below
 finish_any-requires-clause-below g c = let e = lanes_long c.args.shape (record { user = c.args.user; path = c.args.path.now; number = c.args.version; file = c.args.file.now }) c.args.target.0 in let lt = c.requires.within in omega (arith, ap length c.in-Ok.ensures)
@@ -53,8 +54,9 @@ returns-in-Ok-finish_any-clause-brings g c =
     let v : FileVersion = record { user = c.args.user; path = c.args.path.now; number = c.args.version; file = c.args.file.now } in
     let is = ap (λ (l : List LaneView). starting (lane_at l target)) c.in-Ok.ensures ∙ lane_is shape v target c.requires.within in
     let f = c.in-Ok-finish_any.ensures.finishes in
+    let few : length v.file ≤ 67108864 = c.requires.few in
     λ from apart. target_leads t talk target from old new _ _ _ c.in-Ok-finish_any.ensures.others
-    (λ p stands. ended_moves t talk shape target from v old c.requires.shape new (starting (lane_at c.in-Ok.job target)) f.1 f.0 f.2 c.ended.result p is f.3 f.4
+    (λ p stands. ended_moves t talk shape target from v c.requires.path few old c.requires.shape new (starting (lane_at c.in-Ok.job target)) f.1 f.0 f.2 c.ended.result p is f.3 f.4
     (subst (λ (o : Option LaneNews). EndsBy o c.ended.result) (c.last_news.ensures ∙ ap last_of (c.deref.ensures.value ∙ f.5 ∙ ap (λ (l : List LaneNews). l ++ f.2) c.clear.ensures.items)) c.ended.ensures) stands)
 
 pub returns-clause-brings : goal.returns-clause-brings
@@ -71,13 +73,14 @@ returns-clause-brings g c =
     let f = c.in-Err-finish_any.ensures.finishes in
     let below : target < length c.in-Ok.job = (let all = lanes_long shape v target in let lt = c.requires.within in omega (arith, ap length c.in-Ok.ensures)) in
     let here = lane_still (Heard t talk target) c.in-Ok.job target f.1 old f.3 f.0 below f.4 in
+    let few : length v.file ≤ 67108864 = c.requires.few in
     λ from apart.
     let result : Result Bool RebuildErr = Err c.failed.result in
     let due : result ≡ Err (failed_as e) = ap (λ (x : RebuildErr). bad x) c.failed.ensures in
-    let clause : Result Bool RebuildErr → Type 0 = λ r. Leads t talk target from old new r (λ turns before after. BringHolds (t.told old target) (LaneGoes (lane_of shape target v)) r turns (before target) (after target)) (λ turns before at after. BringsTold shape target (serves t old target) v r turns (before target) at (after target)) in
+    let clause : Result Bool RebuildErr → Type 0 = λ r. Leads t talk target from old new r (λ turns before after. BringHolds (t.told old target) (LaneGoes (lane_of shape target v)) (LaneEnded (lane_of shape target v)) r turns (before target) (after target)) (λ turns before at after. BringsTold shape target (serves t old target) v r turns (before target) at (after target)) in
     subst clause (sym due)
     (target_leads t talk target from old new (Err (failed_as e)) _ _ c.in-Err-finish_any.ensures.others
-    (λ p stands. step_moves t talk shape target from v old c.requires.shape f.3 new (with_state c.in-Ok.job target f.1.lane.state) c.finish_any.new.job (starting (lane_at c.in-Ok.job target)) f.1 f.0 f.2 p e here f.7 is f.4 f.5 stands f.8))
+    (λ p stands. step_moves t talk shape target from v c.requires.path few old c.requires.shape f.3 new (with_state c.in-Ok.job target f.1.lane.state) c.finish_any.new.job (starting (lane_at c.in-Ok.job target)) f.1 f.0 f.2 p e here f.7 is f.4 f.5 stands f.8))
 
 pub returns-in-Err-clause-own : goal.returns-in-Err-clause-own
 returns-in-Err-clause-own g c = tt
