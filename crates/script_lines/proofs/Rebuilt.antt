@@ -28,7 +28,7 @@ use Rattle.rebuild.specs.declared.error.RebuildErr.TheVariants as errors
 use Rattle.rebuild.specs.declared.skips.Rebuilt.{Rebuilt}
 use Rattle.rebuild.specs.Rebuilding.{LeavesBut, RunsTo, IsCut}
 use Rattle.rebuild.specs.Over.{Asked, Causes, HandsOn, Holds, Leads, TargetAlong, ThenLost, is_lost, AsksFor}
-use Rattle.rebuild.specs.Turns.{OwnLanes, SaidLast}
+use Rattle.rebuild.specs.Turns.{EndsLane, OfReply, OwnLanes, SaidLast}
 use Rattle.rebuild.specs.Kept.{Refills}
 use Rattle.session.specs.Spelling.{AreClouds}
 use Rattle.session.specs.declared.event.Event.TheVariants as events
@@ -167,6 +167,7 @@ module _ {V : Type 0} (clouds : V → ℕ → Cloud) (talk : LocalLink V → ℕ
       pub along : TargetAlong (telling clouds) talk target.0 from old (v.peers target.0) turns new (after target.0)
       pub caused : Causes (telling clouds) old target.0 result v.peers after
       pub said : SaidLast result turns
+      pub ended : OfReply result (EndsLane s.shape user target.0 turns)
       pub own : OwnLanes s.shape user target.0 turns
       pub told : AllTold s (target.0 ∷ from) → RunsTo s.shape user target.0 (served_at s target.0) from result turns v.peers (after target.0) after × Refills s.shape target.0 from user after result
 
@@ -193,6 +194,7 @@ module _ {V : Type 0} (clouds : V → ℕ → Cloud) (talk : LocalLink V → ℕ
               (subst (λ (p : Peer). TargetAlong (telling clouds) talk target.0 from old (v.peers target.0) x.1 x.2 p) (sym then.1) x.6);
           caused = x.8.caused;
           said = x.8.said;
+          ended = subst (λ (sh : Shape). OfReply result (EndsLane sh user target.0 x.1)) is.shape x.8.ended;
           own = subst (λ (sh : Shape). OwnLanes sh user target.0 x.1) is.shape x.8.own;
           told = told_of x.0 x.1 x.3 then.1 x.9;
         }
@@ -251,7 +253,7 @@ module _ {V : Type 0} (clouds : V → ℕ → Cloud) (talk : LocalLink V → ℕ
         by_result (Err (errors.TargetDamaged at byte)) x = sym (is.told target.0) ∙ x
         by_result (Err (errors.TargetRotten named found)) x = sym (is.told target.0) ∙ x
         by_result (Err (errors.TargetFull room used need limit)) x = tt
-        by_result (Err (errors.TargetLacking place)) x = tt
+        by_result (Err (errors.TargetLacking place)) x = sym (is.told target.0) ∙ x
         by_result (Err errors.TargetNoMemory) x = absurd x
         by_result (Err (errors.TargetStrange kind)) x = absurd x
         by_result (Err errors.NoMemory) x = tt
@@ -285,6 +287,7 @@ module _ {V : Type 0} (clouds : V → ℕ → Cloud) (talk : LocalLink V → ℕ
               named = came.named;
               caused = known_told v.peers w.after w.caused;
               said = w.said;
+              ended = w.ended;
               own = w.own;
               told = w.told;
             },

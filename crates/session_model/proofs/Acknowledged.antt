@@ -48,7 +48,7 @@ use Rattle.session_model.specs.Vault.{Setting, Vault, served_at, opening}
 use Rattle.session_model.specs.Steps.{Moment, cloud_no, IsGetLine, NoneFrom, ComesBy, GetStep, skip_line, AreRebuildLines, AllTold, RebuildStep, VStep}
 use Rattle.session_model.specs.Run.{Answered, Turns, script_of, moments_of}
 use Rattle.session_model.specs.Kept.{upload_of, uploads, Commits, Ends as Ended, Refills, Kept, IsDispersed}
-use Rattle.session_model.specs.Headline.{Session, IsRun, script_in, moments_in, moments_begun, event_of, Clashes, GivesVersion, GivesAcknowledged, Lacks, GivesFromSome, GivesFromMore, DisksKeep}
+use Rattle.session_model.specs.Headline.{Session, IsRun, script_in, moments_in, moments_begun, event_of, Clashes, GivesVersion, GivesAcknowledged, Lacks, GivesFromSome, GivesFromMore, DisksKeep, StillKept}
 use Rattle.session.specs.Spelling.{AreSources}
 use Rattle.session_model.proofs.Ranged.{IsRanged, are_ranged, chosen_of, is_chosen, are_choice, line_fits, get_sources, chosen_below}
 use Rattle.session_model.proofs.Growing.{TagsApart, keeps_but, grows_last, stays_in, settles_in, grows_step}
@@ -108,7 +108,7 @@ events_has : (xs : List Answered) (a : Answered) (ys : List Answered) → Contai
 events_has [] a ys = contains_here a.event (script_of ys)
 events_has (x ∷ xs) a ys = contains_later x.event (script_of (xs ++ a ∷ ys)) a.event (events_has xs a ys)
 
-named_some : (shape : Shape) (named : List ℕ) → AreChoice shape named → (cloud : ℕ) × Contains named cloud
+pub named_some : (shape : Shape) (named : List ℕ) → AreChoice shape named → (cloud : ℕ) × Contains named cloud
 named_some shape [] choice = absurd (let n : 0 ≡ shape.k = choice.count in let m = shape.several in omega arith)
 named_some shape (cloud ∷ named) choice = (cloud, contains_here cloud named)
 
@@ -426,6 +426,13 @@ acknowledged clouds run is earlier later a named v e get kept apart =
 pub given_from_more : (clouds : ℕ → Cloud) (run : Session) → IsRun clouds run → GivesFromMore run
 given_from_more clouds run is earlier later a named v e get each apart =
     more_given clouds run is apart (are_ranged run.setting.shape 0 (script_in run) is.lines) earlier later a named v e get (sources_in run clouds is earlier later a named v e get) each
+
+-- a cloud that keeps what it acknowledged is told, and the version was uploaded
+pub still_known : (clouds : ℕ → Cloud) (run : Session) → IsRun clouds run → ¬ Clashes run → (cloud : ℕ) (v : FileVersion) → StillKept run cloud v → IsTrue (run.setting.told cloud) × IsRanged v
+still_known clouds run is apart cloud v still =
+    let ranged = are_ranged run.setting.shape 0 (script_in run) is.lines in
+    let e : run.history ≡ reverse (reverse run.history) ++ [] = sym (append-nil (reverse (reverse run.history)) ∙ reverse-reverse run.history) in
+    (kept_told clouds run is apart ranged (reverse run.history) cloud v still.kept, ranged v (kept_uploaded clouds run is apart ranged (reverse run.history) [] cloud v e still.kept))
 
 pub disks_keep : (clouds new : ℕ → Cloud) (run : Session) → IsRun clouds run → DisksKeep run new
 disks_keep clouds new run is cloud v image list below still apart left settles stands =

@@ -31,7 +31,7 @@ use Rattle.session_model.specs.Headline.{Session, Begun, ComesTo, IsPartOf, IsRu
 use Rattle.session_model.proofs.With.{with_here, same_other}
 
 -- a replacement leaves the count, or it rose
-replaced_count : (told : Bool) (cloud before after : ℕ) (line : Line) → IsReplaceLine told cloud before after line → (after ≡ before) ⊎ Rose before after
+pub replaced_count : (told : Bool) (cloud before after : ℕ) (line : Line) → IsReplaceLine told cloud before after line → (after ≡ before) ⊎ Rose before after
 replaced_count told cloud before after (lines.Replaced c) says = inl says.1
 replaced_count told cloud before after (lines.Fault c) says = inr says.1
 replaced_count told cloud before after (lines.Damaged c at byte) says = inl says.2

@@ -64,13 +64,13 @@ use Rattle.session_model.proofs.Counts.{keeps_executes, keeps_run, keeps_finish,
 -- ---- counts
 
 -- a count that rose goes on, and one that goes on and rises has risen
-rose_on : (a b d : ℕ) → ((f : ℕ) → f < 2 ^ 64 → f ≤ b → f ≤ d) → Rose a b → Rose a d
+pub rose_on : (a b d : ℕ) → ((f : ℕ) → f < 2 ^ 64 → f ≤ b → f ≤ d) → Rose a b → Rose a d
 rose_on a b d on rose = elim (cases_lt a (2 ^ 64 - 1)) [
   | inl lt ↦ (let up = on (a + 1) (omega (arith, lt)) (omega (arith, lt, rose)) in omega (arith, lt, up))
   | inr past ↦ (let top = on (2 ^ 64 - 1) (omega arith) (omega (arith, past, rose)) in omega (arith, past, top))
 ]
 
-then_rose : (a b d : ℕ) → ((f : ℕ) → f < 2 ^ 64 → f ≤ a → f ≤ b) → Rose b d → Rose a d
+pub then_rose : (a b d : ℕ) → ((f : ℕ) → f < 2 ^ 64 → f ≤ a → f ≤ b) → Rose b d → Rose a d
 then_rose a b d on rose = elim (cases_lt a (2 ^ 64 - 1)) [
   | inl lt ↦ (let up = on a (omega (arith, lt)) (omega arith) in omega (arith, lt, up, rose))
   | inr past ↦ (let top = on (2 ^ 64 - 1) (omega arith) past in omega (arith, past, top, rose))

@@ -23,9 +23,9 @@ use Rattle.restore_job.specs.Restored.{Unrestored, given_by, missing, restored_f
 use Rattle.rebuild.specs.declared.error.SkipWhy.{SkipWhy}
 use Rattle.rebuild.specs.Found.{Finding, findings, first_of, keys_in, name_judged, name_opened, recipes_differ, unless_skipped, version_named, version_under}
 use Rattle.rebuild.specs.Rebuilding.{Progressed, lane_of, last_said, BringsOne, BringsAll, IsFront}
-use Rattle.rebuild.specs.Turns.{LaneGoes, OwnLanes}
+use Rattle.rebuild.specs.Turns.{EndsLane, LaneEnded, LaneGoes, OwnLanes}
 use Rattle.rebuild.proofs.Bringing.{found_is}
-use Rattle.rebuild.proofs.Telling.{lanes_none, lanes_on, lanes_one, last_on}
+use Rattle.rebuild.proofs.Telling.{ends_behind, ends_one, lanes_none, lanes_on, lanes_one, last_on}
 use Rattle.rebuild.proofs.Turning.{Answered, expected, never_damaged, never_rotten}
 use Rattle.session_model.proofs.Refilled.{stopped_by}
 
@@ -67,6 +67,10 @@ run_goes : (Goes : Peer → Request → Reply → Peer → Type 0) (p last : Pro
 run_goes Goes p last old new [] run = tt
 run_goes Goes p last old new (t ∷ turns) run = (run.0, run.2, run_goes Goes (progress_after p t.reply) last run.3.0 new turns run.3.2)
 
+run_ends : (Goes : Peer → Request → Reply → Peer → Type 0) (p last : Progress) (old new : Peer) (turns : List (Turn Peer)) → LaneRun Goes p old turns last new → LaneEnded p turns
+run_ends Goes p last old new [] run = run.0
+run_ends Goes p last old new (t ∷ turns) run = run_ends Goes (progress_after p t.reply) last run.3.0 new turns run.3.2
+
 module _ (shape : Shape) (user : UserId) (target : ℕ) (serve : List Command → Request → Outcome) where
   one_own : (key : Tag × Version) (found : Result FileVersion SkipWhy) (r next : Progressed) (old mid : Peer) (turns : List (Turn Peer)) → ((v : FileVersion) → found ≡ Ok v → v.user ≡ user)
       → BringsOne shape target serve key found r old turns next mid → OwnLanes shape user target turns
@@ -84,6 +88,31 @@ module _ (shape : Shape) (user : UserId) (target : ℕ) (serve : List Command �
       subst (OwnLanes shape user target) (sym b.5)
       (lanes_on shape user target b.2 b.3 (one_own f.key f.found r b.0 old b.1 b.2 (own f (contains_here f fs)) b.4)
       (rest_own fs b.0 last b.1 new b.3 b.0.stop (brings_own fs b.0 last b.1 new b.3 (λ g has. own g (contains_later f fs g has))) b.6))
+
+-- ---- the lane that stopped it
+
+module _ (shape : Shape) (user : UserId) (target : ℕ) (serve : List Command → Request → Outcome) where
+  one_ends : (key : Tag × Version) (found : Result FileVersion SkipWhy) (r next : Progressed) (old mid : Peer) (turns : List (Turn Peer)) (said : Reply) → ((v : FileVersion) → found ≡ Ok v → v.user ≡ user)
+      → BringsOne shape target serve key found r old turns next mid → next.stop ≡ Some said → EndsLane shape user target turns
+  one_ends key (Err why) r next old mid turns said own b stop = absurd (let f : None ≡ Some said = sym (ap (λ (p : Progressed). p.stop) b.0) ∙ stop in cc)
+  one_ends key (Ok v) r next old mid turns said own b stop =
+      ends_one shape user target v turns (own v refl) (run_goes (Exec shape true serve) (lane_of shape target v) b.0 old mid turns b.2)
+      (run_ends (Exec shape true serve) (lane_of shape target v) b.0 old mid turns b.2)
+
+  -- a rebuild that this reply stopped ended so with a lane
+  pub stop_ends : (fs : List Finding) (r last : Progressed) (old new : Peer) (turns : List (Turn Peer)) (said : Reply) → AreOf user fs → r.stop ≡ None → BringsAll shape target serve fs r old turns last new → last.stop ≡ Some said
+      → EndsLane shape user target turns
+  stop_ends [] r last old new turns said own none b stop = absurd (let f : None ≡ Some said = sym none ∙ (sym (ap (λ (p : Progressed). p.stop) b.0) ∙ stop) in cc)
+  stop_ends (f ∷ fs) r last old new turns said own none b stop =
+      subst (EndsLane shape user target) (sym b.5)
+      (by_next b.0.stop refl b.6 (λ e m. stop_ends fs b.0 last b.1 new b.3 said (λ g has. own g (contains_later f fs g has)) e m stop))
+    where
+      by_next : (o : Option Reply) → b.0.stop ≡ o → MatchOption o (BringsAll shape target serve fs b.0 b.1 b.3 last new) (λ s. (b.3 ≡ []) × (last ≡ b.0) × (new ≡ b.1))
+          → (b.0.stop ≡ None → BringsAll shape target serve fs b.0 b.1 b.3 last new → EndsLane shape user target b.3) → EndsLane shape user target (b.2 ++ b.3)
+      by_next None e m again = ends_behind shape user target b.2 b.3 (again e m)
+      by_next (Some s) e m again =
+          subst (λ (l : List (Turn Peer)). EndsLane shape user target (b.2 ++ l)) (sym m.0)
+          (subst (EndsLane shape user target) (sym (append-nil b.2)) (one_ends f.key f.found r b.0 old b.1 b.2 said (own f (contains_here f fs)) b.4 (ap (λ (p : Progressed). p.stop) (sym m.1) ∙ stop)))
 
 -- ---- the reply that stopped it
 

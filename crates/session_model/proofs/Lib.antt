@@ -1,4 +1,5 @@
 pub mod Acknowledged
+pub mod Armings
 pub mod CloudServer
 pub mod Committed
 pub mod Counts
@@ -7,6 +8,7 @@ pub mod Faults
 pub mod Filled
 pub mod Growing
 pub mod Jobs
+mod Lasting
 pub mod Lines
 pub mod OfLocalLink
 pub mod Names
@@ -14,7 +16,9 @@ pub mod Parts
 pub mod Private
 pub mod Ranged
 pub mod Refilled
+pub mod Roomy
 pub mod Seen
+mod Settled
 pub mod Stopped
 pub mod Unmoved
 pub mod With

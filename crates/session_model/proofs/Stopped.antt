@@ -1,6 +1,6 @@
 -- A rebuild that was cut between two requests of its target is a part of one that goes on.
 use Rattle.std.proofs.Common.{◌≡◌, ℕ, ◌+◌, ◌≤◌, Bool, true, false, List, [], ◌∷◌, ◌++◌, length, map, Some, None, Result, Ok, Err, refl, sym, ap, ◌∙◌, subst, inl, inr, ◌⊎◌, arith}
-use Rattle.std.specs.Prelude.{◌≢◌, IsTrue}
+use Rattle.std.specs.Prelude.{◌≢◌, IfErr, IsTrue}
 use Rattle.std.specs.List.{Contains}
 use Rattle.std.proofs.lemmas.Bool.{cases_eq}
 use Rattle.cd_base.specs.declared.ids.CloudNo.{CloudNo}
@@ -22,14 +22,14 @@ use Rattle.rebuild.specs.declared.error.RebuildErr.{RebuildErr}
 use Rattle.rebuild.specs.declared.error.RebuildErr.TheVariants as errors
 use Rattle.rebuild.specs.declared.skips.Rebuilt.{Rebuilt}
 use Rattle.rebuild.specs.Found.{findings}
-use Rattle.rebuild.specs.Rebuilding.{BringsAll, IsFront, LeavesBut, Rebuilds, RunsTo, IsCut, ComesBefore, nothing_yet}
-use Rattle.rebuild.specs.Turns.{OwnLanes, SaidLast}
+use Rattle.rebuild.specs.Rebuilding.{BringsAll, IsFront, IsNoLack, LeavesBut, Rebuilds, RunsTo, IsCut, ComesBefore, nothing_yet}
+use Rattle.rebuild.specs.Turns.{EndsLane, OfReply, OwnLanes, SaidLast}
 use Rattle.rebuild.specs.Over.{HandsOn}
 use Rattle.rebuild.specs.Over as rebuilding
 use Rattle.rebuild.specs.Kept.{Refills}
 use Rattle.rebuild.proofs.Bringing.{refills}
 use Rattle.rebuild.proofs.Cutting.{first_request}
-use Rattle.rebuild.proofs.Telling.{lanes_on, lanes_one, last_on}
+use Rattle.rebuild.proofs.Telling.{ends_behind, ends_one, lanes_on, lanes_one, last_on}
 use Rattle.session.specs.Spelling.{AreClouds}
 use Rattle.session.specs.declared.event.Event.TheVariants as events
 use Rattle.transcript.specs.declared.refusal.Refusal.TheVariants as refusals
@@ -43,7 +43,7 @@ use Rattle.session_model.proofs.With.{with_here, with_other, all_join, all_count
 use Rattle.session_model.proofs.Parts.{fault_of, exec_fault}
 use Rattle.session_model.proofs.Ranged.{are_choice}
 use Rattle.session_model.proofs.Refilled.{stop_rose}
-use Rattle.session_model.proofs.Filled.{SaidSo, brings_own, found_of_user, not_damaged, not_rotten, not_short, stop_said}
+use Rattle.session_model.proofs.Filled.{SaidSo, brings_own, found_of_user, not_damaged, not_rotten, not_short, stop_ends, stop_said}
 
 -- whether all of some clouds are told
 told_or : (told : ℕ → Bool) (clouds : List ℕ) → ((cloud : ℕ) → Contains clouds cloud → IsTrue (told cloud)) ⊎ (((cloud : ℕ) → Contains clouds cloud → IsTrue (told cloud)) → ⊥)
@@ -133,6 +133,7 @@ module _ (s : Setting) (old : Vault) (user : UserId) (target : CloudNo) (from : 
         named = tt;
         caused = subst (λ (p : Peer). Rose (old.peers target.0).faults p.faults) (sym here) (rose_fault (old.peers target.0) at counts);
         said = last_on turns (next ∷ []) replies.Fault refl;
+        ended = ends_behind s.shape user target.0 turns (next ∷ []) (ends_one s.shape user target.0 another (next ∷ []) refl (refl, asks.1, tt) (inl refl));
         own = lanes_on s.shape user target.0 turns (next ∷ []) own (lanes_one s.shape user target.0 another (next ∷ []) refl (refl, asks.1, tt));
         told = λ told. absurd (none told);
       }) refl
@@ -167,10 +168,10 @@ module _ (s : Setting) (old : Vault) (user : UserId) (target : CloudNo) (from : 
 
     -- one that ends so
     part_so : (would : Result Rebuilt RebuildErr) (later : ℕ → Peer) (answers : List Line) → AreRebuildLines user target.0 would answers → rebuilding.is_lost would ≡ false → HandsOn from would
-        → rebuilding.Causes (told_so s.shape) s.told target.0 would old.peers later → SaidLast would (turns ++ more) → Ends would later
+        → rebuilding.Causes (told_so s.shape) s.told target.0 would old.peers later → SaidLast would (turns ++ more) → OfReply would (EndsLane s.shape user target.0 (turns ++ more)) → Ends would later
         → RunsTo s.shape user target.0 (served_at s target.0) from would (turns ++ more) old.peers (later target.0) later → Refills s.shape target.0 from user later would
         → LeavesBut from target.0 old.peers later → ComesBefore more (later target.0) at → Part
-    part_so would later answers lines_are found named caused said ends runs refilled leaves comes = part_by turns more at answers later (record {
+    part_so would later answers lines_are found named caused said ended ends runs refilled leaves comes = part_by turns more at answers later (record {
       result = would;
       turns = turns ++ more;
       lines_are = lines_are;
@@ -181,6 +182,7 @@ module _ (s : Setting) (old : Vault) (user : UserId) (target : CloudNo) (from : 
       named = named;
       caused = caused;
       said = said;
+      ended = ended;
       own = brings_own s.shape user target.0 (served_at s target.0) ends.found nothing_yet ends.last (old.peers target.0) (later target.0) (turns ++ more)
           (found_of_user s.shape (λ cloud. (later cloud).list) from user ends.found ends.front) ends.brings;
       told = λ all. (runs, refilled);
@@ -189,6 +191,12 @@ module _ (s : Setting) (old : Vault) (user : UserId) (target : CloudNo) (from : 
     -- the reply that stopped it
     said_of : (would : Result Rebuilt RebuildErr) (later : ℕ → Peer) (x : Ends would later) (reply : Reply) → x.last.stop ≡ Some reply → SaidSo (turns ++ more) reply
     said_of would later x reply stop = stop_said s.shape target.0 (full_for s.shape s.rooms) x.found nothing_yet x.last (old.peers target.0) (later target.0) (turns ++ more) reply refl x.brings stop
+
+    -- and its lane
+    ended_of : (would : Result Rebuilt RebuildErr) (later : ℕ → Peer) (x : Ends would later) (reply : Reply) → x.last.stop ≡ Some reply → EndsLane s.shape user target.0 (turns ++ more)
+    ended_of would later x reply stop =
+        stop_ends s.shape user target.0 (served_at s target.0) x.found nothing_yet x.last (old.peers target.0) (later target.0) (turns ++ more) reply
+        (found_of_user s.shape (λ cloud. (later cloud).list) from user x.found x.front) refl x.brings stop
 
     not_target : (c : CloudNo) → Contains from c.0 → target.0 ≢ c.0
     not_target c has same = apart (subst (Contains from) (sym same) has)
@@ -208,7 +216,7 @@ module _ (s : Setting) (old : Vault) (user : UserId) (target : CloudNo) (from : 
           brings = subst (λ (p : Peer). BringsAll s.shape target.0 (served_at s target.0) ends.found nothing_yet (old.peers target.0) (turns ++ more) ends.last p) (sym stays) ends.brings;
           ends = (ends.ends.0, (has, (rose, subst (MayRead (old.peers c.0)) (sym here) failed)));
         } in
-        part_so (Err (errors.FromRestore (restore_errors.CloudFault c))) now (lines.Refused (refusals.Fault c) ∷ []) (refusals.Fault c, refl, refl) refl (tt, has) rose tt faulted faulted tt (record {
+        part_so (Err (errors.FromRestore (restore_errors.CloudFault c))) now (lines.Refused (refusals.Fault c) ∷ []) (refusals.Fault c, refl, refl) refl (tt, has) rose tt tt faulted faulted tt (record {
           read = λ x ne. may x (cases_eq x c.0) ne;
           others = λ x ne out. with_other later c.0 (fault_of (later c.0)) x (λ same. out (subst (Contains from) (sym same) has)) ∙ leaves.others x ne out;
           counts = subst (CountsOn (old.peers target.0)) (sym stays) leaves.counts;
@@ -232,48 +240,48 @@ module _ (s : Setting) (old : Vault) (user : UserId) (target : CloudNo) (from : 
             (may_fail (old.peers c.0) (later c.0) (leaves.read c.0 (λ at_target. ne (same ∙ at_target)))))
         may x (inr other) ne = subst (MayRead (old.peers x)) (sym (with_other later c.0 (fault_of (later c.0)) x other)) (leaves.read x ne)
 
-    part_told : (would : Result Rebuilt RebuildErr) (later : ℕ → Peer) → Ends would later → LeavesBut from target.0 old.peers later → ComesBefore more (later target.0) at → Part
-    part_told (Ok rebuilt) later ends leaves comes =
-        part_so (Ok rebuilt) later (lines.Rebuilt user target rebuilt.files (length rebuilt.skipped) ∷ map skip_line rebuilt.skipped) refl refl tt tt tt ends ends
+    part_told : (would : Result Rebuilt RebuildErr) (later : ℕ → Peer) → Ends would later → IfErr would IsNoLack → LeavesBut from target.0 old.peers later → ComesBefore more (later target.0) at → Part
+    part_told (Ok rebuilt) later ends whole leaves comes =
+        part_so (Ok rebuilt) later (lines.Rebuilt user target rebuilt.files (length rebuilt.skipped) ∷ map skip_line rebuilt.skipped) refl refl tt tt tt tt ends ends
         (refills s.shape user target.0 (full_for s.shape s.rooms) from (turns ++ more) rebuilt old.peers later (are_choice s.shape from are) ends) leaves comes
-    part_told (Err (errors.FromRestore (restore_errors.CloudFault c))) later ends leaves comes =
-        part_so (Err (errors.FromRestore (restore_errors.CloudFault c))) later (lines.Refused (refusals.Fault c) ∷ []) (refusals.Fault c, refl, refl) refl (tt, ends.ends.1.0) ends.ends.1.1.0 tt ends ends tt leaves comes
-    part_told (Err (errors.FromRestore (restore_errors.Lost c))) later ends leaves comes = part_lost c later ends leaves comes
-    part_told (Err (errors.FromRestore (restore_errors.Missing c))) later ends leaves comes = absurd ends.ends.1
-    part_told (Err (errors.FromRestore (restore_errors.CloudDamaged c x byte))) later ends leaves comes = absurd ends.ends.1
-    part_told (Err (errors.FromRestore (restore_errors.CloudRotten c x y))) later ends leaves comes = absurd ends.ends.1
-    part_told (Err (errors.FromRestore (restore_errors.CloudNoMemory c))) later ends leaves comes = absurd ends.ends.1
-    part_told (Err (errors.FromRestore (restore_errors.Strange c kind))) later ends leaves comes = absurd ends.ends.1
-    part_told (Err (errors.FromRestore (restore_errors.RecipesDiffer a b place))) later ends leaves comes = absurd ends.ends.1
-    part_told (Err (errors.FromRestore (restore_errors.ShareLength c secret x y))) later ends leaves comes = absurd ends.ends.1
-    part_told (Err (errors.FromRestore (restore_errors.BadShare c secret x y))) later ends leaves comes = absurd ends.ends.1
-    part_told (Err (errors.FromRestore (restore_errors.BadSecret secret x y))) later ends leaves comes = absurd ends.ends.1
-    part_told (Err (errors.FromRestore (restore_errors.BadPad secret x byte))) later ends leaves comes = absurd ends.ends.1
-    part_told (Err (errors.FromRestore restore_errors.NoMemory)) later ends leaves comes = absurd ends.ends.1
-    part_told (Err errors.TargetFault) later ends leaves comes =
+    part_told (Err (errors.FromRestore (restore_errors.CloudFault c))) later ends whole leaves comes =
+        part_so (Err (errors.FromRestore (restore_errors.CloudFault c))) later (lines.Refused (refusals.Fault c) ∷ []) (refusals.Fault c, refl, refl) refl (tt, ends.ends.1.0) ends.ends.1.1.0 tt tt ends ends tt leaves comes
+    part_told (Err (errors.FromRestore (restore_errors.Lost c))) later ends whole leaves comes = part_lost c later ends leaves comes
+    part_told (Err (errors.FromRestore (restore_errors.Missing c))) later ends whole leaves comes = absurd ends.ends.1
+    part_told (Err (errors.FromRestore (restore_errors.CloudDamaged c x byte))) later ends whole leaves comes = absurd ends.ends.1
+    part_told (Err (errors.FromRestore (restore_errors.CloudRotten c x y))) later ends whole leaves comes = absurd ends.ends.1
+    part_told (Err (errors.FromRestore (restore_errors.CloudNoMemory c))) later ends whole leaves comes = absurd ends.ends.1
+    part_told (Err (errors.FromRestore (restore_errors.Strange c kind))) later ends whole leaves comes = absurd ends.ends.1
+    part_told (Err (errors.FromRestore (restore_errors.RecipesDiffer a b place))) later ends whole leaves comes = absurd ends.ends.1
+    part_told (Err (errors.FromRestore (restore_errors.ShareLength c secret x y))) later ends whole leaves comes = absurd ends.ends.1
+    part_told (Err (errors.FromRestore (restore_errors.BadShare c secret x y))) later ends whole leaves comes = absurd ends.ends.1
+    part_told (Err (errors.FromRestore (restore_errors.BadSecret secret x y))) later ends whole leaves comes = absurd ends.ends.1
+    part_told (Err (errors.FromRestore (restore_errors.BadPad secret x byte))) later ends whole leaves comes = absurd ends.ends.1
+    part_told (Err (errors.FromRestore restore_errors.NoMemory)) later ends whole leaves comes = absurd ends.ends.1
+    part_told (Err errors.TargetFault) later ends whole leaves comes =
         part_so (Err errors.TargetFault) later (lines.Refused (refusals.Target target_whys.Fault) ∷ []) (refusals.Target target_whys.Fault, refl, refl) refl tt
         (stop_rose s target.0 (told target.0 (contains_here target.0 from)) ends.found nothing_yet (old.peers target.0) (turns ++ more) ends.last (later target.0) ends.brings refl
-        (ends.ends.1 ∙ ap (λ x. Some x) ends.ends.2)) (said_of (Err errors.TargetFault) later ends replies.Fault (ends.ends.1 ∙ ap (λ x. Some x) ends.ends.2)).last ends ends tt leaves comes
-    part_told (Err (errors.TargetDamaged x byte)) later ends leaves comes =
+        (ends.ends.1 ∙ ap (λ x. Some x) ends.ends.2)) (said_of (Err errors.TargetFault) later ends replies.Fault (ends.ends.1 ∙ ap (λ x. Some x) ends.ends.2)).last
+        (ended_of (Err errors.TargetFault) later ends replies.Fault (ends.ends.1 ∙ ap (λ x. Some x) ends.ends.2)) ends ends tt leaves comes
+    part_told (Err (errors.TargetDamaged x byte)) later ends whole leaves comes =
         absurd (not_damaged (turns ++ more) x byte (said_of (Err (errors.TargetDamaged x byte)) later ends (replies.Damaged x byte) (ends.ends.1 ∙ ap (λ y. Some y) ends.ends.2)))
-    part_told (Err (errors.TargetRotten x y)) later ends leaves comes =
+    part_told (Err (errors.TargetRotten x y)) later ends whole leaves comes =
         absurd (not_rotten (turns ++ more) x y (said_of (Err (errors.TargetRotten x y)) later ends (replies.Rotten x y) (ends.ends.1 ∙ ap (λ z. Some z) ends.ends.2)))
-    part_told (Err (errors.TargetFull room used need limit)) later ends leaves comes =
+    part_told (Err (errors.TargetFull room used need limit)) later ends whole leaves comes =
         part_so (Err (errors.TargetFull room used need limit)) later (lines.Refused (refusals.Target (target_whys.Full room used need limit)) ∷ []) (refusals.Target (target_whys.Full room used need limit), refl, refl) refl tt tt
-        (said_of (Err (errors.TargetFull room used need limit)) later ends (replies.Full room used need limit) (ends.ends.1 ∙ ap (λ x. Some x) ends.ends.2)).last ends ends tt leaves comes
-    part_told (Err (errors.TargetLacking place)) later ends leaves comes =
-        part_so (Err (errors.TargetLacking place)) later (lines.Refused (refusals.Target (target_whys.Lacking place)) ∷ []) (refusals.Target (target_whys.Lacking place), refl, refl) refl tt tt
-        (said_of (Err (errors.TargetLacking place)) later ends (replies.Lacking place) (ends.ends.1 ∙ ap (λ x. Some x) ends.ends.2)).last ends ends tt leaves comes
-    part_told (Err errors.TargetNoMemory) later ends leaves comes =
+        (said_of (Err (errors.TargetFull room used need limit)) later ends (replies.Full room used need limit) (ends.ends.1 ∙ ap (λ x. Some x) ends.ends.2)).last
+        (ended_of (Err (errors.TargetFull room used need limit)) later ends (replies.Full room used need limit) (ends.ends.1 ∙ ap (λ x. Some x) ends.ends.2)) ends ends tt leaves comes
+    part_told (Err (errors.TargetLacking place)) later ends whole leaves comes = absurd whole
+    part_told (Err errors.TargetNoMemory) later ends whole leaves comes =
         absurd (not_short (turns ++ more) (said_of (Err errors.TargetNoMemory) later ends replies.NoMemory (ends.ends.1 ∙ ap (λ x. Some x) ends.ends.2)))
-    part_told (Err errors.TargetLost) later ends leaves comes = absurd ends.ends.2
-    part_told (Err (errors.TargetStrange kind)) later ends leaves comes = absurd ends.ends.2
-    part_told (Err errors.NoMemory) later ends leaves comes = absurd ends.ends.2
+    part_told (Err errors.TargetLost) later ends whole leaves comes = absurd ends.ends.2
+    part_told (Err (errors.TargetStrange kind)) later ends whole leaves comes = absurd ends.ends.2
+    part_told (Err errors.NoMemory) later ends whole leaves comes = absurd ends.ends.2
 
   pub part_of_rebuild : (turns : List (Turn Peer)) (at : Peer) → ExecutesAll s target.0 (old.peers target.0) turns at → OwnLanes s.shape user target.0 turns
       → (AllTold s (target.0 ∷ from) → (after : ℕ → Peer) × IsCut s.shape user target.0 (served_at s target.0) from turns old.peers at after)
       → IsPartOf s old (record { event = events.Rebuild user target from; moments = quiet old.peers ++ map (turn_moment old.peers target.0) turns }) (with_peer old.peers target.0 at)
   part_of_rebuild turns at executes own cut = elim (told_or s.told (target.0 ∷ from)) [
-    | inl told ↦ (let x = (cut told).1 in part_told told turns x.more at x.would x.later x.goes_on x.leaves x.comes)
+    | inl told ↦ (let x = (cut told).1 in part_told told turns x.more at x.would x.later x.goes_on x.whole x.leaves x.comes)
     | inr none ↦ part_untold turns at executes own none
   ]

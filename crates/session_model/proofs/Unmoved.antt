@@ -248,6 +248,7 @@ module _ (s : Setting) (old : Vault) where
         named = (tt, contains_here cloud from);
         caused = rose;
         said = tt;
+        ended = tt;
         own = lanes_none s.shape user target.0;
         told = λ told. (
           record {

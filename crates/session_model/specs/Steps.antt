@@ -44,7 +44,7 @@ use Rattle.rebuild.specs.declared.skips.Rebuilt.{Rebuilt}
 use Rattle.rebuild.specs.Rebuilding.{LeavesBut, RunsTo}
 use Rattle.rebuild.specs.Over.{HandsOn}
 use Rattle.rebuild.specs.Over as rebuilding
-use Rattle.rebuild.specs.Turns.{OwnLanes, SaidLast}
+use Rattle.rebuild.specs.Turns.{EndsLane, OfReply, OwnLanes, SaidLast}
 use Rattle.rebuild.specs.Kept.{Refills}
 use Rattle.session.specs.declared.event.Event.{Event}
 use Rattle.session.specs.declared.event.Event.TheVariants as events
@@ -391,7 +391,7 @@ AllTold s clouds = (cloud : ℕ) → Contains clouds cloud → IsTrue (s.told cl
 
 -- A rebuild: the target executes these requests, which are those of the lanes for some versions of this user, one lane after another; the
 -- clouds that it is brought the versions from are only read, and no other cloud is asked; a refusal has its cause, and names a cloud that
--- is read, or is the target's last reply. Where the target and those clouds are told, these
+-- is read, or is the target's last reply, at the end of a lane. Where the target and those clouds are told, these
 -- are the requests of the lanes for the versions that those clouds have under the keys of the first one, in order, by their lists as they
 -- stand after it; the answer is how that ended; and each version that all of them keep stands at the target, unless it has another.
 pub record RebuildStep (s : Setting) (user : UserId) (target : ℕ) (from : List ℕ)
@@ -406,6 +406,7 @@ pub record RebuildStep (s : Setting) (user : UserId) (target : ℕ) (from : List
   pub named : HandsOn from result
   pub caused : rebuilding.Causes (told_so s.shape) s.told target result old new
   pub said : SaidLast result turns
+  pub ended : OfReply result (EndsLane s.shape user target turns)
   pub own : OwnLanes s.shape user target turns
   pub told : AllTold s (target ∷ from)
       → RunsTo s.shape user target (served_at s target) from result turns old (new target) new

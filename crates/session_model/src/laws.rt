@@ -1,6 +1,6 @@
 //! What follows of a session that was carried out, whatever carried it out. The calls do nothing.
 
-ghost use Rattle.std.specs.Prelude.{◌≡◌, ◌<◌, ◌≤◌, ◌-◌, ◌^◌, ℕ, List, [], ◌∷◌, ◌++◌, map, Some};
+ghost use Rattle.std.specs.Prelude.{◌≡◌, ◌<◌, ◌≤◌, ◌-◌, ◌^◌, ℕ, IsTrue, List, [], ◌∷◌, ◌++◌, map, None, Some};
 ghost use Rattle.std.specs.List.{Contains, range_with_len};
 ghost use Rattle.cd_base.specs.declared.ids.CloudNo.{CloudNo};
 ghost use Rattle.cd_base.specs.declared.ids.UserId.{UserId};
@@ -12,9 +12,9 @@ ghost use Rattle.user_dedup.specs.declared.command.Command.{Command};
 ghost use Rattle.user_dedup.specs.Cloud.{commands_of};
 ghost use Rattle.user_dedup.specs.Dedup.{answer_over};
 ghost use Rattle.user_dedup.specs.Requests.{asker};
-ghost use Rattle.user_dedup.specs.Exec.{Peer};
+ghost use Rattle.user_dedup.specs.Exec.{MaySettleAs, Peer};
 ghost use Rattle.user_dedup.specs.Served.{served_by};
-ghost use Rattle.user_dedup.specs.Spending.{HoldsItself};
+ghost use Rattle.user_dedup.specs.Spending.{HoldsItself, IsWithin};
 ghost use Rattle.rebuild.specs.LaneSteps.Runs.{Turn};
 ghost use Rattle.rebuild.specs.Rebuilding.{IsCut};
 ghost use Rattle.rebuild.specs.Turns.{OwnLanes};
@@ -23,13 +23,13 @@ ghost use Rattle.session.specs.declared.event.Event.{Event};
 ghost use Rattle.session.specs.declared.event.Event.TheVariants as events;
 ghost use Rattle.transcript.specs.declared.line.Line.{Line};
 ghost use Rattle.session_model.specs.Vault.{Setting, Vault, served_at, with_peer, ExecutesAll};
-ghost use Rattle.session_model.specs.Steps.{Moment, quiet, turn_moment, AllTold, VStep};
+ghost use Rattle.session_model.specs.Steps.{Moment, cloud_no, quiet, turn_moment, AllTold, VStep};
 ghost use Rattle.session_model.specs.Run.{IsListIn};
 ghost use Rattle.session_model.specs.Cut.{FinishCut};
 ghost use Rattle.session_model.specs.Faults.{FaultsRose, SaysFault};
 ghost use Rattle.cd_edges.specs.Causes.{Rose};
 ghost use Rattle.cd_edges.specs.Disk.{Cloud};
-ghost use Rattle.session_model.specs.Headline.{Session, Begun, IsRun, GivesAcknowledged, GivesFromMore, DisksKeep, AnswersPrivately, IsPartOf, own_reply};
+ghost use Rattle.session_model.specs.Headline.{Session, Begun, IsRun, GivesAcknowledged, GivesFromMore, DisksKeep, AnswersPrivately, IsPartOf, own_reply, script_in};
 
 /// Each reply that speaks of a user's own commands follows from that user's view.
 pub fn law_of_own_replies()
@@ -103,6 +103,31 @@ pub fn law_of_counts()
     // Nor does a whole session, a line that was begun among its lines.
     ensures session { (least : ℕ) → least < 2 ^ 64 → (clouds : ℕ → Cloud) (run : Session) (cloud : ℕ)
         → IsRun clouds run → least ≤ (clouds cloud).faults → least ≤ (run.last cloud).faults }
+{}
+
+/// Only an arm line arms: a cloud that no line of a session arms, one that was begun among them, was armed as often at its end as at
+/// its start.
+pub fn law_of_armings()
+    ensures { (clouds : ℕ → Cloud) (run : Session) (cloud : ℕ) → IsRun clouds run
+        → ((calls keep : ℕ) → ¬ Contains (script_in run) (events.Arm (cloud_no cloud) calls keep))
+        → (run.last cloud).armings ≡ (clouds cloud).armings }
+{}
+
+/// A told cloud whose count of faults didn't rise in a session has no command pending in its last state: it has one list.
+pub fn law_of_last_lists()
+    ensures pending { (clouds : ℕ → Cloud) (run : Session) (cloud : ℕ) → IsRun clouds run
+        → IsTrue (run.setting.told cloud) → ¬ Rose (clouds cloud).faults (run.last cloud).faults
+        → (run.last cloud).pending ≡ None }
+    ensures list { (clouds : ℕ → Cloud) (run : Session) (cloud : ℕ) (list : List Command) → IsRun clouds run
+        → IsTrue (run.setting.told cloud) → ¬ Rose (clouds cloud).faults (run.last cloud).faults
+        → MaySettleAs (run.last cloud) list → list ≡ (run.last cloud).list }
+{}
+
+/// Each list that a told cloud may have behind a session is within the session's rooms, at each of its fronts.
+pub fn law_of_kept_rooms()
+    ensures { (clouds : ℕ → Cloud) (run : Session) (cloud : ℕ) (list : List Command) → IsRun clouds run
+        → IsTrue (run.setting.told cloud) → MaySettleAs (run.last cloud) list
+        → IsWithin run.setting.shape run.setting.rooms list }
 {}
 
 /// An answer that says `fault` of a cloud is given only where that cloud's count of faults rose in its line. So a session says it of no

@@ -5,7 +5,7 @@
 mod laws;
 
 pub use laws::{
-    law_of_acknowledged, law_of_counts, law_of_faults, law_of_moments, law_of_own_commands,
-    law_of_own_replies, law_of_parts,
+    law_of_acknowledged, law_of_armings, law_of_counts, law_of_faults, law_of_kept_rooms,
+    law_of_last_lists, law_of_moments, law_of_own_commands, law_of_own_replies, law_of_parts,
 };
 pub use local_link::{Fate, LocalLink, OpenErr, Servers, damage_of};

@@ -1,5 +1,5 @@
 -- A rebuild of a session, as a user's own session has it.
-use Rattle.std.proofs.Common.{◌≡◌, ◌≢◌, ℕ, ◌<◌, ◌≤◌, Bool, true, false, cond, List, [], ◌∷◌, ◌++◌, length, map, Option, Some, None, Result, Ok, Err, refl, sym, ap, ◌∙◌, subst, inl, inr, arith}
+use Rattle.std.proofs.Common.{◌≡◌, ◌≢◌, ◌⊎◌, ℕ, ◌<◌, ◌≤◌, Bool, true, false, cond, List, [], ◌∷◌, ◌++◌, length, map, Option, Some, None, Result, Ok, Err, refl, sym, ap, ◌∙◌, subst, inl, inr, arith}
 use Rattle.std.specs.Prelude.{All, MatchOption, IsTrue, ◌==◌, option_map}
 use Rattle.std.specs.List.{Contains}
 use Rattle.std.proofs.lemmas.Bool.{cases_eq, cases_lt, eqb-true}
@@ -24,7 +24,7 @@ use Rattle.user_dedup.specs.Exec.{Peer, Exec, Settles}
 use Rattle.user_dedup.proofs.Owned.{contains_here, contains_later, contains_nothing, contains_cases}
 use Rattle.user_dedup.proofs.Views.{strings_among, sent_is_held, held_is}
 use Rattle.upload_job.specs.Upload.{FileVersion}
-use Rattle.session_model.specs.LaneSteps.Runs.{Turn, Progress, LaneRun, progress_after}
+use Rattle.session_model.specs.LaneSteps.Runs.{Turn, Progress, LaneRun, progress_after, request_of}
 use Rattle.restore_job.specs.declared.error.RestoreErr.{RestoreErr}
 use Rattle.restore_job.specs.declared.error.RestoreErr.TheVariants as refusals
 use Rattle.restore_job.specs.Refusals.{Names}
@@ -40,7 +40,7 @@ use Rattle.session_model.specs.Rebuild.Found.{Finding, skip_of, name_opened, nam
 use Rattle.session_model.specs.Rebuild.Rebuilding.{Progressed, nothing_yet, last_said, lane_of, BringsOne, BringsAll, ReadStopped, asked_for, EndsAs, IsFront, LeavesBut, Rebuilds, RunsTo}
 use Rattle.session_model.specs.Rebuild.Over.{HandsOn, ReadCaused, is_lost}
 use Rattle.session_model.specs.Rebuild.Over as rebuilding
-use Rattle.session_model.specs.Rebuild.Turns.{LaneGoes, LanesGo, SaidLast}
+use Rattle.session_model.specs.Rebuild.Turns.{EndsLane, LaneEnded, LaneGoes, LanesGo, OfReply, SaidLast, goes_to}
 use Rattle.session_model.specs.Rebuild.Standing.{entry_in, HasEntry, HasOther}
 use Rattle.session_model.specs.Rebuild.Kept.{HasVersion, HasAnother, SkipCaused, Refills}
 use Rattle.transcript.specs.declared.line.Line.{Line}
@@ -74,6 +74,38 @@ module _ (u : UserId) (k : Cloud) where
   own_lanes_go shape user target [] turns x = ap (map (own_one u k)) x
   own_lanes_go shape user target (v ∷ versions) turns x =
       (map (own_one u k) x.0, map (own_one u k) x.1, ap (map (own_one u k)) x.2 ∙ map-append (own_one u k) x.0 x.1, x.3, own_goes (lane_of shape target v) x.0 x.4, own_lanes_go shape user target versions x.1 x.5)
+
+  same_goes : (p : Progress) (turns : List (Turn Peer)) → goes_to p (map (own_one u k) turns) ≡ goes_to p turns
+  same_goes p [] = refl
+  same_goes p (t ∷ turns) = same_goes (progress_after p t.reply) turns
+
+  own_end : (p : Progress) (turns : List (Turn Peer)) → LaneEnded p turns → LaneEnded p (map (own_one u k) turns)
+  own_end p turns x = subst (λ (q : Progress). IsTrue q.stopped ⊎ (request_of q.lane ≡ None)) (sym (same_goes p turns)) x
+
+  own_ends : (shape : Shape) (user : UserId) (target : ℕ) (turns : List (Turn Peer)) → EndsLane shape user target turns → EndsLane shape user target (map (own_one u k) turns)
+  own_ends shape user target turns x = record {
+    front = map (own_one u k) x.front;
+    lane = map (own_one u k) x.lane;
+    version = x.version;
+    split = ap (map (own_one u k)) x.split ∙ map-append (own_one u k) x.front x.lane;
+    user_is = x.user_is;
+    goes = own_goes (lane_of shape target x.version) x.lane x.goes;
+    ended = own_end (lane_of shape target x.version) x.lane x.ended;
+  }
+
+  own_ended : (r : Result Rebuilt RebuildErr) (shape : Shape) (user : UserId) (target : ℕ) (turns : List (Turn Peer)) → OfReply r (EndsLane shape user target turns)
+      → OfReply r (EndsLane shape user target (map (own_one u k) turns))
+  own_ended (Ok x) shape user target turns y = tt
+  own_ended (Err (errors.FromRestore e)) shape user target turns y = tt
+  own_ended (Err errors.TargetLost) shape user target turns y = tt
+  own_ended (Err errors.TargetFault) shape user target turns y = own_ends shape user target turns y
+  own_ended (Err (errors.TargetDamaged at byte)) shape user target turns y = own_ends shape user target turns y
+  own_ended (Err (errors.TargetRotten named found)) shape user target turns y = own_ends shape user target turns y
+  own_ended (Err (errors.TargetFull room used need limit)) shape user target turns y = own_ends shape user target turns y
+  own_ended (Err (errors.TargetLacking place)) shape user target turns y = own_ends shape user target turns y
+  own_ended (Err errors.TargetNoMemory) shape user target turns y = own_ends shape user target turns y
+  own_ended (Err (errors.TargetStrange kind)) shape user target turns y = tt
+  own_ended (Err errors.NoMemory) shape user target turns y = tt
 
   own_said : (r : Result Rebuilt RebuildErr) (turns : List (Turn Peer)) → SaidLast r turns → SaidLast r (map (own_one u k) turns)
   own_said (Ok x) turns said = said
@@ -641,6 +673,7 @@ module _ (s : Setting) (u : UserId) (k : ℕ → Cloud) (In : ℕ → List ℕ �
       | inr later ↦ All-contains (λ cloud. cloud < s.shape.n) from c within later
     ])) x.named x.caused;
     said = own_said u (k target) x.result x.turns x.said;
+    ended = own_ended u (k target) x.result s.shape u target x.turns x.ended;
     own = (x.own.0, own_lanes_go u (k target) s.shape u target x.own.0 x.turns x.own.1);
     told = λ told. (runs_there x.result (map (own_one u (k target)) x.turns) x.found x.lines_are own_rebuilds, refills_there x.result (x.told told).1);
   }

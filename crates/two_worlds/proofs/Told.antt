@@ -173,7 +173,7 @@ module _ (shape : Shape) (rooms : Rooms) (one two : ℕ → Bool) (yes_one : (c 
     rebuild_caused target below (Err (errors.TargetDamaged at byte)) old new hands c = absurd (never target below c)
     rebuild_caused target below (Err (errors.TargetRotten hash found)) old new hands c = absurd (never target below c)
     rebuild_caused target below (Err (errors.TargetFull room used need limit)) old new hands c = c
-    rebuild_caused target below (Err (errors.TargetLacking place)) old new hands c = c
+    rebuild_caused target below (Err (errors.TargetLacking place)) old new hands c = absurd (never target below c)
     rebuild_caused target below (Err errors.TargetNoMemory) old new hands c = c
     rebuild_caused target below (Err (errors.TargetStrange kind)) old new hands c = c
     rebuild_caused target below (Err errors.NoMemory) old new hands c = c
@@ -191,6 +191,7 @@ module _ (shape : Shape) (rooms : Rooms) (one two : ℕ → Bool) (yes_one : (c 
       named = x.named;
       caused = rebuild_caused target below x.result old new x.named x.caused;
       said = x.said;
+      ended = x.ended;
       own = x.own;
       told = λ all. x.told all_one;
     }
