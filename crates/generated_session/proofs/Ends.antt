@@ -36,6 +36,7 @@ use Rattle.generated_session.specs.Progress.{start_of, no_numbers, HasMade, IsSt
 use Rattle.generated_session.proofs.Tallies.{numbers_none}
 use Rattle.generated_session.proofs.Script.{lines_len}
 use Rattle.generated_session.proofs.Along.{says_none}
+use Rattle.generated_session.proofs.Unarmed.{never_armed}
 
 -- the lines of an order, and the files that they upload
 abbrev pub lines_of : Order → List Event
@@ -55,6 +56,8 @@ module _ (laws : Laws) (order : Order) (call : Passing) (s : Setting) (four : Op
     shape = (four.0, four.1);
     rooms = four.2;
     lines = (lines_of order, refl);
+    unarmed = never_armed call.old call.new (unopened_of s call.old) order.seed order.files order.pieces (lines_of order) refl
+        (replayed_unopened laws (status_of end) (start_of call.old) s call.new some told prepares).arms;
     began = λ o. absurd (let f : false ≡ true = o in cc);
     spared = subst (λ (n : ℕ). AreSpared n call.old call.new) four.0 spared;
     cause = cause;
@@ -108,16 +111,20 @@ module _ {V : Type 0} (clouds : V → ℕ → Cloud) (laws : Laws) (order : Orde
       → IsCaused end order call (session_of s history at begun last) → IsSummed end order call (session_of s history at begun last) → Generates end order call
   opened end history at begun last holds same told rest lines cause summed = record {
     run = session_of s history at begun last;
-    replayed = subst (λ (f : ℕ → Cloud). Replayed (status_of end) call.old f (session_of s history at begun last)) now
-        (replayed laws (status_of end) (start_of call.old) s (clouds link.shelf.now) history at begun last holds same image told);
+    replayed = all;
     shape = (four.0, four.1);
     rooms = four.2;
     lines = (rest, lines);
+    unarmed = never_armed call.old call.new (session_of s history at begun last) order.seed order.files order.pieces rest lines all.arms;
     began = λ o. subst (λ (n : ℕ). AreEmptyBelow call.old n) four.0 holds.began;
     spared = inl (subst (λ (n : ℕ). AreEmptyBelow call.old n) four.0 holds.began);
     cause = cause;
     summed = summed;
   }
+    where
+      all : Replayed (status_of end) call.old call.new (session_of s history at begun last)
+      all = subst (λ (f : ℕ → Cloud). Replayed (status_of end) call.old f (session_of s history at begun last)) now
+          (replayed laws (status_of end) (start_of call.old) s (clouds link.shelf.now) history at begun last holds same image told)
 
   -- want of memory stopped it
   pub ends_stopped : Part → Here → IsStopped clouds call.old s link (lines_of order) → call.sink_after ≡ call.sink_before → call.after ≡ call.before → Generates ends.NoMemory order call

@@ -14,3 +14,4 @@ mod Script
 pub mod SessionModel
 mod Stops
 mod Tallies
+mod Unarmed

@@ -83,6 +83,8 @@ pub record Generates (end : ReplayEnd) (order : Order) (call : Passing) : Type 0
   pub shape : (run.setting.shape.n ≡ 4) × (run.setting.shape.k ≡ 3)
   pub rooms : run.setting.rooms ≡ usual_rooms
   pub lines : (rest : List Event) × (script_in run ++ rest ≡ generated_lines order.seed order.files order.pieces)
+  -- no line arms
+  pub unarmed : (cloud : ℕ) → (call.new cloud).armings ≡ (call.old cloud).armings
   pub began : IsTrue run.opened → AreEmptyBelow call.old 4
   -- where a told cloud isn't empty, nothing was written, whatever the end
   pub spared : AreSpared 4 call.old call.new

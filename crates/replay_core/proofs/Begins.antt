@@ -43,7 +43,7 @@ use Rattle.replay_core.specs.Going.{Start, call_of, IsReady, HasCome, EndsWritin
 use Rattle.replay_core.proofs.Clouds.{EmptyStands, all_same, spared_by, spared_same}
 use Rattle.replay_core.proofs.Firsts.{map_told}
 use Rattle.replay_core.proofs.Sessions.{appends_none, grown, appends_grown, holds_between}
-use Rattle.replay_core.proofs.Whole.{Laws, session_of, CausedBy, cause_of, read_some, header_read, apart, ends_so, cut_lines, cut_none}
+use Rattle.replay_core.proofs.Whole.{Laws, arms_by, session_of, CausedBy, cause_of, read_some, header_read, apart, ends_so, cut_lines, cut_none}
 
 -- no cloud is opened, and no line was carried out
 abbrev pub unopened_of : Setting → (ℕ → Cloud) → Session
@@ -56,6 +56,7 @@ replayed_unopened laws status start s new some told prepares = record {
   told_so = told;
   carried = run;
   counts = λ cloud lt. let p = prepares.each cloud lt in record { faults = p.later; armings = sym p.armings; same = λ e. absurd (some e) };
+  arms = arms_by start.old new (unopened_of s start.old) run (λ cloud lt. sym (prepares.each cloud lt).armings) prepares.others;
   others = prepares.others;
   given = laws.given start.old (unopened_of s start.old) run;
   more = laws.more start.old (unopened_of s start.old) run;

@@ -2,6 +2,7 @@
 use Rattle.std.proofs.Common.{◌≡◌, ℕ, ◌+◌, ◌<◌, ◌≤◌, true, false, List, [], ◌∷◌, ◌++◌, length, refl, sym, ap, ◌∙◌, subst, inl, inr, ◌⊎◌, arith, append-nil, append_assoc, eqb, eq-eqb}
 use Rattle.std.specs.Prelude.{Option, Some, None, Ok, IfSome, IsTrue}
 use Rattle.std.specs.Io.KnownBytes.{Appends}
+use Rattle.std.proofs.lemmas.Bool.{cases_lt}
 use Rattle.journal_start.specs.declared.rooms.Rooms.{Rooms}
 use Rattle.cd_base.specs.declared.shape.Shape.{Shape}
 use Rattle.cd_edges.specs.Causes.{Rose}
@@ -23,13 +24,14 @@ use Rattle.session.specs.Texts.{text_of}
 use Rattle.script_lines.specs.SessionModel.Vault.{Setting, Vault}
 use Rattle.script_lines.specs.SessionModel.Run.{Answered, script_of, answers_of}
 use Rattle.script_lines.specs.SessionModel.Headline.{Session, Begun, IsRun, due, event_of, GivesAcknowledged, GivesFromMore, DisksKeep, AnswersPrivately}
+use Rattle.script_lines.proofs.SessionModel.Armings.{only_arms}
 use Rattle.script_lines.proofs.SessionModel.Faults.{faults_rose}
 use Rattle.two_worlds.proofs.Two.{two_worlds}
 use Rattle.script_lines.specs.At.{Leaves}
 use Rattle.replay_core.specs.declared.end.ReplayEnd.{ReplayEnd}
 use Rattle.replay_core.specs.declared.end.ReplayEnd.TheVariants as ends
 use Rattle.replay_core.specs.Endings.{Call, HasReadSome, HasHeader, AreEmptyBelow, AreSpared, IsDue, HasCause}
-use Rattle.replay_core.specs.Replayed.{Replayed, Replays, status_of, ending_of, IsCut, IsPrinted}
+use Rattle.replay_core.specs.Replayed.{ArmsByLines, Replayed, Replays, status_of, ending_of, IsCut, IsPrinted}
 use Rattle.replay_core.specs.Opening.{IsThere}
 use Rattle.replay_core.specs.Going.{Start, call_of, HasCome, SaysNext, CanBe, EndsReading, WritesFront, EndsWriting, Answers, EndsAnswering}
 use Rattle.replay_core.proofs.Firsts.{map_told}
@@ -64,6 +66,14 @@ session_of s history at begun last =
 never : {A : Type 0} → true ≡ false → A
 never e = absurd (let f : true ≡ false = e in cc)
 
+-- only an arm line arms
+pub arms_by : (old new : ℕ → Cloud) (run : Session) → IsRun old run → ((cloud : ℕ) → cloud < run.setting.shape.n → (run.last cloud).armings ≡ (new cloud).armings)
+    → ((cloud : ℕ) → run.setting.shape.n ≤ cloud → new cloud ≡ old cloud) → ArmsByLines old new run
+arms_by old new run is here others cloud none = elim (cases_lt cloud run.setting.shape.n) [
+  | inl lt ↦ sym (here cloud lt) ∙ only_arms old run cloud is none
+  | inr le ↦ ap (λ (c : Cloud). c.armings) (others cloud le)
+]
+
 pub replayed : Laws → (status : ℕ) (start : Start) (s : Setting) (new : ℕ → Cloud) (history : List Answered) (at : Vault) (begun : Option Begun) (last : ℕ → Peer)
     → Holds start s new history at begun last
     → (status ≡ 0 → (cloud : ℕ) → cloud < s.shape.n → (last cloud).faults ≡ (new cloud).faults)
@@ -74,6 +84,7 @@ replayed laws status start s new history at begun last h same image told = recor
   told_so = h.told;
   carried = run;
   counts = λ cloud lt. record { faults = h.faults cloud lt; armings = h.armings cloud lt; same = λ e. same e cloud lt };
+  arms = arms_by start.old new (session_of s history at begun last) run h.armings h.others;
   others = h.others;
   given = laws.given start.old (session_of s history at begun last) run;
   more = laws.more start.old (session_of s history at begun last) run;

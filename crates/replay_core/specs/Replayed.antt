@@ -1,5 +1,6 @@
 -- What a replay promises: the session that was carried out, what was written of it, and why it ended.
 use Rattle.std.specs.Prelude.{◌≡◌, ℕ, ◌<◌, ◌≤◌, ◌⊎◌, List, [], ◌++◌, length, Option, IsTrue}
+use Rattle.std.specs.List.{Contains}
 use Rattle.std.specs.Io.KnownBytes.{Appends}
 use Rattle.cd_edges.specs.declared.area.Area.{Area}
 use Rattle.cd_edges.specs.Disk.{Cloud, Image, IsImage, reads}
@@ -8,11 +9,13 @@ use Rattle.user_dedup.specs.Exec.{MaySettleAs}
 use Rattle.cloud_server.specs.CloudAreas.Standing.{StandsFor}
 use Rattle.transcript.specs.declared.line.Line.TheVariants as lines
 use Rattle.session.specs.Texts.{text_of}
+use Rattle.session.specs.declared.event.Event.TheVariants as events
 use Rattle.transcript.specs.Transcript.{line_text}
 use Rattle.replay_core.specs.declared.end.ReplayEnd.{ReplayEnd}
 use Rattle.replay_core.specs.declared.end.ReplayEnd.TheVariants as ends
-use Rattle.script_lines.specs.SessionModel.Headline.{Session, IsRun, due, GivesAcknowledged, GivesFromMore, DisksKeep, DisksStand, AnswersPrivately}
+use Rattle.script_lines.specs.SessionModel.Headline.{Session, IsRun, due, script_in, GivesAcknowledged, GivesFromMore, DisksKeep, DisksStand, AnswersPrivately}
 use Rattle.script_lines.specs.SessionModel.Faults.{FaultsRose}
+use Rattle.script_lines.specs.SessionModel.Steps.{cloud_no}
 use Rattle.script_lines.specs.At.{header_in}
 use Rattle.two_worlds.specs.Worlds.{TwoWorlds}
 use Rattle.replay_core.specs.Endings.{Call, EndingLine, NoEnding, DoneEnding, ScriptEnding, ShelfEnding, StoreEnding, DamagedEnding, IsDue, HasCause}
@@ -29,11 +32,19 @@ BeginsEmpty clouds =
     (cloud : ℕ) (image : Image) (area : Area) → IsTrue (clouds cloud).told → IsImage (clouds cloud).now image
     → image area ≡ []
 
+-- a cloud that no line arms, one that was begun among them, was armed as often before as behind all
+abbrev pub ArmsByLines : (ℕ → Cloud) → (ℕ → Cloud) → Session → Type 0
+ArmsByLines old new run =
+    (cloud : ℕ) → ((calls keep : ℕ) → ¬ Contains (script_in run) (events.Arm (cloud_no cloud) calls keep))
+    → (new cloud).armings ≡ (old cloud).armings
+
 -- The headline: between these two states of the clouds the session was carried out.
 pub record Replayed (status : ℕ) (old new : ℕ → Cloud) (run : Session) : Type 0 where
   pub told_so : (cloud : ℕ) → run.setting.told cloud ≡ (old cloud).told
   pub carried : IsRun old run
   pub counts : (cloud : ℕ) → cloud < run.setting.shape.n → HasCounts status new run cloud
+  -- only an arm line arms
+  pub arms : ArmsByLines old new run
   -- the clouds that the store doesn't have are as they were
   pub others : (cloud : ℕ) → run.setting.shape.n ≤ cloud → new cloud ≡ old cloud
   -- a get gives each version that its clouds acknowledged, and so does a read of the disks after a crash
