@@ -1,0 +1,3 @@
+mod Leaving
+mod Storing
+mod Working
