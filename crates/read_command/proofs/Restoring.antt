@@ -26,12 +26,13 @@ use Rattle.local_link.specs.declared.fate.Fate.TheVariants.{Deliver}
 use Rattle.local_link.specs.declared.link.LocalLink.{LocalLink}
 use Rattle.local_link.specs.Calls.{header_of}
 use Rattle.local_link.specs.Tells.{header_at, rooms_at, is_delivered, telling, StandsAt}
+use Rattle.restore_job.specs.Asking.{among as only_of}
 use Rattle.restore_job.specs.Asking.{PeersOf, OnlyRead, MayRead, Asked, is_lost, TellsAll}
 use Rattle.restore_job.specs.Brought.{Brought}
 use Rattle.restore_job.specs.Reading.{Ends}
 use Rattle.restore_job.specs.Refusals.{Names, Caused}
 use Rattle.restore_job.specs.Restored
-use Rattle.restore_job.specs.Restored.{Unrestored}
+use Rattle.restore_job.specs.Restored.{Unrestored, restored_file}
 use Rattle.restore_job.specs.declared.error.RestoreErr.{RestoreErr}
 use Rattle.restore_job.specs.declared.error.RestoreErr.TheVariants as errors
 use Rattle.transcript.specs.declared.refusal.Refusal.{Refusal}
@@ -39,7 +40,7 @@ use Rattle.transcript.specs.declared.refusal.Refusal.TheVariants as refusals
 use Rattle.read_command.specs.Disks.{AreReadable, KeepsDisks}
 use Rattle.read_command.specs.Opening.{AreOpened}
 use Rattle.subset_restore.specs.Refusals.{refusal_of, refusal_text}
-use Rattle.subset_restore.specs.Ends.{Sought, AnyEnds, GivesNone, NoneCame, WasLost, any_outcome, outcome_of}
+use Rattle.subset_restore.specs.Ends.{Sought, AnyEnds, GivesNone, NoneBy, NoneCame, WasLost, any_outcome, outcome_of}
 use Rattle.subset_restore.specs.Ends.{IsNone as AnyNone}
 use Rattle.subset_restore.specs.Subsets.{subsets}
 use Rattle.subset_restore.specs.Tries.{Try}
@@ -47,7 +48,9 @@ use Rattle.subset_restore.proofs.Calling.{among_chosen, none_by, none_lost}
 use Rattle.subset_restore.proofs.Choices.{subset_among}
 use Rattle.subset_restore.proofs.Elements.{all_of, contains_back, contains_front, of_all}
 use Rattle.subset_restore.proofs.Going.{any_at, any_none}
-use Rattle.read_command.specs.Ends.{Outside, HaveLists, RoseBy, Due, due_of, IsNone, HoldsFailed, IsFileDue, IsRefusalDue}
+use Rattle.subset_restore.proofs.Files.{same_file}
+use Rattle.restore_job.proofs.Wrong.{both_true}
+use Rattle.read_command.specs.Ends.{Outside, HaveLists, RoseBy, Due, due_of, IsNone, HoldsFailed, IsFileDue, IsRefusalDue, IsRefused, GivesAnyway}
 use Rattle.read_command.specs.Ends.{IsFaultLine, IsLineOf, CameTo, CameDue}
 use Rattle.read_command.proofs.Disks.{OneHeader, rooms_one}
 use Rattle.read_command.proofs.Row.{of_one}
@@ -373,6 +376,58 @@ module _ {V : Type 0} (clouds : V → ℕ → Cloud) (named : List ℕ) (shape :
               CameDue around named (due_of shape user (tag, version) named lists) r file))
               (λ names unlost why is. absurd (let never : None ≡ Some why = is in cc))
               (λ x is names unlost. by_error x is names unlost) e came n f
+
+      -- a choice of readable clouds whose lists give a file isn't refused
+      module _ (rooms : ℕ → Rooms) (lists : ℕ → List Command) (chosen bytes : List ℕ) (in_order : Contains (subsets shape.k named) chosen)
+          (are : AreReadable shape chosen (clouds old.shelf.now) rooms lists) (given : restored_file shape lists user (tag, version) chosen ≡ Ok bytes)
+          (free : HoldsFailed around chosen → ⊥) where
+        is_named : (cloud : ℕ) → Contains chosen cloud → Contains named cloud
+        is_named = subset_among shape.k named chosen in_order
+
+        list_of : (cloud : ℕ) → Contains chosen cloud
+            → StandsFor (reads (clouds old.shelf.now cloud).now) (header_of old.servers.shape (rooms cloud) cloud) (lists cloud) × IsWithin old.servers.shape (rooms cloud) (lists cloud)
+        list_of cloud has =
+            subst (λ (s : Shape). StandsFor (reads (clouds old.shelf.now cloud).now) (header_of s (rooms cloud) cloud) (lists cloud) × IsWithin s (rooms cloud) (lists cloud)) (sym same)
+            ((are cloud has).stands, (are cloud has).within)
+
+        stand_one : (cloud : ℕ) → Contains chosen cloud → StandsAt clouds mid cloud (peers lists cloud)
+        stand_one cloud has = (opened.each cloud (is_named cloud has)).loaded (are cloud has).told (rooms cloud) (lists cloud) (list_of cloud has).0 (list_of cloud has).1
+
+        both_ways : (why : Unrestored) → restored_file shape lists user (tag, version) chosen ≡ Err why → ⊥
+        both_ways why e = (let never = sym given ∙ e in cc)
+
+        never_none : (tries : List Try) (after : ℕ → Peer) → ((cloud : ℕ) → WasLost tries cloud → ⊥) → ((cloud : ℕ) → Contains chosen cloud → (after cloud).faults ≡ (clouds new.shelf.now cloud).faults)
+            → OnlyRead named (peers lists) after → AnyNone wanted tries (peers lists) after chosen → ⊥
+        never_none tries after unlost news read (inl none) =
+            both_ways none.0 (sym (same_file shape (λ cloud. (after cloud).list) lists user (tag, version) chosen
+            (λ cloud has. same_list (lists cloud) (clouds mid.shelf.now cloud) (after cloud) (read.read cloud))) ∙ none.1)
+        never_none tries after unlost news read (inr (cloud, has, inl rose)) =
+            free (
+              cloud,
+              has,
+              subst (λ (n : ℕ). Rose n (clouds new.shelf.now cloud).faults) (opened.each cloud (is_named cloud has)).faults
+                  (subst (λ (n : ℕ). Rose (clouds mid.shelf.now cloud).faults n) (news cloud has) rose),
+            )
+        never_none tries after unlost news read (inr (cloud, has, inr lost)) = unlost cloud lost
+
+        never_came : (e : RestoreErr) → NoneCame (telling clouds) talk wanted mid new was e → ⊥
+        never_came e came =
+            let these = among chosen in
+            let went = came.alone these (λ cloud. true) (λ cloud has. refl) (peers lists) (λ cloud yes one. stand_one cloud (has_among chosen cloud one)) in
+            let told : TellsAll (only_of these (telling clouds)) mid chosen = λ cloud has.
+            both_true (these cloud) ((telling clouds).told mid cloud) (among_has chosen cloud has) (told_on cloud (are cloud has).told) in
+            never_none came.tries went.0 (none_lost (telling clouds) talk wanted was mid new came.tries came.refused lossless)
+            (λ cloud has. (went.1 cloud refl (among_has chosen cloud has)).faults) went.2
+            (of_all (λ (x : List ℕ). TellsAll (only_of these (telling clouds)) mid x → AnyNone wanted came.tries (peers lists) went.0 x) (subsets shape.k named) chosen went.3.none in_order told)
+
+        never_refused : (e : RestoreErr) (why : Refusal) → refusal_of e ≡ Some why → NoneBy (telling clouds) talk wanted mid new was e → ⊥
+        never_refused e why is by =
+            none_by (telling clouds) talk wanted was mid new (λ x. refusal_of x ≡ Some why → ⊥) (λ want. (let never : None ≡ Some why = want in cc)) (λ x came same. never_came x came) e by is
+
+      pub given_anyway : GivesAnyway around shape user (tag, version) named (IsRefused result)
+      given_anyway rooms lists chosen bytes in_order are given free refused =
+          never_refused rooms lists chosen bytes in_order are given free refused.0 refused.1 refused.3
+          (subst (λ (r : Result (Unit {0}) RestoreErr). AnyEnds (telling clouds) talk wanted mid new was file r) refused.2 restored)
 
   -- the images of all, and the clouds that weren't named
   pub kept_on : OneHeader → ((cloud : ℕ) (p : Peer) → cloud < mid.servers.shape.n → IsTrue (clouds mid.shelf.now cloud).told → StandsAt clouds mid cloud p

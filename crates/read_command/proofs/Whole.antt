@@ -1,5 +1,5 @@
 -- What is written at the end of a read.
-use Rattle.std.proofs.Common.{ℕ, List, [], ◌∷◌, refl, sym, subst, inl, inr, ◌⊎◌, append-nil}
+use Rattle.std.proofs.Common.{◌≡◌, ℕ, List, [], ◌∷◌, refl, sym, subst, inl, inr, ◌⊎◌, append-nil}
 use Rattle.std.specs.Prelude.{Option, Some, None, Result, Ok, Err}
 use Rattle.std.specs.Io.KnownBytes.{Appends}
 use Rattle.std.specs.List.{Contains}
@@ -16,7 +16,8 @@ use Rattle.read_command.specs.Disks.{AreReadable, StopsAt}
 use Rattle.read_command.specs.Opening.{EndsOpening, IsFree}
 use Rattle.subset_restore.specs.Refusals.{refusal_text}
 use Rattle.read_command.specs.Ends.{Outside, CameDue, Due, IsBrought, IsFileDue, IsRefusalDue, IsRefusalLine, IsText, IsWritten}
-use Rattle.read_command.specs.Ends.{Reads, Restored, given_of}
+use Rattle.read_command.specs.Ends.{GivesAnyway, Reads, Restored, given_of}
+use Rattle.kept_files.specs.Kept.{key_of}
 
 pub nothing_more : (w : Option (List ℕ)) → Appends w w []
 nothing_more None = tt
@@ -53,6 +54,13 @@ reads_whole c r came file old new (ends.NotBegun cloud len) is w = absurd w
 reads_whole c r came file old new (ends.Damaged cloud at byte) is w = absurd w
 reads_whole c r came file old new (ends.Other cloud found) is w = absurd w
 reads_whole c r came file old new (ends.ShelfFault cloud) is w = absurd w
+
+-- a choice of readable clouds isn't refused
+pub whole_anyway : (c : Outside) (r : Wanted) (came : Result (Unit {0}) RestoreErr) (file : List ℕ) (old new : Option (List ℕ)) (end : ReadEnd)
+    → Restored c r came file → IsWritten came file old new end → GivesAnyway c r.shape r.user (key_of r.shape r.path.now r.version) r.clouds.now (end ≡ ends.Refused)
+whole_anyway c r came file old new end is w rooms lists chosen bytes has are given free same =
+    let refused = subst (λ (x : ReadEnd). IsWritten came file old new x) same w in
+    is.anyway rooms lists chosen bytes has are given free (refused.0, refused.1, refused.2, refused.3)
 
 -- the openings ended it
 pub reads_stopped : (c : Outside) (r : Wanted) (w : Option (List ℕ)) (end : ReadEnd) → EndsOpening r.shape r.clouds.now c.old c.new c.total_before c.total_after end

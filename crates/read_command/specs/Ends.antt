@@ -109,6 +109,13 @@ pub record IsRefusalDue (c : Outside) (named : List ℕ) (due : Due) (text : Lis
   pub line : IsLineOf (due.given first) text ⊎ IsFaultLine c first text
   pub exact : (HoldsFailed c named → ⊥) → IsLineOf due.whole text
 
+-- Where the clouds of some choice are readable, the lists give a file from them, and no count of theirs rose, this doesn't
+-- come, whatever the other named clouds are.
+abbrev pub GivesAnyway : Outside → Shape → UserId → Tag × Version → List ℕ → Type 0 → Type 0
+GivesAnyway c shape user key named It = (rooms : ℕ → Rooms) (lists : ℕ → List Command) (chosen file : List ℕ)
+    → Contains (subsets shape.k named) chosen → AreReadable shape chosen c.old rooms lists
+    → restored_file shape lists user key chosen ≡ Ok file → (HoldsFailed c chosen → ⊥) → It → ⊥
+
 -- These lists stand at the named clouds that are told, each within these rooms.
 abbrev pub HaveLists : Outside → Shape → List ℕ → (ℕ → Rooms) → (ℕ → List Command) → Type 0
 HaveLists c shape named rooms lists = (cloud : ℕ) → Contains named cloud → IsTrue (c.old cloud).told
@@ -139,12 +146,17 @@ CameDue c named due (Ok u) file = IsFileDue c named due file
 CameDue c named due (Err e) file =
     (why : Refusal) → refusal_of e ≡ Some why → IsRefusalDue c named due (refusal_text why)
 
+-- it was refused, and not for want of memory
+abbrev pub IsRefused : Result (Unit {0}) RestoreErr → Type 0
+IsRefused came = (e : RestoreErr) × (why : Refusal) × (came ≡ Err e) × (refusal_of e ≡ Some why)
+
 -- The named clouds were opened, and the version restored from them.
 pub record Restored (c : Outside) (r : Wanted) (came : Result (Unit {0}) RestoreErr) (file : List ℕ) : Type 0 where
   pub opened : AllOpened c r.shape r.clouds.now
   pub came_to : CameTo c r.shape r.clouds.now came file
   pub due : (rooms : ℕ → Rooms) (lists : ℕ → List Command) → AreReadable r.shape r.clouds.now c.old rooms lists
       → CameDue c r.clouds.now (given_of r lists) came file
+  pub anyway : GivesAnyway c r.shape r.user (key_of r.shape r.path.now r.version) r.clouds.now (IsRefused came)
 
 -- ---- what is written
 

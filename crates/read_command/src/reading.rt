@@ -7,7 +7,9 @@ ghost use Rattle.user_dedup.specs.declared.command.Command.{Command};
 ghost use Rattle.local_link.specs.declared.fate.Fate.TheVariants.{Deliver};
 ghost use Rattle.read_command.specs.Disks.{AreReadable, IsSpared, KeepsDisks};
 ghost use Rattle.read_command.specs.Opening.{EndsOpening, IsFree};
-ghost use Rattle.read_command.specs.Ends.{CountsSink, IsOfOpening, Reads, Restored};
+ghost use Rattle.kept_files.specs.Kept.{key_of};
+ghost use Rattle.read_command.specs.declared.end.ReadEnd.TheVariants.{Refused};
+ghost use Rattle.read_command.specs.Ends.{CountsSink, GivesAnyway, IsOfOpening, Reads, Restored};
 
 use crate::opening::open_clouds;
 use crate::writing::write_came;
@@ -108,6 +110,16 @@ pub fn read_file<K: Sink, V: Shelf>(
       old = V.cloud_at shelf.old;
       new = V.cloud_at shelf.new;
     }) wanted.now result (K.written sink.old) (K.written sink.new) }
+
+    // Where the clouds of some choice of k are readable and their lists give the file, and no count of theirs rose, it
+    // isn't refused, whatever the other named clouds are.
+    ensures anyway { GivesAnyway (record {
+      total_before = V.faults shelf.old;
+      total_after = V.faults shelf.new;
+      old = V.cloud_at shelf.old;
+      new = V.cloud_at shelf.new;
+    }) wanted.now.shape wanted.now.user (key_of wanted.now.shape wanted.now.path.now wanted.now.version)
+        wanted.now.clouds.now (result ≡ Refused) }
     ensures counts { CountsSink (K.faults sink.old) (K.faults sink.new) result }
 
     // Each image since then of a named cloud stands for one of the lists that its images stood for, where these are

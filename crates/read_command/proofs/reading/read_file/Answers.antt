@@ -4,7 +4,9 @@ use Rattle.journal_start.specs.declared.rooms.Rooms.{Rooms}
 use Rattle.read_command.specs.Disks.{AreReadable}
 use Rattle.read_command.specs.Opening.{EndsOpening, IsFree}
 use Rattle.read_command.specs.Ends.{Outside, IsWritten, Restored}
-use Rattle.read_command.proofs.Whole.{nothing_more, reads_whole, reads_stopped}
+use Rattle.read_command.specs.declared.end.ReadEnd.{ReadEnd}
+use Rattle.read_command.specs.declared.end.ReadEnd.TheVariants as ends
+use Rattle.read_command.proofs.Whole.{nothing_more, reads_whole, reads_stopped, whole_anyway}
 use Rattle.read_command.proofs.reading.read_file.Goals as goal
 
 pub returns-in_default-clause-reads : goal.returns-in_default-clause-reads
@@ -51,3 +53,36 @@ returns-clause-reads g c =
     reads_stopped (around c.args.shelf.now c.shelf-1.given.0) r (g.K.Sink.written c.args.sink.now) end
     (subst (λ (a : g.row.V.Denot). ended a c.shelf-1.given.0) c.of-link.ensures.shelf (subst (λ (b : g.row.V.Denot). ended first b) back c.in-Err.ensures.end))
     (subst (λ (a : g.row.V.Denot). (rooms : ℕ → Rooms) (lists : ℕ → List Command) → AreReadable r.shape r.clouds.now (g.V.Shelf.cloud_at a) rooms lists → IsFree end) c.of-link.ensures.shelf c.in-Err.ensures.free)
+
+pub returns-in_default-clause-anyway : goal.returns-in_default-clause-anyway
+returns-in_default-clause-anyway g c rooms lists chosen file has are given free is = (let never : ends.NoMemory ≡ ends.Refused = is in cc)
+
+pub returns-in_default-make-clause-anyway : goal.returns-in_default-make-clause-anyway
+returns-in_default-make-clause-anyway g c rooms lists chosen file has are given free is = (let never : ends.NoMemory ≡ ends.Refused = is in cc)
+
+pub returns-in-Ok-came-clause-anyway : goal.returns-in-Ok-came-clause-anyway
+returns-in-Ok-came-clause-anyway g c =
+    let around : g.row.V.Denot → g.row.V.Denot → Outside = λ a b. record {
+      total_before = g.V.Shelf.faults a;
+      total_after = g.V.Shelf.faults b;
+      old = g.V.Shelf.cloud_at a;
+      new = g.V.Shelf.cloud_at b;
+    } in
+    let r = c.args.wanted.now in
+    let came = c.in-Ok-came.came in
+    let file = c.restore_opened-came.new.file in
+    let first = c.of-link.result.shelf.now in
+    let last = c.restore_opened-came.new.link.shelf.now in
+    let back : last ≡ c.shelf-1.given.0 = search rules in
+    let old = g.K.Sink.written c.args.sink.now in
+    let new = g.K.Sink.written c.write_came.new.sink in
+    whole_anyway (around c.args.shelf.now c.shelf-1.given.0) r came file old new c.write_came.result
+    (subst (λ (a : g.row.V.Denot). Restored (around a c.shelf-1.given.0) r came file) c.of-link.ensures.shelf
+    (subst (λ (b : g.row.V.Denot). Restored (around first b) r came file) back c.in-Ok-came.ensures.came))
+    (subst (λ (bytes : List ℕ). IsWritten came bytes old new c.write_came.result) c.as_slice.ensures c.write_came.ensures.written)
+
+pub returns-clause-anyway : goal.returns-clause-anyway
+returns-clause-anyway g c rooms lists chosen file has are given free is =
+    let r = c.args.wanted.now in
+    subst (λ (end : ReadEnd). EndsOpening r.shape r.clouds.now (g.V.Shelf.cloud_at c.of-link.result.shelf.now) (g.V.Shelf.cloud_at c.restore_opened-came.new.link.shelf.now)
+    (g.V.Shelf.faults c.of-link.result.shelf.now) (g.V.Shelf.faults c.restore_opened-came.new.link.shelf.now) end) is c.in-Err.ensures.end

@@ -6,7 +6,7 @@ use Rattle.journal_start.specs.declared.start.Header.{Header}
 use Rattle.caont_rs.specs.Package.{tag as tag_at}
 use Rattle.read_command.specs.Disks.{AreReadable, InItsRooms, IsOpened, KeepsDisks}
 use Rattle.read_command.specs.Opening.{AreOpened}
-use Rattle.read_command.proofs.Restoring.{came_to, is_due, kept_on}
+use Rattle.read_command.proofs.Restoring.{came_to, given_anyway, is_due, kept_on}
 use Rattle.read_command.proofs.reading.restore_opened.Goals as goal
 
 pub returns-in-Err-clause-free : goal.returns-in-Err-clause-free
@@ -35,6 +35,8 @@ returns-clause-came g c =
       came_to = came_to clouds named r.shape before between now old mid new c.requires.shape opened r.user tag r.version _
           c.restore_any.result c.args.file.now c.restore_any.new.out c.requires.empty c.requires.fate e.asked e.named e.restored;
       due = is_due clouds named r.shape before between now old mid new c.requires.shape opened r.user tag r.version _
+          c.restore_any.result c.args.file.now c.restore_any.new.out c.requires.empty c.requires.fate e.asked e.named e.restored;
+      anyway = given_anyway clouds named r.shape before between now old mid new c.requires.shape opened r.user tag r.version _
           c.restore_any.result c.args.file.now c.restore_any.new.out c.requires.empty c.requires.fate e.asked e.named e.restored;
     }
 
