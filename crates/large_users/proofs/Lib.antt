@@ -1,0 +1,5 @@
+pub mod CompactFits
+pub mod CompactRoom
+pub mod Counts
+pub mod Lengths
+pub mod Passed
