@@ -1,0 +1,12 @@
+pub mod Along
+pub mod Answering
+pub mod Asking
+pub mod AtGate
+pub mod Cases
+pub mod Lawful
+pub mod Loaded
+pub mod NextKept
+pub mod OneMigration
+pub mod Opened
+pub mod Stepping
+pub mod Whole

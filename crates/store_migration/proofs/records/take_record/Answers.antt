@@ -1,0 +1,24 @@
+use Rattle.std.proofs.Common.{Ok, Err}
+use Rattle.cd_edges.specs.declared.area.Area.TheVariants.{Recipes}
+use Rattle.half_journal.specs.States.{state_of}
+use Rattle.cloud_memory.specs.Rooms.{memory_of}
+use Rattle.store_migration.proofs.Asking.{by_recipe, by_nothing}
+use Rattle.store_migration.proofs.records.take_record.Goals as goal
+
+pub returns-in-Ok-clause-judged : goal.returns-in-Ok-clause-judged
+returns-in-Ok-clause-judged g c told =
+    let recipes = ((g.V.Shelf.cloud_at c.args.shelf.now c.args.cloud.0).now Recipes).read in let journal = state_of c.args.journal.now in
+    by_recipe c.args.ground.now c.args.inside recipes (memory_of c.args.memory.now) journal.current.body_at journal.current.body (memory_of c.take_read.new.memory) (Ok tt)
+    c.in-Some.place c.body.result.now c.body.ensures c.in-Some.ensures.asks (c.in-Ok.ensures.judged told)
+
+pub returns-in-Err-clause-judged : goal.returns-in-Err-clause-judged
+returns-in-Err-clause-judged g c told =
+    let recipes = ((g.V.Shelf.cloud_at c.args.shelf.now c.args.cloud.0).now Recipes).read in let journal = state_of c.args.journal.now in
+    by_recipe c.args.ground.now c.args.inside recipes (memory_of c.args.memory.now) journal.current.body_at journal.current.body (memory_of c.take_read.new.memory) (Err c.in-Err.error)
+    c.in-Some.place c.body.result.now c.body.ensures c.in-Some.ensures.asks (c.in-Err.ensures.judged told)
+
+pub returns-in-None-clause-judged : goal.returns-in-None-clause-judged
+returns-in-None-clause-judged g c told =
+    let recipes = ((g.V.Shelf.cloud_at c.args.shelf.now c.args.cloud.0).now Recipes).read in let journal = state_of c.args.journal.now in
+    by_nothing c.args.ground.now c.args.inside recipes (memory_of c.args.memory.now) journal.current.body_at journal.current.body (memory_of c.take_body.new.memory) c.take_body.result
+    c.body.result.now c.body.ensures c.in-None.ensures.asks c.take_body.ensures.judged
