@@ -18,7 +18,7 @@ log="$(mktemp)"
 trap 'rm -f "$log"' EXIT
 status=0
 for example in "first_run.sh" "first_screen.sh --check" "round_trip.sh" "read_back.sh" "refill.sh" "any_three.sh" "session.sh" "month.sh" "kill.sh 20" \
-    "many_clients.sh" "audit.sh" "reclaim.sh 21" "spool.sh" "spool_kill.sh 10" "delete.sh" "days.sh" "checkpoint.sh" "format_1.sh" "four_clouds.sh" "folder.sh" "year.sh 4"; do
+    "many_clients.sh" "audit.sh" "reclaim.sh 21" "spool.sh" "spool_kill.sh 10" "delete.sh" "days.sh" "checkpoint.sh" "format_1.sh" "migrate.sh" "four_clouds.sh" "folder.sh" "year.sh 4"; do
     # shellcheck disable=SC2086
     if timeout 300 "$top/examples/"$example > "$log" 2>&1; then
         echo "examples: $example ran"

@@ -1,6 +1,7 @@
 #!/usr/bin/env bash
 # Sees that the stores of format 1 in examples/format_1, which earlier releases wrote, are told apart and spared: `read` from each choice of
-# clouds, and `serve` of each cloud, end with status 7 and name the format, and no byte of them changes.
+# clouds, and `serve` of each cloud, end with status 7 and name the format, and no byte of them changes. `migrate` alone takes them over:
+# migrate.sh sees that it does.
 #
 # They were written by format_1/make.sh with such a release. The stores are copied first, so that they stay as they are.
 set -eu

@@ -85,6 +85,7 @@ other_status status now old new run other r = record {
   told_so = r.told_so;
   carried = r.carried;
   counts = λ cloud lt. record { faults = (r.counts cloud lt).faults; armings = (r.counts cloud lt).armings; same = λ zero. absurd (other zero) };
+  arms = r.arms;
   others = r.others;
   given = r.given;
   more = r.more;

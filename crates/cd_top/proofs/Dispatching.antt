@@ -1,8 +1,8 @@
 -- From what one command promises to what the words promise.
 use Rattle.std.proofs.Common.{◌≡◌, ℕ, List, sym, subst}
-use Rattle.command_words.specs.Asked.{AskedRead, AskedServe, AskedFile, AskedSpool, AskedResume, AskedCloud, AskedSession, Asked}
+use Rattle.command_words.specs.Asked.{AskedRead, AskedServe, AskedFile, AskedSpool, AskedResume, AskedCloud, AskedMigrate, AskedSession, Asked}
 use Rattle.command_words.specs.Asked.{ForReplay, ForRead, ForServe, ForBackup, ForRestore, ForDelete, ForSpool, ForResume}
-use Rattle.command_words.specs.Asked.{ForAudit, ForCheck, ForReclaim, ForGenerate}
+use Rattle.command_words.specs.Asked.{ForAudit, ForCheck, ForReclaim, ForMigrate, ForGenerate}
 use Rattle.command_words.specs.Commands.{IsCommand}
 use Rattle.cd_top.specs.Dispatch.{Each, Promises}
 use Rattle.cd_top.specs.Replay.{IsReplay}
@@ -47,6 +47,9 @@ module _ (one : Law) (words : List (List ℕ)) (asked : Asked) (is : IsCommand w
 
   pub is_reclaimed : (c : AskedCloud) → IsCommand words (ForReclaim c) → each.reclaimed c
   is_reclaimed c other = promised (ForReclaim c) other
+
+  pub is_migrated : (m : AskedMigrate) → IsCommand words (ForMigrate m) → each.migrated m
+  is_migrated m other = promised (ForMigrate m) other
 
   pub is_generated : (g : AskedSession) → IsCommand words (ForGenerate g) → each.generated g
   is_generated g other = promised (ForGenerate g) other

@@ -45,6 +45,7 @@ module _ (order : Order) (call : Passing) (total total_after now : ℕ) (after :
     run = g.run;
     replayed = replayed;
     ordered = record { shape = g.shape; rooms = g.rooms; lines = g.lines };
+    unarmed = g.unarmed;
     began = g.began;
     spared = g.spared;
     cause = cause;

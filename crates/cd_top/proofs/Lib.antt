@@ -3,6 +3,7 @@ pub mod Closing
 pub mod Completing
 mod Dispatching
 mod Generating
+mod Migrating
 mod Placing
 mod ReadClosing
 mod Reclaiming

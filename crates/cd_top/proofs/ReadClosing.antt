@@ -10,7 +10,8 @@ use Rattle.user_dedup.specs.declared.command.Command.{Command}
 use Rattle.read_command.specs.declared.end.ReadEnd.{ReadEnd}
 use Rattle.read_command.specs.declared.end.ReadEnd.TheVariants as ends
 use Rattle.read_command.specs.Disks.{AreReadable, IsSpared, KeepsDisks}
-use Rattle.read_command.specs.Ends.{Outside, CountsSink, Gives, IsOfOpening, Says}
+use Rattle.read_command.specs.Ends.{Outside, CountsSink, Gives, GivesAnyway, IsOfOpening, Says}
+use Rattle.read_command.specs.KeptFiles.Kept.{key_of}
 use Rattle.command_words.specs.Asked.{AskedRead}
 use Rattle.cd_top.specs.Read.{Around, IsClosed, IsRead, ReadTo, NoPlace, given_of}
 use Rattle.cd_top.specs.Read.{last_line, status_of}
@@ -111,6 +112,12 @@ pub read_to : (status : ℕ) (r : AskedRead) (end : ReadEnd) (middle old new : �
     }) r.clouds (given_of r lists) end text))
     → CountsSink sink_before sink_middle end → KeepsDisks r.shape r.clouds middle new
     → (IsOfOpening end → (cloud : ℕ) → IsTrue (middle cloud).told → IsSpared (middle cloud) (new cloud))
+    → GivesAnyway (record {
+      total_before = count;
+      total_after = total_after;
+      old = middle;
+      new = new;
+    }) r.shape r.user (key_of r.shape r.path r.version) r.clouds (end ≡ ends.Refused)
     → ((faults : ℕ) (text : List ℕ) (first : Option (List ℕ)) → CountsSink faults sink_middle end
     → Appends first written text → (IsOfOpening end → text ≡ [])
     → IsClosed status faults sink_after end text first after)
@@ -123,7 +130,7 @@ pub read_to : (status : ℕ) (r : AskedRead) (end : ReadEnd) (middle old new : �
       new = new;
     }) r before after
 read_to status r end middle old new count total total_after sink_before sink_middle sink_after before written after same
-    kept reads counts disks areas closes =
+    kept reads counts disks areas anyway closes =
     subst₂ (λ (o : ℕ → Cloud) (n : ℕ). IsRead status (record {
       sink_before = sink_before;
       sink_after = sink_after;
@@ -134,6 +141,7 @@ read_to status r end middle old new count total total_after sink_before sink_mid
     }) r before after) (λ i cloud. same cloud i) kept (ReadTo end (record {
       text = reads.0;
       belongs = record { says = reads.2; gives = reads.3 };
+      anyway = anyway;
       closed = closes sink_before reads.0 before counts reads.1 (λ is. nothing_said end (record {
         total_before = count;
         total_after = total_after;

@@ -95,6 +95,7 @@ module _ (call : Call) (same : (cloud : ℕ) → call.new cloud ≡ call.old clo
       armings = sym (ap (λ (c : Cloud). c.armings) (same cloud));
       same = λ zero. absurd (omega (arith, zero));
     };
+    arms = λ cloud none. ap (λ (c : Cloud). c.armings) (same cloud);
     others = λ cloud le. same cloud;
     given = λ earlier later a clouds v history get kept clashes. no_line earlier later a history;
     more = λ earlier later a clouds v history get each clashes. no_line earlier later a history;

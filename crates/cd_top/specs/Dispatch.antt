@@ -1,8 +1,8 @@
 -- What is promised of the words that are carried out.
-use Rattle.command_words.specs.Asked.{AskedRead, AskedServe, AskedFile, AskedSpool, AskedResume, AskedCloud, AskedSession, Asked}
+use Rattle.command_words.specs.Asked.{AskedRead, AskedServe, AskedFile, AskedSpool, AskedResume, AskedCloud, AskedMigrate, AskedSession, Asked}
 use Rattle.command_words.specs.Asked.{ForReplay, ForRead, ForServe, ForBackup, ForRestore, ForDelete, ForSpool, ForResume}
-use Rattle.command_words.specs.Asked.{ForAudit, ForCheck, ForReclaim, ForGenerate}
-use Rattle.command_words.specs.Commands.{FitsRead, FitsServe, FitsFile, FitsResume, FitsCloud, FitsSession}
+use Rattle.command_words.specs.Asked.{ForAudit, ForCheck, ForReclaim, ForMigrate, ForGenerate}
+use Rattle.command_words.specs.Commands.{FitsRead, FitsServe, FitsFile, FitsResume, FitsCloud, FitsMigrate, FitsSession}
 
 -- what is asked for is within its ranges
 abbrev pub IsFit : Asked → Type 0
@@ -17,6 +17,7 @@ IsFit (ForResume r) = FitsResume r
 IsFit (ForAudit c) = FitsCloud c
 IsFit (ForCheck c) = FitsCloud c
 IsFit (ForReclaim c) = FitsCloud c
+IsFit (ForMigrate m) = FitsMigrate m
 IsFit (ForGenerate g) = FitsSession g
 
 -- what each command promises
@@ -32,6 +33,7 @@ pub record Each : Type 1 where
   pub audited : AskedCloud → Type 0
   pub checked : AskedCloud → Type 0
   pub reclaimed : AskedCloud → Type 0
+  pub migrated : AskedMigrate → Type 0
   pub generated : AskedSession → Type 0
 
 -- what a call promises of what is asked for
@@ -47,4 +49,5 @@ Promises (ForResume r) each = each.resumed r
 Promises (ForAudit c) each = each.audited c
 Promises (ForCheck c) each = each.checked c
 Promises (ForReclaim c) each = each.reclaimed c
+Promises (ForMigrate m) each = each.migrated m
 Promises (ForGenerate g) each = each.generated g

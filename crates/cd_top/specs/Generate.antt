@@ -71,6 +71,8 @@ pub record IsMadeTo (status : ℕ) (c : Around) (order : Order) (before after : 
   pub run : Session
   pub replayed : Replayed status c.old c.new run
   pub ordered : IsOrdered order run
+  -- no line arms
+  pub unarmed : (cloud : ℕ) → (c.new cloud).armings ≡ (c.old cloud).armings
   -- the clouds were opened only where the areas of each that is told were empty
   pub began : IsTrue run.opened → AreEmptyBelow c.old 4
   -- where one of them isn't empty, nothing was written, whatever the status

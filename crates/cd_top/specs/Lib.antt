@@ -4,6 +4,7 @@ pub mod Complete
 pub mod Dispatch
 pub mod Ends
 pub mod Generate
+pub mod Migrate
 pub mod Read
 pub mod Reclaim
 pub mod Replay

@@ -11,7 +11,7 @@ use Rattle.user_dedup.specs.declared.command.Command.{Command}
 use Rattle.read_command.specs.declared.end.ReadEnd.{ReadEnd}
 use Rattle.read_command.specs.declared.end.ReadEnd.TheVariants as ends
 use Rattle.read_command.specs.Disks.{AreReadable, IsSpared, KeepsDisks}
-use Rattle.read_command.specs.Ends.{Outside, CountsSink, Due, Gives, IsOfOpening, Says, due_of}
+use Rattle.read_command.specs.Ends.{Outside, CountsSink, Due, Gives, GivesAnyway, IsOfOpening, Says, due_of}
 use Rattle.command_words.specs.Asked.{AskedRead}
 use Rattle.cd_top.specs.Replay.{WritesFront}
 
@@ -73,11 +73,13 @@ IsClosed status faults now end text before after =
     ⊎ (((status ≡ 4) × IsOfOpening end × WritesFront (last_line end) before after × Rose faults now)
     ⊎ ((status ≡ 6) × IsOfOpening end × Appends before after [] × (now ≡ faults)))
 
--- A read came to this end.
+-- A read came to this end. Where the clouds of some K of those named are readable and their lists give the file, and no
+-- count of theirs rose, it isn't that the read is refused, whatever the other named clouds are.
 pub record IsReadTo (status : ℕ) (c : Around) (r : AskedRead) (before after : Option (List ℕ)) (end : ReadEnd)
     : Type 0 where
   pub text : List ℕ
   pub belongs : BelongsTo (outside c) r end text
+  pub anyway : GivesAnyway (outside c) r.shape r.user (key_of r.shape r.path r.version) r.clouds (end ≡ ends.Refused)
   pub closed : IsClosed status c.sink_before c.sink_after end text before after
   pub kept : KeepsDisks r.shape r.clouds c.old c.new
   pub areas : IsOfOpening end → (cloud : ℕ) → IsTrue (c.old cloud).told → IsSpared (c.old cloud) (c.new cloud)

@@ -5,6 +5,7 @@ mod audits;
 mod clients;
 mod ending;
 mod generate;
+mod migrates;
 mod read;
 mod reclaims;
 mod serve;

@@ -1,9 +1,9 @@
 //! The top call.
 
 ghost use Rattle.std.specs.Prelude.{◌≡◌, ◌≢◌, ◌≤◌, ◌⊎◌, ℕ, List, map, string_bytes};
-ghost use Rattle.command_words.specs.Asked.{AskedCloud, AskedFile, AskedRead, AskedResume, AskedServe, AskedSession, AskedSpool};
+ghost use Rattle.command_words.specs.Asked.{AskedCloud, AskedFile, AskedMigrate, AskedRead, AskedResume, AskedServe, AskedSession, AskedSpool};
 ghost use Rattle.command_words.specs.Asked.{ForAudit, ForBackup, ForCheck, ForDelete, ForGenerate, ForRead, ForReclaim, ForRestore};
-ghost use Rattle.command_words.specs.Asked.{ForResume, ForServe, ForSpool};
+ghost use Rattle.command_words.specs.Asked.{ForMigrate, ForResume, ForServe, ForSpool};
 ghost use Rattle.command_words.specs.Commands.{IsAnyCommand, IsCommand};
 ghost use Rattle.command_words.specs.Views.{asked_of};
 ghost use Rattle.generated_session.specs.ReplayCore.Endings.{Call};
@@ -16,6 +16,7 @@ ghost use Rattle.cd_top.specs.Audit.{Audits, Checks, clouds_of};
 ghost use Rattle.cd_top.specs.Clients.{BacksUp, Deletes, Restores, lines_of};
 ghost use Rattle.cd_top.specs.Dispatch.{IsFit, Promises};
 ghost use Rattle.cd_top.specs.Generate.{IsGenerated};
+ghost use Rattle.cd_top.specs.Migrate.{Migrates};
 ghost use Rattle.cd_top.specs.Serve.{Serves, serving};
 ghost use Rattle.cd_top.specs.Spool.{Resumes, Spools, beside};
 ghost use Rattle.cd_top.specs.Read.{Around, IsRead};
@@ -26,6 +27,7 @@ use crate::audits::{audit_in, check_in};
 use crate::clients::{backup_to, delete_at, restore_from};
 use crate::ending::finish;
 use crate::generate::generate_in;
+use crate::migrates::migrate_in;
 use crate::read::read_in;
 use crate::reclaims::reclaim_in;
 use crate::serve::serve_in;
@@ -131,6 +133,9 @@ fn carry_out<S: Source, K: Sink, V: Shelf, P: Ports>(
       reclaimed = λ asked. (source.new ≡ source.old) × (ports.new ≡ ports.old) × Reclaims result asked
           (clouds_of (V.cloud_at shelf.old) (V.cloud_at shelf.new) (V.faults shelf.old) (V.faults shelf.new))
           (output_by (K.written sink.old) (K.written sink.new) (K.faults sink.old) (K.faults sink.new));
+      migrated = λ asked. (source.new ≡ source.old) × (ports.new ≡ ports.old) × Migrates result asked
+          (clouds_of (V.cloud_at shelf.old) (V.cloud_at shelf.new) (V.faults shelf.old) (V.faults shelf.new))
+          (output_by (K.written sink.old) (K.written sink.new) (K.faults sink.old) (K.faults sink.new));
       generated = λ asked. (source.new ≡ source.old) × (ports.new ≡ ports.old) × IsGenerated result (record {
         sink_before = K.faults sink.old;
         sink_after = K.faults sink.new;
@@ -153,6 +158,7 @@ fn carry_out<S: Source, K: Sink, V: Shelf, P: Ports>(
         Command::Audit(asked) => audit_in(alloc, asked, sink, shelf),
         Command::Check(asked) => check_in(alloc, asked, source, sink, shelf),
         Command::Reclaim(asked) => reclaim_in(alloc, asked, sink, shelf),
+        Command::Migrate(asked) => migrate_in(alloc, asked, sink, shelf),
         Command::Generate(asked) => generate_in(alloc, asked, sink, shelf),
     }
 }
@@ -173,6 +179,7 @@ fn carry_out<S: Source, K: Sink, V: Shelf, P: Ports>(
 /// | `audit DIR CLOUD N K` | reads all that a cloud in DIR lists, and writes its certificate |
 /// | `check DIR CLOUD N K` | sees that the source has the cloud's own certificate, and that the cloud is whole |
 /// | `reclaim DIR CLOUD N K` | copies what is alive in a cloud in DIR, and gives back the space of the rest |
+/// | `migrate DIR CLOUD N K USERS SHARES RECIPES OWNERS FILES` | takes a cloud of format 1 in DIR over into format 2 |
 /// | `gen SEED FILES PIECES DIR` | makes a session of FILES backups over four empty clouds in DIR, and writes its summary |
 ///
 /// | Status | Comes | Last line |
@@ -185,6 +192,7 @@ fn carry_out<S: Source, K: Sink, V: Shelf, P: Ports>(
 /// | 0 | audit: each blob that the cloud lists is where it was put | none behind the certificate |
 /// | 0 | check: that too, and the certificate is the cloud's own | `whole CLOUD COUNT` |
 /// | 0 | reclaim: the cloud stands for its compact list | `reclaimed CLOUD SHARES RECIPES DROPPED` |
+/// | 0 | migrate: the cloud stands, in the present format, for its compact list | `migrated CLOUD COMMANDS` |
 /// | 1 | exactly where the words are none of the above; nothing is done then | none |
 /// | 2 | a line that was reached is wrong, or a limit is passed; all before it are answered | `script LINE PLACE BYTE` |
 /// | 2 | check: the source has no certificate, or more than 134,217,728 bytes | `script LINE PLACE BYTE` |
@@ -194,9 +202,10 @@ fn carry_out<S: Source, K: Sink, V: Shelf, P: Ports>(
 /// | 6 | memory ran out | none |
 /// | 7 | replay, gen: an area of a cloud wasn't empty | `store CLOUD AREA LEN` |
 /// | 7 | replay, gen: the first opening found damage, of a cloud that isn't told | `damaged CLOUD AT BYTE` |
-/// | 7 | read, audit, check, reclaim: a cloud has no store | `notbegun CLOUD LEN` |
-/// | 7 | read, audit, check, reclaim: a cloud's journal is damaged | `damaged CLOUD AT BYTE` |
-/// | 7 | read, audit, check, reclaim: a cloud is of another store, or another cloud of it | `other CLOUD FORMAT N K OWN`, as found |
+/// | 7 | read, audit, check, reclaim, migrate: a cloud has no store | `notbegun CLOUD LEN` |
+/// | 7 | read, audit, check, reclaim, migrate: a cloud's journal is damaged | `damaged CLOUD AT BYTE` |
+/// | 7 | read, audit, check, reclaim, migrate: a cloud is of another store, or another cloud of it | `other CLOUD FORMAT N K OWN`, as found |
+/// | 7 | migrate: the cloud holds more than the earlier format allowed | `rooms CLOUD ROOM LIMIT` |
 /// | 7 | spool: an area of DIR's cloud 0 isn't empty | `store 0 AREA LEN` |
 /// | 7 | resume: what is kept is damaged, or it was kept for clouds of another shape | `damaged 0 AT BYTE`, `other 0 FORMAT N K OWN` |
 /// | 7 | serve: as for a read, but that a store that isn't there is begun | likewise |
@@ -204,6 +213,8 @@ fn carry_out<S: Source, K: Sink, V: Shelf, P: Ports>(
 /// | 8 | resume: the kept file has changed | `refused rotten 0 NAMED FOUND` |
 /// | 8 | audit, check: a blob that the cloud lists isn't where it was put | `refused rotten CLOUD NAMED FOUND` |
 /// | 8 | reclaim: a blob that is alive isn't what it was; the cloud is as it was | `refused rotten CLOUD NAMED FOUND` |
+/// | 8 | migrate: the cloud is in the present format | `refused already CLOUD` |
+/// | 8 | migrate: a user keeps more than it may; the cloud is as it was | `refused toolarge USER ROOM USED LIMIT` |
 /// | 8 | check: the certificate is another cloud's, or has another line | `refused othercloud`, `refused differs LINE` |
 /// | 8 | delete: a cloud isn't as asked; or one replied something else | `refused ..`; the last cloud's line |
 /// | 8 | backup, spool, resume: not every cloud has entered the version | `end 1 open` |
@@ -327,6 +338,13 @@ pub fn run<S: Source, K: Sink, V: Shelf, P: Ports>(
     // has the numbers, or why nothing was given back. No other cloud is touched. Source and ports aren't.
     ensures reclaim { (asked : AskedCloud) → IsCommand (map string_bytes words.now) (ForReclaim asked)
         → (source.new ≡ source.old) × (ports.new ≡ ports.old) × Reclaims result asked
+        (clouds_of (V.cloud_at shelf.old) (V.cloud_at shelf.new) (V.faults shelf.old) (V.faults shelf.new))
+        (output_by (K.written sink.old) (K.written sink.new) (K.faults sink.old) (K.faults sink.new)) }
+    // The cloud is taken over from format 1: for each list that it stands for, a crash at any moment leaves the list, or in format 2 its
+    // compact list; 0 says that it stands for the compact list alone; whatever its bytes are, they give the answer; and where it isn't
+    // migrated, its areas were synced and nothing else. No other cloud is touched. Source and ports aren't.
+    ensures migrate { (asked : AskedMigrate) → IsCommand (map string_bytes words.now) (ForMigrate asked)
+        → (source.new ≡ source.old) × (ports.new ≡ ports.old) × Migrates result asked
         (clouds_of (V.cloud_at shelf.old) (V.cloud_at shelf.new) (V.faults shelf.old) (V.faults shelf.new))
         (output_by (K.written sink.old) (K.written sink.new) (K.faults sink.old) (K.faults sink.new)) }
     // The session that is made is the generated one; the summary has its numbers, or what is written says why there is

@@ -23,6 +23,8 @@ usage: cdstore serve DIR CLOUD N K ADDR COUNT           serve a cloud in DIR, be
        cdstore audit DIR CLOUD N K                      read all that a cloud in DIR lists, and write its certificate
        cdstore check DIR CLOUD N K                      see that standard input is the cloud's certificate, and the cloud whole
        cdstore reclaim DIR CLOUD N K                    copy what is alive in a cloud in DIR, and give the room of the rest back
+       cdstore migrate DIR CLOUD N K USERS SHARES RECIPES OWNERS FILES
+                                                        take a cloud in DIR that an earlier release wrote over, with these rooms
        cdstore replay DIR                               run the script on standard input over empty clouds in DIR
        cdstore gen SEED FILES PIECES DIR                run a generated session over four empty clouds in DIR, and sum it up
 

@@ -1,4 +1,5 @@
 mod Judged
 mod WordLaws
 mod Readers
+mod RoomWords
 mod Table

@@ -9,6 +9,7 @@ use Rattle.std.proofs.lemmas.Bool.{and_from, and_parts, ltb-true, lt-ltb, leb-tr
 use Rattle.std.proofs.lemmas.Option.{same_Some}
 use Rattle.cd_base.specs.Limits.{IsPath}
 use Rattle.cd_base.specs.declared.shape.Shape.{Shape}
+use Rattle.journal_start.specs.Ranges.{AreRooms}
 use Rattle.grammar.specs.Numerals.{number}
 use Rattle.grammar.proofs.WordLaws.{keep_some, keep_again}
 use Rattle.grammar.proofs.NumeralLaws.{number_reads}
@@ -20,20 +21,23 @@ use Rattle.session.proofs.Shapes.{shape_with_some}
 use Rattle.session.proofs.Texts.{names_file_true, names_file_from}
 use Rattle.session.proofs.Events.{u32_reads, u64_reads}
 use Rattle.session.proofs.CloudTexts.{sources_reads}
-use Rattle.command_words.specs.Asked.{AskedRead, AskedServe, AskedFile, AskedSpool, AskedResume, AskedCloud, AskedSession, Asked}
+use Rattle.command_words.specs.Asked.{AskedRead, AskedServe, AskedFile, AskedSpool, AskedResume, AskedCloud, AskedMigrate, AskedSession, Asked}
 use Rattle.command_words.specs.Asked.{ForReplay, ForRead, ForServe, ForBackup, ForRestore, ForDelete, ForSpool, ForResume}
-use Rattle.command_words.specs.Asked.{ForAudit, ForCheck, ForReclaim, ForGenerate}
+use Rattle.command_words.specs.Asked.{ForAudit, ForCheck, ForReclaim, ForMigrate, ForGenerate}
 use Rattle.command_words.specs.Commands.{read_words, serve_words, file_words, spool_words, resume_words, cloud_words, session_words}
-use Rattle.command_words.specs.Commands.{FitsRead, FitsServe, FitsFile, FitsResume, FitsCloud, FitsSession, IsCommand}
+use Rattle.command_words.specs.Commands.{migrate_words, rooms_words}
+use Rattle.command_words.specs.Commands.{FitsRead, FitsServe, FitsFile, FitsResume, FitsCloud, FitsMigrate, FitsSession, IsCommand}
 use Rattle.command_words.specs.Reading.{◌>>=◌, ◌▷◌, ◌▷▷◌, Gives, word_at, any, user, version, path, shape_at}
 use Rattle.command_words.specs.Reading.{replay_at, make_read, read_at, make_serve, has_cloud, serve_at, make_file}
 use Rattle.command_words.specs.Reading.{has_addresses, file_at, make_spool, spool_at, make_resume, has_clouds, resume_at}
-use Rattle.command_words.specs.Reading.{make_cloud, is_of_shape, cloud_at, make_session, is_small, session_at, name, all_rows}
+use Rattle.command_words.specs.Reading.{make_cloud, is_of_shape, cloud_at, rooms_at, make_migrate, is_placed, migrate_at}
+use Rattle.command_words.specs.Reading.{make_session, is_small, session_at, name, all_rows}
 use Rattle.command_words.specs.Reading.{named, read_as, row_at, command_at}
 use Rattle.command_words.specs.declared.rows.Row.{Row}
 use Rattle.command_words.specs.declared.rows.Row.TheVariants as rows
 use Rattle.command_words.proofs.Readers.{Spells, spells_by, Lawful, bind_some, lawful_word, lawful_given, lawful_then}
 use Rattle.command_words.proofs.Readers.{whole_takes, whole_again}
+use Rattle.command_words.proofs.RoomWords.{lawful_rooms}
 
 -- ---- words
 
@@ -284,6 +288,36 @@ cloud_again c within =
     (whole_again cloud_laws make_cloud (c.directory, (c.cloud.0, c.shape)) (tt, ((omega arith, omega arith), tt)))
     (lt-ltb c.cloud.0 c.shape.n within)
 
+-- ---- `migrate`
+
+migrate_laws : Lawful (word_at any ▷ word_at (number 0 255) ▷ shape_at ▷ rooms_at)
+    (λ x. (x.0 ∷ []) ++ ((decimal x.1.0 ∷ []) ++ (shape_words x.1.1.0 ++ rooms_words x.1.1.1)))
+    (λ x. Unit {0} × (((0 ≤ x.1.0) × (x.1.0 ≤ 255)) × (Unit {0} × AreRooms x.1.1.1)))
+migrate_laws = lawful_then (lawful_word any_spells)
+    (lawful_then (lawful_word byte_spells) (lawful_then lawful_shape lawful_rooms))
+
+migrate_takes : (words : List (List ℕ)) (m : AskedMigrate) → migrate_at words ≡ Some m
+    → (words ≡ migrate_words m) × FitsMigrate m
+unfolding migrate_at
+migrate_takes words m e =
+    let k = keep_some is_placed _ m e in
+    let t = whole_takes migrate_laws make_migrate words m k.0 in
+    let within = ltb-true m.place.cloud.0 m.place.shape.n k.1 in (
+      subst (λ (m : AskedMigrate). words ≡ migrate_words m) t.3 t.1,
+      record { cloud = within; rooms = subst (λ (m : AskedMigrate). AreRooms m.rooms) t.3 t.2.1.1.1 },
+    )
+
+migrate_again : (m : AskedMigrate) → FitsMigrate m → migrate_at (migrate_words m) ≡ Some m
+unfolding migrate_at
+migrate_again m h =
+    let within = h.cloud in let most = m.place.shape.few in
+    keep_again is_placed _ m
+    (whole_again migrate_laws make_migrate (m.place.directory, (m.place.cloud.0, (m.place.shape, m.rooms))) (
+      tt,
+      ((omega arith, omega arith), (tt, h.rooms)),
+    ))
+    (lt-ltb m.place.cloud.0 m.place.shape.n within)
+
 -- ---- `gen`
 
 session_laws : Lawful (word_at (number 0 18446744073709551615) ▷ word_at (number 1 1000) ▷ word_at (number 1 8192) ▷
@@ -338,6 +372,7 @@ named_again rows.Resume = refl
 named_again rows.Audit = refl
 named_again rows.Check = refl
 named_again rows.Reclaim = refl
+named_again rows.Migrate = refl
 named_again rows.Generate = refl
 
 row_spells : Spells named name (λ _. Unit {0})
@@ -398,6 +433,10 @@ row_takes rows.Reclaim words asked e =
     let a = as_some ForReclaim (cloud_at words) asked e in
     let t = cloud_takes words a.0 a.1 in
     subst (IsCommand (name rows.Reclaim ∷ words)) a.2 (ap (λ (ws : List (List ℕ)). codes "reclaim" ∷ ws) t.0, t.1)
+row_takes rows.Migrate words asked e =
+    let a = as_some ForMigrate (migrate_at words) asked e in
+    let t = migrate_takes words a.0 a.1 in
+    subst (IsCommand (name rows.Migrate ∷ words)) a.2 (ap (λ (ws : List (List ℕ)). codes "migrate" ∷ ws) t.0, t.1)
 row_takes rows.Generate words asked e =
     let a = as_some ForGenerate (session_at words) asked e in
     let t = session_takes words a.0 a.1 in
@@ -440,6 +479,8 @@ command_again words (ForCheck c) h = ap command_at h.0
     ∙ by_row rows.Check (cloud_words c) (ForCheck c) (ap (read_as ForCheck) (cloud_again c h.1))
 command_again words (ForReclaim c) h = ap command_at h.0
     ∙ by_row rows.Reclaim (cloud_words c) (ForReclaim c) (ap (read_as ForReclaim) (cloud_again c h.1))
+command_again words (ForMigrate m) h = ap command_at h.0
+    ∙ by_row rows.Migrate (migrate_words m) (ForMigrate m) (ap (read_as ForMigrate) (migrate_again m h.1))
 command_again words (ForGenerate g) h = ap command_at h.0
     ∙ by_row rows.Generate (session_words g) (ForGenerate g) (ap (read_as ForGenerate) (session_again g h.1))
 

@@ -4,6 +4,7 @@ use Rattle.cd_base.specs.declared.ids.CloudNo.{CloudNo}
 use Rattle.cd_base.specs.declared.ids.UserId.{UserId}
 use Rattle.cd_base.specs.declared.ids.Version.{Version}
 use Rattle.cd_base.specs.declared.shape.Shape.{Shape}
+use Rattle.journal_start.specs.declared.rooms.Rooms.{Rooms}
 
 -- a version of a file from the disks of these clouds
 pub record AskedRead : Type 0 where
@@ -45,6 +46,11 @@ pub record AskedCloud : Type 0 where
   pub cloud : CloudNo
   pub shape : Shape
 
+-- one cloud of a store in this directory, in these rooms from then on
+pub record AskedMigrate : Type 0 where
+  pub place : AskedCloud
+  pub rooms : Rooms
+
 -- the session of so many files of so many pieces that this number gives
 pub record AskedSession : Type 0 where
   pub seed : ℕ
@@ -65,4 +71,5 @@ pub data Asked : Type 0 where
   ForAudit : (words : AskedCloud) → Asked
   ForCheck : (words : AskedCloud) → Asked
   ForReclaim : (words : AskedCloud) → Asked
+  ForMigrate : (words : AskedMigrate) → Asked
   ForGenerate : (words : AskedSession) → Asked

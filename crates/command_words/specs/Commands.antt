@@ -3,10 +3,12 @@ use Rattle.std.specs.Prelude.{ℕ, ◌≡◌, ◌<◌, ◌≤◌, ◌*◌, ◌^�
 use Rattle.cd_base.specs.Limits.{IsPath}
 use Rattle.cd_base.specs.declared.ids.UserId.{UserId}
 use Rattle.cd_base.specs.declared.ids.Version.{Version}
+use Rattle.journal_start.specs.declared.rooms.Rooms.{Rooms}
+use Rattle.journal_start.specs.Ranges.{AreRooms}
 use Rattle.session.specs.Spelling.{cloud_list, AreSources}
-use Rattle.command_words.specs.Asked.{AskedRead, AskedServe, AskedFile, AskedSpool, AskedResume, AskedCloud, AskedSession, Asked}
+use Rattle.command_words.specs.Asked.{AskedRead, AskedServe, AskedFile, AskedSpool, AskedResume, AskedCloud, AskedMigrate, AskedSession, Asked}
 use Rattle.command_words.specs.Asked.{ForReplay, ForRead, ForServe, ForBackup, ForRestore, ForDelete, ForSpool, ForResume}
-use Rattle.command_words.specs.Asked.{ForAudit, ForCheck, ForReclaim, ForGenerate}
+use Rattle.command_words.specs.Asked.{ForAudit, ForCheck, ForReclaim, ForMigrate, ForGenerate}
 
 -- ---- the words behind the command's name
 
@@ -36,6 +38,14 @@ resume_words r = r.directory ∷ r.addresses
 -- DIR CLOUD N K
 abbrev pub cloud_words : AskedCloud → List (List ℕ)
 cloud_words c = c.directory ∷ decimal c.cloud.0 ∷ decimal c.shape.n ∷ decimal c.shape.k ∷ []
+
+-- USERS SHARES RECIPES OWNERS FILES
+abbrev pub rooms_words : Rooms → List (List ℕ)
+rooms_words r = decimal r.users ∷ decimal r.shares ∷ decimal r.recipes ∷ decimal r.owners ∷ decimal r.files ∷ []
+
+-- DIR CLOUD N K USERS SHARES RECIPES OWNERS FILES
+abbrev pub migrate_words : AskedMigrate → List (List ℕ)
+migrate_words m = m.place.directory ∷ decimal m.place.cloud.0 ∷ decimal m.place.shape.n ∷ decimal m.place.shape.k ∷ rooms_words m.rooms
 
 -- SEED FILES PIECES DIR
 abbrev pub session_words : AskedSession → List (List ℕ)
@@ -73,6 +83,11 @@ pub record FitsResume (r : AskedResume) : Type 0 where
 abbrev pub FitsCloud : AskedCloud → Type 0
 FitsCloud c = c.cloud.0 < c.shape.n
 
+-- a cloud of the shape, and rooms that a cloud may have
+pub record FitsMigrate (m : AskedMigrate) : Type 0 where
+  pub cloud : m.place.cloud.0 < m.place.shape.n
+  pub rooms : AreRooms m.rooms
+
 pub record FitsSession (g : AskedSession) : Type 0 where
   pub seed : g.seed < 2 ^ 64
   pub some_files : 1 ≤ g.files
@@ -96,6 +111,7 @@ IsCommand words (ForResume r) = (words ≡ codes "resume" ∷ resume_words r) ×
 IsCommand words (ForAudit c) = (words ≡ codes "audit" ∷ cloud_words c) × FitsCloud c
 IsCommand words (ForCheck c) = (words ≡ codes "check" ∷ cloud_words c) × FitsCloud c
 IsCommand words (ForReclaim c) = (words ≡ codes "reclaim" ∷ cloud_words c) × FitsCloud c
+IsCommand words (ForMigrate m) = (words ≡ codes "migrate" ∷ migrate_words m) × FitsMigrate m
 IsCommand words (ForGenerate g) = (words ≡ codes "gen" ∷ session_words g) × FitsSession g
 
 -- the words are one of the table

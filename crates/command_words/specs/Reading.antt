@@ -5,10 +5,12 @@ use Rattle.std.specs.Str.{bytes_eq}
 use Rattle.cd_base.specs.declared.shape.Shape.{Shape}
 use Rattle.grammar.specs.Words.{keep}
 use Rattle.grammar.specs.Numerals.{number}
-use Rattle.session.specs.Reading.{names_file, needed, sources}
-use Rattle.command_words.specs.Asked.{AskedRead, AskedServe, AskedFile, AskedSpool, AskedResume, AskedCloud, AskedSession, Asked}
+use Rattle.journal_start.specs.declared.rooms.Rooms.{Rooms}
+use Rattle.journal_start.specs.Ranges.{most_shares, most_recipes, most_owners, most_files}
+use Rattle.session.specs.Reading.{names_file, needed, sources, make_rooms, each_room}
+use Rattle.command_words.specs.Asked.{AskedRead, AskedServe, AskedFile, AskedSpool, AskedResume, AskedCloud, AskedMigrate, AskedSession, Asked}
 use Rattle.command_words.specs.Asked.{ForReplay, ForRead, ForServe, ForBackup, ForRestore, ForDelete, ForSpool, ForResume}
-use Rattle.command_words.specs.Asked.{ForAudit, ForCheck, ForReclaim, ForGenerate}
+use Rattle.command_words.specs.Asked.{ForAudit, ForCheck, ForReclaim, ForMigrate, ForGenerate}
 use Rattle.command_words.specs.declared.rows.Row.{Row}
 use Rattle.command_words.specs.declared.rows.Row.TheVariants as rows
 
@@ -73,6 +75,11 @@ path word = keep names_file (Some word)
 -- N and K
 unfoldable pub shape_at : List (List ℕ) → Option (Shape × List (List ℕ))
 shape_at words = word_at (number 0 255) words >>= λ n. word_at (needed n.0) n.1
+
+-- USERS SHARES RECIPES OWNERS FILES: how many users there are bounds what each of them holds
+unfoldable pub rooms_at : List (List ℕ) → Option (Rooms × List (List ℕ))
+rooms_at words = (word_at (number 1 256) ▷▷ λ users. word_at (each_room most_shares users) ▷ word_at (each_room most_recipes users)
+    ▷ word_at (each_room most_owners users) ▷ word_at (each_room most_files users)) words >>= λ x. Some (make_rooms x.0, x.1)
 
 -- ---- the rows
 
@@ -155,6 +162,15 @@ is_of_shape c = nat_lt c.cloud.0 c.shape.n
 unfoldable pub cloud_at : List (List ℕ) → Option AskedCloud
 cloud_at words = keep is_of_shape (whole make_cloud (word_at any ▷ word_at (number 0 255) ▷ shape_at) words)
 
+abbrev pub make_migrate : List ℕ × (ℕ × (Shape × Rooms)) → AskedMigrate
+make_migrate x = record { place = make_cloud (x.0, (x.1.0, x.1.1.0)); rooms = x.1.1.1 }
+
+abbrev pub is_placed : AskedMigrate → Bool
+is_placed m = is_of_shape m.place
+
+unfoldable pub migrate_at : List (List ℕ) → Option AskedMigrate
+migrate_at words = keep is_placed (whole make_migrate (word_at any ▷ word_at (number 0 255) ▷ shape_at ▷ rooms_at) words)
+
 abbrev pub make_session : ℕ × (ℕ × (ℕ × List ℕ)) → AskedSession
 make_session x = record { seed = x.0; files = x.1.0; pieces = x.1.1.0; directory = x.1.1.1 }
 
@@ -180,11 +196,12 @@ name rows.Resume = codes "resume"
 name rows.Audit = codes "audit"
 name rows.Check = codes "check"
 name rows.Reclaim = codes "reclaim"
+name rows.Migrate = codes "migrate"
 name rows.Generate = codes "gen"
 
 abbrev pub all_rows : List Row
 all_rows = rows.Replay ∷ rows.Read ∷ rows.Serve ∷ rows.Backup ∷ rows.Restore ∷ rows.Delete ∷ rows.Spool
-    ∷ rows.Resume ∷ rows.Audit ∷ rows.Check ∷ rows.Reclaim ∷ rows.Generate ∷ []
+    ∷ rows.Resume ∷ rows.Audit ∷ rows.Check ∷ rows.Reclaim ∷ rows.Migrate ∷ rows.Generate ∷ []
 
 abbrev pub named : List ℕ → Option Row
 named word = find (λ row. bytes_eq word (name row)) all_rows
@@ -201,6 +218,7 @@ row_at rows.Resume words = read_as ForResume (resume_at words)
 row_at rows.Audit words = read_as ForAudit (cloud_at words)
 row_at rows.Check words = read_as ForCheck (cloud_at words)
 row_at rows.Reclaim words = read_as ForReclaim (cloud_at words)
+row_at rows.Migrate words = read_as ForMigrate (migrate_at words)
 row_at rows.Generate words = read_as ForGenerate (session_at words)
 
 -- what all the words ask for

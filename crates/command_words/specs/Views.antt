@@ -10,10 +10,11 @@ use Rattle.command_words.specs.declared.command.DeleteWords.{DeleteWords}
 use Rattle.command_words.specs.declared.command.SpoolWords.{SpoolWords}
 use Rattle.command_words.specs.declared.command.ResumeWords.{ResumeWords}
 use Rattle.command_words.specs.declared.command.CloudWords.{CloudWords}
+use Rattle.command_words.specs.declared.command.MigrateWords.{MigrateWords}
 use Rattle.command_words.specs.declared.command.GenerateWords.{GenerateWords}
-use Rattle.command_words.specs.Asked.{AskedRead, AskedServe, AskedFile, AskedSpool, AskedResume, AskedCloud, AskedSession, Asked}
+use Rattle.command_words.specs.Asked.{AskedRead, AskedServe, AskedFile, AskedSpool, AskedResume, AskedCloud, AskedMigrate, AskedSession, Asked}
 use Rattle.command_words.specs.Asked.{ForReplay, ForRead, ForServe, ForBackup, ForRestore, ForDelete, ForSpool, ForResume}
-use Rattle.command_words.specs.Asked.{ForAudit, ForCheck, ForReclaim, ForGenerate}
+use Rattle.command_words.specs.Asked.{ForAudit, ForCheck, ForReclaim, ForMigrate, ForGenerate}
 
 abbrev pub asked_read : ReadWords → AskedRead
 asked_read r = record {
@@ -67,6 +68,9 @@ asked_resume r = record { directory = r.directory.now; addresses = map string_by
 abbrev pub asked_cloud : CloudWords → AskedCloud
 asked_cloud c = record { directory = c.directory.now; cloud = c.cloud; shape = c.shape }
 
+abbrev pub asked_migrate : MigrateWords → AskedMigrate
+asked_migrate m = record { place = asked_cloud m.place; rooms = m.rooms }
+
 abbrev pub asked_session : GenerateWords → AskedSession
 asked_session g = record { seed = g.seed; files = g.files; pieces = g.pieces; directory = g.directory.now }
 
@@ -82,4 +86,5 @@ asked_of (commands.Resume words) = ForResume (asked_resume words)
 asked_of (commands.Audit words) = ForAudit (asked_cloud words)
 asked_of (commands.Check words) = ForCheck (asked_cloud words)
 asked_of (commands.Reclaim words) = ForReclaim (asked_cloud words)
+asked_of (commands.Migrate words) = ForMigrate (asked_migrate words)
 asked_of (commands.Generate words) = ForGenerate (asked_session words)

@@ -1,6 +1,7 @@
 //! What the words of a command ask for.
 
 use cd_base::{CloudNo, Clouds, Shape, UserId, Version};
+use journal_start::Rooms;
 
 /// What the words ask for.
 #[derive(Debug, Drop)]
@@ -27,6 +28,8 @@ pub enum Command<'a> {
     Check(CloudWords<'a>),
     /// What is alive of a cloud's store, in a fresh place.
     Reclaim(CloudWords<'a>),
+    /// A cloud's store of the earlier format, in the present one.
+    Migrate(MigrateWords<'a>),
     /// A session that a number gives.
     Generate(GenerateWords<'a>),
 }
@@ -129,6 +132,15 @@ pub struct CloudWords<'a> {
     pub cloud: CloudNo,
     /// The shape of the store.
     pub shape: Shape,
+}
+
+/// `migrate DIR CLOUD N K USERS SHARES RECIPES OWNERS FILES`.
+#[derive(Clone, Copy, Debug)]
+pub struct MigrateWords<'a> {
+    /// Where the cloud lies, and which one of which shape it is.
+    pub place: CloudWords<'a>,
+    /// The rooms that it has from then on: 1 to 256 users, who hold no more together than a cloud may.
+    pub rooms: Rooms,
 }
 
 /// `gen SEED FILES PIECES DIR`.

@@ -3,11 +3,12 @@
 ghost use Rattle.std.specs.Prelude.{◌≡◌, ◌≤◌, ℕ, List, [], ◌∷◌, Some, None, IfSome, IfOk, MatchOption, is_some, map};
 ghost use Rattle.std.specs.Prelude.{string_bytes, length, if◌then◌else◌, nat_le};
 ghost use Rattle.grammar.specs.Numerals.{number};
-ghost use Rattle.session.specs.Reading.{needed, sources};
-ghost use Rattle.command_words.specs.Reading.{Gives, any, path, shape_at, word_at};
+ghost use Rattle.session.specs.Reading.{each_room, needed, sources};
+ghost use Rattle.command_words.specs.Reading.{Gives, any, path, rooms_at, shape_at, word_at};
 
 use cd_base::{CloudNo, Clouds, NoMemory, Shape, is_path};
 use grammar::{after, before, len_to, number_of};
+use journal_start::Rooms;
 use std::alloc::Global;
 
 /// Nothing, where no word is left.
@@ -101,6 +102,57 @@ pub fn shape_words(words: &[String]) -> Option<(Shape, &[String])>
 {
     let (n, words) = number_word(words, 0, 255)?;
     needed_word(n as u8, words)
+}
+
+// The most that all users of a cloud hold together.
+const MOST_SHARES: u64 = 8_589_934_592;
+
+const MOST_RECIPES: u64 = 1_073_741_824;
+
+const MOST_OWNERS: u64 = 524_288;
+
+const MOST_FILES: u64 = 16_384;
+
+// How many users there are: 1 to 256.
+#[tactic(auto, using(crate::proofs::RoomWords::some_users))]
+fn users_word(words: &[String]) -> Option<(u64, &[String])>
+    ensures value { Gives (λ x. (x.0, map string_bytes x.1.now)) result
+        (word_at (number 1 256) (map string_bytes words.now)) }
+    ensures some { IfSome result (λ x. 1 ≤ x.0) }
+    ensures few { IfSome result (λ x. x.0 ≤ 256) }
+{
+    number_word(words, 1, 256)
+}
+
+// What each of so many users holds, where all of them together hold no more than the most.
+#[tactic(auto, using(crate::proofs::RoomWords::part_le))]
+fn each_word(words: &[String], most: u64, users: u64) -> Option<(u64, &[String])>
+    requires some { 1 ≤ users }
+    ensures value { Gives (λ x. (x.0, map string_bytes x.1.now)) result
+        (word_at (each_room most users) (map string_bytes words.now)) }
+    ensures range { IfSome result (λ x. x.0 ≤ most) }
+{
+    number_word(words, 0, most / users)
+}
+
+/// USERS, SHARES, RECIPES, OWNERS and FILES.
+#[tactic(auto, unfolding(crate::specs::Reading::rooms_at))]
+pub fn rooms_words(words: &[String]) -> Option<(Rooms, &[String])>
+    ensures { Gives (λ x. (x.0, map string_bytes x.1.now)) result (rooms_at (map string_bytes words.now)) }
+{
+    let (users, words) = users_word(words)?;
+    let (shares, words) = each_word(words, MOST_SHARES, users)?;
+    let (recipes, words) = each_word(words, MOST_RECIPES, users)?;
+    let (owners, words) = each_word(words, MOST_OWNERS, users)?;
+    let (files, words) = each_word(words, MOST_FILES, users)?;
+    let rooms = Rooms {
+        users: users as u32,
+        shares,
+        recipes,
+        owners: owners as u32,
+        files: files as u32,
+    };
+    Some((rooms, words))
 }
 
 // Whether a word is k rising clouds below n or more, with commas between.

@@ -7,8 +7,8 @@ mod laws;
 mod rows;
 
 pub use command::{
-    BackupWords, CloudWords, Command, DeleteWords, GenerateWords, ReadWords, RestoreWords,
-    ResumeWords, ServeWords, SpoolWords,
+    BackupWords, CloudWords, Command, DeleteWords, GenerateWords, MigrateWords, ReadWords,
+    RestoreWords, ResumeWords, ServeWords, SpoolWords,
 };
 pub use laws::law_of_words;
 pub use rows::read_words;

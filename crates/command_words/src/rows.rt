@@ -6,17 +6,17 @@ ghost use Rattle.session.specs.Reading.{sources};
 ghost use Rattle.command_words.specs.Asked.{Asked, AskedRead, ForReplay, ForRead};
 ghost use Rattle.command_words.specs.Commands.{IsCommand};
 ghost use Rattle.command_words.specs.Reading.{Gives, named, replay_at, read_at, serve_at, file_at, spool_at};
-ghost use Rattle.command_words.specs.Reading.{cloud_at};
+ghost use Rattle.command_words.specs.Reading.{cloud_at, migrate_at};
 ghost use Rattle.command_words.specs.Reading.{resume_at, row_at, session_at, word_at};
 ghost use Rattle.command_words.specs.Views.{asked_read, asked_serve, asked_backup, asked_restore, asked_delete};
-ghost use Rattle.command_words.specs.Views.{asked_spool, asked_resume, asked_cloud, asked_session, asked_of};
+ghost use Rattle.command_words.specs.Views.{asked_spool, asked_resume, asked_cloud, asked_migrate, asked_session, asked_of};
 
 use crate::command::{
-    BackupWords, CloudWords, Command, DeleteWords, GenerateWords, ReadWords, RestoreWords,
-    ResumeWords, ServeWords, SpoolWords,
+    BackupWords, CloudWords, Command, DeleteWords, GenerateWords, MigrateWords, ReadWords,
+    RestoreWords, ResumeWords, ServeWords, SpoolWords,
 };
 use crate::fields::{
-    any_word, clouds_of, clouds_word, no_word, number_word, path_word, shape_words,
+    any_word, clouds_of, clouds_word, no_word, number_word, path_word, rooms_words, shape_words,
 };
 use cd_base::{CloudNo, NoMemory, Shape, UserId, Version};
 use std::alloc::Global;
@@ -35,6 +35,7 @@ enum Row {
     Audit,
     Check,
     Reclaim,
+    Migrate,
     Generate,
 }
 
@@ -64,6 +65,8 @@ fn named_by(word: &str) -> Option<Row>
         Some(Row::Check)
     } else if word == "reclaim" {
         Some(Row::Reclaim)
+    } else if word == "migrate" {
+        Some(Row::Migrate)
     } else if word == "gen" {
         Some(Row::Generate)
     } else {
@@ -260,6 +263,24 @@ fn cloud_of(words: &[String]) -> Option<CloudWords<'_>>
     })
 }
 
+#[tactic(auto, unfolding(crate::specs::Reading::migrate_at))]
+fn migrate_of(words: &[String]) -> Option<MigrateWords<'_>>
+    ensures { Gives asked_migrate result (migrate_at (map string_bytes words.now)) }
+{
+    let (directory, words) = any_word(words)?;
+    let (number, words) = number_word(words, 0, 255)?;
+    let (shape, words) = shape_words(words)?;
+    let (rooms, words) = rooms_words(words)?;
+    no_word(words)?;
+    let cloud = cloud_in(number, shape)?;
+    let place = CloudWords {
+        directory,
+        cloud,
+        shape,
+    };
+    Some(MigrateWords { place, rooms })
+}
+
 #[tactic(auto, unfolding(crate::specs::Reading::session_at))]
 fn session_of(words: &[String]) -> Option<GenerateWords<'_>>
     ensures { Gives asked_session result (session_at (map string_bytes words.now)) }
@@ -315,6 +336,7 @@ fn row_of(alloc: Global, row: Row, words: &[String]) -> Result<Option<Command<'_
         Row::Audit => Ok(cloud_of(words).map(Command::Audit)),
         Row::Check => Ok(cloud_of(words).map(Command::Check)),
         Row::Reclaim => Ok(cloud_of(words).map(Command::Reclaim)),
+        Row::Migrate => Ok(migrate_of(words).map(Command::Migrate)),
         Row::Generate => Ok(session_of(words).map(Command::Generate)),
     }
 }
@@ -333,10 +355,14 @@ fn row_of(alloc: Global, row: Row, words: &[String]) -> Result<Option<Command<'_
 /// | `resume DIR ADDR..` | 3 to 16 addresses |
 /// | `audit DIR CLOUD N K` | CLOUD: below N |
 /// | `check DIR CLOUD N K` | CLOUD: below N |
+/// | `reclaim DIR CLOUD N K` | CLOUD: below N |
+/// | `migrate DIR CLOUD N K USERS SHARES RECIPES OWNERS FILES` | CLOUD: below N. USERS: 1 to 256; the others: see below |
 /// | `gen SEED FILES PIECES DIR` | FILES: 1 to 1,000. PIECES: 1 to 8,192. Their product: at most 131,072 |
 ///
 /// A number is decimal, without leading zeros. N and K obey `2 <= K < N <= 16`; USER is below 2^32, VERSION and SEED
-/// below 2^64. PATH is the word's own bytes, 1 to 1,024 of them, none zero. DIR and ADDR are any words.
+/// below 2^64. PATH is the word's own bytes, 1 to 1,024 of them, none zero. DIR and ADDR are any words. SHARES, RECIPES,
+/// OWNERS and FILES are those of each user; USERS times SHARES is at most 8,589,934,592, USERS times RECIPES 1,073,741,824,
+/// USERS times OWNERS 524,288 and USERS times FILES 16,384.
 ///
 /// `NoMemory`: memory ran out for the clouds of a read. Words that are none of the table are never answered so.
 pub fn read_words(alloc: Global, words: &[String]) -> Result<Option<Command<'_>>, NoMemory>

@@ -1,4 +1,4 @@
-//! Tests of the commands read, audit, check and reclaim, and sessions over damaged and failing clouds.
+//! Tests of the commands read, audit, check, reclaim and migrate, and sessions over damaged and failing clouds.
 #![tactic(auto)]
 
 #[cfg(test)]
@@ -11,6 +11,8 @@ mod failures;
 mod faults_damage;
 #[cfg(test)]
 mod faults_place;
+#[cfg(test)]
+mod migrations;
 #[cfg(test)]
 mod openings;
 #[cfg(test)]

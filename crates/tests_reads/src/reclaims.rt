@@ -119,8 +119,9 @@ fn a_rotten_share_stops_it(rt: HostRuntime) -> Result<(), Fail> {
     Ok(())
 }
 
-// What a crash makes of the bytes that weren't synced, and whether those past the synced length stay.
-const CRASHES: [(u8, bool); 3] = [(0, false), (1, true), (0xFF, false)];
+// How many bytes of a cut write are kept, what a crash makes of the bytes that weren't synced, and whether those past the synced length
+// stay.
+const CRASHES: [(u32, u8, bool); 3] = [(1, 0, false), (5_000, 1, true), (1, 0xFF, false)];
 
 // How many calls that write or sync a reclaim of that store makes, with the four of its opening.
 const CALLS: u32 = 17;
@@ -152,16 +153,14 @@ fn is_stopped(
     Ok(stored && crashed && left && again && well && is_left(alloc, shelf)?)
 }
 
-// The same of all crashes and keeps.
+// The same of all crashes.
 fn are_stopped(alloc: Global, call: u32) -> Result<bool, Fail> {
     let mut well = true;
-    for crash in CRASHES {
-        for keep in [1, 5_000] {
-            let mut shelf = new_shelf(alloc)?;
-            let came = is_stopped(alloc, (call, keep), crash, &mut shelf);
-            drop(shelf);
-            well = came? && well;
-        }
+    for (keep, fill, whole) in CRASHES {
+        let mut shelf = new_shelf(alloc)?;
+        let came = is_stopped(alloc, (call, keep), (fill, whole), &mut shelf);
+        drop(shelf);
+        well = came? && well;
     }
     Ok(well)
 }

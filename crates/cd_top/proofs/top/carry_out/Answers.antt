@@ -33,5 +33,8 @@ returns-in-Check g c = promised_as _ _ (ap asked_of c.in-Check.is) _ (refl, c.ch
 pub returns-in-Reclaim : goal.returns-in-Reclaim
 returns-in-Reclaim g c = promised_as _ _ (ap asked_of c.in-Reclaim.is) _ (refl, refl, c.reclaim_in.ensures)
 
+pub returns-in-Migrate : goal.returns-in-Migrate
+returns-in-Migrate g c = promised_as _ _ (ap asked_of c.in-Migrate.is) _ (refl, refl, c.migrate_in.ensures)
+
 pub returns-in-Generate : goal.returns-in-Generate
 returns-in-Generate g c = promised_as _ _ (ap asked_of c.in-Generate.is) _ (refl, refl, c.generate_in.ensures)

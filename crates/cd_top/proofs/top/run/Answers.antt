@@ -1,8 +1,8 @@
 use Rattle.command_words.specs.Asked.{ForReplay, ForRead, ForServe, ForBackup, ForRestore, ForDelete, ForSpool, ForResume}
-use Rattle.command_words.specs.Asked.{ForAudit, ForCheck, ForReclaim, ForGenerate}
+use Rattle.command_words.specs.Asked.{ForAudit, ForCheck, ForReclaim, ForMigrate, ForGenerate}
 use Rattle.cd_top.proofs.Completing.{completes}
 use Rattle.cd_top.proofs.Dispatching.{is_replayed, is_read, is_served, is_backed_up, is_restored, is_deleted, is_spooled}
-use Rattle.cd_top.proofs.Dispatching.{is_resumed, is_audited, is_checked, is_reclaimed, is_generated}
+use Rattle.cd_top.proofs.Dispatching.{is_resumed, is_audited, is_checked, is_reclaimed, is_migrated, is_generated}
 use Rattle.cd_top.proofs.top.run.Goals as goal
 
 pub returns-in-Ok-None-clause-headline : goal.returns-in-Ok-None-clause-headline
@@ -52,6 +52,10 @@ returns-in-Ok-None-clause-check g c = λ asked is.
 pub returns-in-Ok-None-clause-reclaim : goal.returns-in-Ok-None-clause-reclaim
 returns-in-Ok-None-clause-reclaim g c = λ asked is.
     absurd ((rw c.in-Ok-None.field-0-is at c.in-Ok-None.ensures.none) (ForReclaim asked) is)
+
+pub returns-in-Ok-None-clause-migrate : goal.returns-in-Ok-None-clause-migrate
+returns-in-Ok-None-clause-migrate g c = λ asked is.
+    absurd ((rw c.in-Ok-None.field-0-is at c.in-Ok-None.ensures.none) (ForMigrate asked) is)
 
 pub returns-in-Ok-None-clause-generate : goal.returns-in-Ok-None-clause-generate
 returns-in-Ok-None-clause-generate g c = λ asked is.
@@ -124,6 +128,11 @@ returns-clause-check g c = λ asked other.
 pub returns-clause-reclaim : goal.returns-clause-reclaim
 returns-clause-reclaim g c = λ asked other.
     is_reclaimed c.law_of_words.ensures.one _ _
+    (rw c.in-Ok-Some.field-0-is at c.in-Ok-Some.ensures.some) _ c.carry_out.ensures asked other
+
+pub returns-clause-migrate : goal.returns-clause-migrate
+returns-clause-migrate g c = λ asked other.
+    is_migrated c.law_of_words.ensures.one _ _
     (rw c.in-Ok-Some.field-0-is at c.in-Ok-Some.ensures.some) _ c.carry_out.ensures asked other
 
 pub returns-clause-generate : goal.returns-clause-generate

@@ -1,0 +1,3 @@
+pub mod MigrationModel
+pub mod Said
+pub mod TakenOver
