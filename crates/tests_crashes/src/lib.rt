@@ -6,6 +6,8 @@ mod crashes;
 #[cfg(test)]
 mod deleting;
 #[cfg(test)]
+mod failing;
+#[cfg(test)]
 mod place;
 #[cfg(test)]
 mod stops;

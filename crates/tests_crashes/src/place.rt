@@ -7,6 +7,20 @@ use cd_top::run;
 use std::alloc::Global;
 use std::test::Fail;
 
+/// The status of a session.
+pub fn replayed(
+    alloc: Global,
+    source: &mut MemSource,
+    sink: &mut MemSink,
+    shelf: &mut MemShelf,
+) -> Result<u8, Fail> {
+    let mut words = Vec::new(alloc);
+    words.push(String::from_str(alloc, "replay")?)?;
+    words.push(String::from_str(alloc, "d")?)?;
+    let mut ports = MemPorts::of(alloc, 0, 1, &[])?;
+    Ok(run(alloc, &words, source, sink, shelf, &mut ports))
+}
+
 /// Whether a session over a shelf ends with status 0, and writes this.
 pub fn comes_to(
     alloc: Global,
@@ -14,13 +28,9 @@ pub fn comes_to(
     shelf: &mut MemShelf,
     wanted: &[u8],
 ) -> Result<bool, Fail> {
-    let mut words = Vec::new(alloc);
-    words.push(String::from_str(alloc, "replay")?)?;
-    words.push(String::from_str(alloc, "d")?)?;
     let mut source = MemSource::of(alloc, script, 1_000, &[])?;
     let mut sink = MemSink::of(alloc, 65_536, 1_000, &[])?;
-    let mut ports = MemPorts::of(alloc, 0, 1, &[])?;
-    let status = run(alloc, &words, &mut source, &mut sink, shelf, &mut ports);
+    let status = replayed(alloc, &mut source, &mut sink, shelf)?;
     Ok(status == 0 && sink.written() == wanted)
 }
 
