@@ -1,8 +1,9 @@
 #!/usr/bin/env bash
-# A year of use: year.sh [WEEKS], 52 where it isn't given. Three users keep folders that change daily on four clouds that are processes; two of
+# A year of use: year.sh [WEEKS], 52 where it isn't given. The four clouds begin as an earlier release left them, in format 1, with a version of
+# each of two users, and are moved over. Then three users keep folders that change daily on the clouds, which are processes; two of
 # them have the same folder. Now and then a client is killed in the middle, and run again. Each week all but the newest ten days are pruned, the
 # servers stop and each cloud is audited and its certificate checked, and a random day of a random user comes back from some three clouds as it
-# was. Each fourth week each cloud is reclaimed, and each thirteenth a cloud is lost, begins anew with nothing and is filled by its users. There is
+# was, and so do the two versions of before. Each fourth week each cloud is reclaimed, and each thirteenth a cloud is lost, begins anew with nothing and is filled by its users. There is
 # a line for each four weeks; the status is 0 only where nothing differed.
 # shellcheck source=clouds.sh
 . "$(dirname "$0")/clouds.sh"
@@ -92,6 +93,27 @@ reclaim() {
     live=$((live + shares + recipes))
 }
 
+# A cloud as an earlier release left it is moved over, to the usual rooms: migrate CLOUD
+migrate() {
+    local line
+    mkdir "$work/provider$1"
+    cp -r "$tools/format_1/two_users/cloud$1" "$work/provider$1"
+    line="$("$program" migrate "$work/provider$1" "$1" 4 3 16 536870912 67108864 32768 1024)" ||
+        fail "the migration of cloud $1 ended with status $?: $line"
+    [[ "$line" == "migrated $1 "* ]] || fail "the migration of cloud $1 said $line"
+}
+
+# Sees the versions that were moved over come back from three clouds: old_ones CLOUD, without this cloud
+old_ones() {
+    local three=("${address[@]}") user
+    unset "three[$1]"
+    for user in 7 8; do
+        "$program" restore "$user" notes 1 "${three[@]}" > "$work/back" || fail "the old version of user $user without cloud $1 ended with status $?"
+        echo "$old" | cmp - "$work/back" || fail "the old version of user $user without cloud $1 differs"
+        rm "$work/back"
+    done
+}
+
 # A cloud is lost with its disk, begins anew, and is filled from its users' folders: replace CLOUD
 replace() {
     local user
@@ -102,6 +124,9 @@ replace() {
     for user in 1 2 3; do
         run "$tools/backup_folder.sh" --again "$work/${folders[user]}" "$work/list$user" "$user" "$today" "${address[@]}"
         state "$work/${folders[user]}" > "$work/states/$user-$today"
+    done
+    for user in 7 8; do
+        echo "$old" | run "$program" backup "$user" notes 1 "${address[@]}"
     done
     since[$1]="$today"
     replaced=$((replaced + 1))
@@ -120,7 +145,9 @@ seconds() {
 
 killed=0 back=0 replaced=0 today=0
 since=(0 0 0 0)
+old='Call Anna, and bring milk.'
 for cloud in 0 1 2 3; do
+    migrate "$cloud"
     start "$cloud" 4294967295
 done
 for file in $(seq 12); do
@@ -151,6 +178,7 @@ for week in $(seq "$weeks"); do
         start "$cloud" 4294967295
     done
     some_day
+    old_ones $((RANDOM % 4))
     [ $((week % 13)) != 0 ] || replace $((week / 13 % 4))
     [ $((week % 4)) = 0 ] || continue
     seconds
@@ -164,4 +192,4 @@ for user in 1 2 3; do
     comes_back "$user" "$today" $((RANDOM % 4))
 done
 echo "$weeks weeks of three users: $today days were kept, $killed clients killed and run again, $replaced clouds lost and filled anew;" \
-    "$back days came back as they were, and each audit was whole."
+    "$back days came back as they were, what was moved over came back each week, and each audit was whole."
