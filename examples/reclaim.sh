@@ -74,7 +74,7 @@ comes_back() {
 for file in 1 2 3 4 5 6 7 8; do
     keep "$file" 1
 done
-weeks=0
+weeks=0 live=0 held=0
 for day in $(seq 2 "$days"); do
     file=$((day % 8 + 1))
     head -c 3000 /dev/urandom | dd of="$work/files/$file" conv=notrunc bs=1000 seek=$((day * 7)) 2> "$work/said"
