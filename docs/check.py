@@ -9,7 +9,7 @@ places and the numbers of lines anew; all else is for a person.
   linked    what docs/ARCHITECTURE.md marks with a star is what the program links
   chain     the chain of docs/ARCHITECTURE.md is one of crates.txt, and none is longer
   areas     the crates that docs/ARCHITECTURE.md says to touch an area are those that call a shelf
-  sceptic   the lines of the table in docs/TRUST.md
+  sceptic   the numbers of lines in the tables of docs/TRUST.md and docs/HEADLINE.md
   words     each word of code on a page (`a_word`, `CRATE/specs/FILE`, `CRATE::name`) is in the repository or the kit
 """
 import os
@@ -193,9 +193,8 @@ def areas(deps):
         say(f"docs/ARCHITECTURE.md: {numbers[len(calling)]} crates touch an area")
 
 
-def sceptic(mend):
-    """Each row of TRUST's last table: the files that it names have so many lines, rounded to tens."""
-    page = os.path.join("docs", "TRUST.md")
+def sceptic(page, mend):
+    """Each row of the page's table "To believe": the files that it names have so many lines, rounded to tens."""
     text = read(page)
     out = []
     within = False
@@ -281,7 +280,8 @@ def main():
     linked(deps)
     chain(deps)
     areas(deps)
-    sceptic(mend)
+    for page in ("TRUST.md", "HEADLINE.md"):
+        sceptic(os.path.join("docs", page), mend)
     sys.exit(1 if wrong else 0)
 
 
