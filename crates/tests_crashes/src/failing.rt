@@ -18,9 +18,9 @@ step 1 3 known 0 1\nstep 1 3 stored 1 1\nstep 1 3 committed\n";
 
 const OWN: &str = "step 1 0 stored 1 1\nstep 1 0 committed\n";
 
-// The first and the last of some calls of cloud 0, the status, and what is said of its Put and Commit, and of the get. Three lengths, three
-// syncs and twelve calls of the first opening come first; then the six of the Put and of the Commit, of whose last the Commit is there; and
-// then the reads of the get, one of the recipe and one of the share.
+// The first and the last of some calls of cloud 0, the status, and what is said of its Put and Commit, and of the get. The 18 in front
+// of them begin the cloud. Then come the six of the Put, and the six of the Commit, which is there where only its last one failed; and
+// then the two of the get.
 const CALLS: [(u64, u64, &str, &str); 5] = [
     (
         19,
