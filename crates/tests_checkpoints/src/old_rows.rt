@@ -1,6 +1,6 @@
 //! What is answered of small clouds.
 
-use crate::ground::{Old, lens, migrated, rooms_of, shelf_of, wide};
+use crate::old_ground::{Old, lens, migrated, rooms_of, shelf_of, wide};
 use cd_base::{NoMemory, Room, UserId};
 use journal_start::Rooms;
 use std::alloc::Global;

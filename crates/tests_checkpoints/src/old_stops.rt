@@ -1,6 +1,6 @@
 //! A stop in each device call of a migration, and a crash behind it.
 
-use crate::ground::{Old, ZERO, lens, migrated, shelf_of, wide};
+use crate::old_ground::{Old, ZERO, lens, migrated, shelf_of, wide};
 use cd_base::NoMemory;
 use cd_fakes::MemShelf;
 use std::alloc::Global;
