@@ -1,4 +1,4 @@
-//! Tests of links over connections, and connections that are served.
+//! Tests of links over connections, of connections that are served, and of uploads that a client keeps.
 #![tactic(auto)]
 
 #[cfg(test)]
@@ -11,5 +11,11 @@ mod jobs;
 mod place;
 #[cfg(test)]
 mod serving;
+#[cfg(test)]
+mod spool_cases;
+#[cfg(test)]
+mod spool_commands;
+#[cfg(test)]
+mod spool_opens;
 #[cfg(test)]
 mod stops;

@@ -1,6 +1,6 @@
 //! The commands `spool` and `resume`, over ports and a shelf in memory, where each call of the ports fails in turn.
 
-use crate::cases::ZERO;
+use crate::spool_cases::ZERO;
 use cd_base::{UserId, Version, is_path};
 use cd_edges::{Area, Shelf};
 use cd_fakes::{MemPorts, MemShelf, MemSink, MemSource};
@@ -246,7 +246,7 @@ df7e70e5021544f4834bbee64a9e3789febc4be81470df629cad6ddb03320a5c\n";
 #[test]
 fn a_changed_byte_is_rotten(rt: HostRuntime) -> Result<(), Fail> {
     let mut shelf = MemShelf::of(rt.alloc(), 1, 4_096, 100, &[])?;
-    let began = crate::cases::begun(rt.alloc(), &mut shelf).is_ok();
+    let began = crate::spool_cases::begun(rt.alloc(), &mut shelf).is_ok();
     shelf.set_byte(ZERO, Area::Shares, 0, b'B');
     let mut ports = ports_of(rt.alloc(), &[])?;
     let mut sink = MemSink::of(rt.alloc(), 1_000, 1_000, &[])?;

@@ -1,6 +1,6 @@
 //! What opens: behind a stop and a crash, with lanes and wrong records written by hand, and where a byte has changed.
 
-use crate::cases::{ZERO, begun};
+use crate::spool_cases::{ZERO, begun};
 use cd_base::{Bytes, CloudNo, Shape};
 use cd_edges::{Area, Shelf};
 use cd_fakes::MemShelf;
