@@ -1,16 +1,17 @@
-//! Tests of a cloud's list in memory, beside plain lists.
+//! Tests of a cloud's list in memory, beside plain lists and by its records, and of records checked and taken.
 #![tactic(auto)]
 
+#[cfg(test)]
 mod kept;
 #[cfg(test)]
-mod limits;
 mod lists;
 #[cfg(test)]
 mod puts;
+#[cfg(test)]
 mod reads;
+#[cfg(test)]
+mod records;
+#[cfg(test)]
 mod turns;
-
-pub use kept::{Kept, recipe_bytes, recipe_in};
-pub use lists::{Cost, File, Lists, RECIPE, len_of};
-pub use reads::{same_reads, unowned};
-pub use turns::{commit_by_lists, put_by_lists, share};
+#[cfg(test)]
+mod walks;

@@ -1,6 +1,6 @@
 //! Worked examples: full rooms of one user, and the parts of two users' Puts.
 
-use crate::Kept;
+use crate::kept::Kept;
 use cd_base::{Fp, NoMemory, Place, Room, Tag, UserId, Version};
 use cloud_memory::{CloudMemory, Full, New};
 use journal_start::Rooms;

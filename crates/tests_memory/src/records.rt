@@ -1,11 +1,11 @@
 //! Worked examples: records that are taken, and for each check one that isn't, with the place and the byte, in tables.
 
+use crate::kept::Kept;
 use cd_base::{Fp, NoMemory, Shape, UserId};
 use journal_start::Rooms;
 use record_checks::{Damage, Ground, Taking, recipe_of, take};
 use std::alloc::Global;
 use std::test::Fail;
-use tests_memory::Kept;
 
 // User 7 stores the share 9, of 11 bytes, at place 0.
 static STORES: [u8; 52] = [

@@ -1,6 +1,10 @@
 //! Some 300 commands of three users, in a memory, in lists, and by their records in another memory, with all reads
 //! compared.
 
+use crate::kept::{Kept, recipe_bytes, recipe_in};
+use crate::lists::{File, Lists, RECIPE};
+use crate::reads::{same_reads, unowned};
+use crate::turns::{commit_by_lists, put_by_lists, share};
 use cd_base::{Bytes, Fp, NoMemory, Place, Shape, Tag, UserId, Version, sha256};
 use journal_start::Rooms;
 use recipe::RecipeView;
@@ -8,10 +12,6 @@ use record_bodies::{BodyBuf, CommitBody, DeleteBody, KeptItem, PutItem};
 use record_checks::{Ground, Taking, recipe_of, take};
 use std::alloc::Global;
 use std::test::Fail;
-use tests_memory::{
-    File, Kept, Lists, RECIPE, commit_by_lists, put_by_lists, recipe_bytes, recipe_in, same_reads,
-    share, unowned,
-};
 
 // Where the second region begins, and a place 9,000 bytes before a container's end.
 const REGION: u64 = 34_359_738_368;
