@@ -166,8 +166,8 @@ pub fn lengths(shelf: &mut MemShelf, cloud: u8) -> Result<[u64; 3], Failed> {
     ])
 }
 
-// The clouds of these numbers.
-fn clouds_of(alloc: Global, numbers: &[u8]) -> Result<Clouds, Fail> {
+/// The clouds of these numbers.
+pub fn clouds_of(alloc: Global, numbers: &[u8]) -> Result<Clouds, Fail> {
     let mut clouds = Clouds::new(alloc);
     for number in numbers {
         let cloud = CloudNo(*number);
@@ -179,8 +179,8 @@ fn clouds_of(alloc: Global, numbers: &[u8]) -> Result<Clouds, Fail> {
     Ok(clouds)
 }
 
-// Whether each of these clouds has a number below n.
-fn are_below(n: u8, clouds: &[CloudNo]) -> bool
+/// Whether each of these clouds has a number below n.
+pub fn are_below(n: u8, clouds: &[CloudNo]) -> bool
     ensures { IsTrue result → All (λ cloud. cloud < n) (numbers_of clouds.now) }
 {
     match clouds {

@@ -1,10 +1,20 @@
-//! Tests of the servers of this process behind a link.
+//! Tests of the servers of this process behind a link, and of a user's versions brought to a new cloud.
 #![tactic(auto)]
 
 #[cfg(test)]
+mod filling;
+#[cfg(test)]
+mod fills;
+#[cfg(test)]
 mod ground;
 #[cfg(test)]
+mod rebuild_cases;
+#[cfg(test)]
+mod rebuild_stops;
+#[cfg(test)]
 mod restores;
+#[cfg(test)]
+mod skips;
 #[cfg(test)]
 mod stops;
 #[cfg(test)]

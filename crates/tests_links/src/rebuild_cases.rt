@@ -1,7 +1,7 @@
 //! The tests. Each lends its clouds to one function, and drops them in one place.
 
-use crate::ground::{link, shelf};
-use crate::{fills, skips, stops};
+use crate::filling::{link, shelf};
+use crate::{fills, rebuild_stops, skips};
 use cd_fakes::MemShelf;
 use local_link::LocalLink;
 use std::alloc::Global;
@@ -25,10 +25,10 @@ fn tried(alloc: Global, case: Case, link: &mut LocalLink<'_, MemShelf>) -> Resul
         Case::Pages => fills::two_thousand(alloc, link),
         Case::FullPage => fills::one_full_page(alloc, link),
         Case::Skips => skips::skips_have_their_reasons(alloc, link),
-        Case::Cuts => stops::each_call_cut_once(alloc, link),
-        Case::LostRead => stops::a_lost_ask_of_the_first_cloud(alloc, link),
-        Case::LostWrite => stops::a_lost_ask_of_the_target(alloc, link),
-        Case::Full => stops::a_full_target(alloc, link),
+        Case::Cuts => rebuild_stops::each_call_cut_once(alloc, link),
+        Case::LostRead => rebuild_stops::a_lost_ask_of_the_first_cloud(alloc, link),
+        Case::LostWrite => rebuild_stops::a_lost_ask_of_the_target(alloc, link),
+        Case::Full => rebuild_stops::a_full_target(alloc, link),
     }
 }
 

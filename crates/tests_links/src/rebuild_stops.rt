@@ -2,7 +2,7 @@
 
 ghost use Rattle.std.specs.Prelude.{◌≤◌};
 
-use crate::ground::{End, TARGET, comes_back, filled, rooms, store};
+use crate::filling::{End, TARGET, comes_back, filled, rooms, store};
 use cd_base::{Bytes, CloudNo, Room, UserId, Version, is_path};
 use cd_fakes::MemShelf;
 use frames::ReplyBuf;

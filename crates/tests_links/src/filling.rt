@@ -1,11 +1,12 @@
-//! Four clouds in memory, lanes to some of them, and a cloud that is filled again.
+//! Lanes to some of the clouds, and a cloud that is filled again.
 
 ghost use Rattle.std.specs.Prelude.{◌<◌, ◌≤◌, ◌∷◌, All, IfOk, IsTrue};
 ghost use Rattle.std.specs.List.{Contains};
 ghost use Rattle.cd_base.specs.Numbers.{numbers_of};
 ghost use Rattle.journal_start.specs.Ranges.{AreRooms};
 
-use cd_base::{Bytes, CloudNo, Clouds, NoMemory, Shape, UserId, Version, is_path};
+use crate::ground::{are_below, clouds_of, shape};
+use cd_base::{Bytes, CloudNo, NoMemory, UserId, Version, is_path};
 use cd_fakes::MemShelf;
 use frames::ReplyBuf;
 use journal_start::Rooms;
@@ -16,11 +17,6 @@ use std::alloc::Global;
 use std::test::Fail;
 use upload_job::Job;
 use user_dedup::Link;
-
-/// Four clouds, three of which give a file back.
-pub fn shape() -> Shape {
-    Shape { n: 4, k: 3 }
-}
 
 /// The cloud that is filled.
 pub const TARGET: CloudNo = CloudNo(3);
@@ -92,35 +88,6 @@ pub fn store(
         finish(&mut job, link, *lane, &mut out, reply)?;
     }
     Ok(())
-}
-
-// The clouds of these numbers.
-fn clouds_of(alloc: Global, numbers: &[u8]) -> Result<Clouds, Fail> {
-    let mut clouds = Clouds::new(alloc);
-    for number in numbers {
-        let cloud = CloudNo(*number);
-        if !clouds.can_push(cloud) {
-            return Err(Fail::new("no such clouds"));
-        }
-        clouds.push(cloud)?;
-    }
-    Ok(clouds)
-}
-
-// Whether each of these clouds has a number below n.
-fn are_below(n: u8, clouds: &[CloudNo]) -> bool
-    ensures { IsTrue result → All (λ cloud. cloud < n) (numbers_of clouds.now) }
-{
-    match clouds {
-        [] => true,
-        [cloud, more @ ..] => {
-            if cloud.0 < n {
-                are_below(n, more)
-            } else {
-                false
-            }
-        }
-    }
 }
 
 // Whether this cloud is none of these.

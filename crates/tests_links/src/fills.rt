@@ -1,6 +1,6 @@
 //! A cloud that lost all its files.
 
-use crate::ground::{End, comes_back, filled, store};
+use crate::filling::{End, comes_back, filled, store};
 use cd_fakes::MemShelf;
 use frames::ReplyBuf;
 use local_link::LocalLink;

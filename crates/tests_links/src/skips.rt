@@ -1,6 +1,6 @@
 //! Versions that are no whole files of the clouds, or stand otherwise at the target.
 
-use crate::ground::{End, comes_back, end_of, rebuilt, store};
+use crate::filling::{End, comes_back, end_of, rebuilt, store};
 use cd_base::CloudNo;
 use cd_fakes::MemShelf;
 use frames::ReplyBuf;
