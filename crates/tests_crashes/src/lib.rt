@@ -1,8 +1,6 @@
-//! Tests of failures and crashes, at one server and in sessions.
+//! Tests of failures and crashes in sessions, and of the command restore.
 #![tactic(auto)]
 
-#[cfg(test)]
-mod crashes;
 #[cfg(test)]
 mod deleting;
 #[cfg(test)]
@@ -10,6 +8,14 @@ mod failing;
 #[cfg(test)]
 mod place;
 #[cfg(test)]
+mod refusals;
+#[cfg(test)]
+mod restores;
+#[cfg(test)]
+mod servers;
+#[cfg(test)]
 mod stops;
+#[cfg(test)]
+mod streams;
 #[cfg(test)]
 mod thousand;

@@ -1,7 +1,7 @@
 //! Replies that give no file: each refusal of a Hello, of a recipe and of a share, with its values, and streams that end in each
 //! of their places.
 
-use crate::command::comes_to;
+use crate::restores::comes_to;
 use crate::streams::{A1, A2, A3, SHARES, recipe_reply, stream, streams_of};
 use cd_base::{Bytes, NoMemory};
 use std::alloc::Global;
