@@ -34,37 +34,32 @@ fn header(format: u8, shape: Shape) -> Header {
     }
 }
 
-fn four_starts(shape: Shape) -> [Start; 4] {
-    [
-        Start {
-            header: header(1, shape),
-            checkpoint: None,
-        },
-        Start {
-            header: header(1, shape),
-            checkpoint: Some(Checkpoint {
-                epoch: 2,
-                commands: 600,
-                records: 3,
-                region: 0,
-                recipes_end: 4_194_304,
-            }),
-        },
-        Start {
-            header: header(2, shape),
-            checkpoint: None,
-        },
-        Start {
-            header: header(2, shape),
-            checkpoint: Some(Checkpoint {
-                epoch: 1,
-                commands: 600,
-                records: 3,
-                region: 1,
-                recipes_end: 0,
-            }),
-        },
-    ]
+fn start(format: u8, checkpoint: Option<Checkpoint>) -> Start {
+    Start {
+        header: header(format, SHAPE),
+        checkpoint,
+    }
+}
+
+// The checkpoint in format 1, and that in format 2.
+fn of_first() -> Option<Checkpoint> {
+    Some(Checkpoint {
+        epoch: 2,
+        commands: 600,
+        records: 3,
+        region: 0,
+        recipes_end: 4_194_304,
+    })
+}
+
+fn of_second() -> Option<Checkpoint> {
+    Some(Checkpoint {
+        epoch: 1,
+        commands: 600,
+        records: 3,
+        region: 1,
+        recipes_end: 0,
+    })
 }
 
 // What is wrong with bytes in a half, if they are no start.
@@ -112,34 +107,19 @@ fn are_short(half: u8, body: &[u8], from: usize) -> bool {
     true
 }
 
-#[test]
-fn each_start_both_ways(rt: HostRuntime) -> Result<(), Fail> {
-    let [plain_first, first, plain_second, second] = four_starts(SHAPE);
-    assert_eq!(rt; plain_first.bytes().as_slice(), FIRST.as_slice());
-    assert_eq!(rt; first.bytes().as_slice(), FIRST_CHECKPOINT.as_slice());
-    assert_eq!(rt; plain_second.bytes().as_slice(), SECOND.as_slice());
-    assert_eq!(rt; second.bytes().as_slice(), SECOND_CHECKPOINT.as_slice());
-    assert_eq!(rt; Start::read(0, &FIRST), Ok(plain_first));
-    assert_eq!(rt; Start::read(0, &FIRST_CHECKPOINT), Ok(first));
-    assert_eq!(rt; Start::read(1, &FIRST_CHECKPOINT), Ok(first));
-    assert_eq!(rt; Start::read(0, &SECOND), Ok(plain_second));
-    assert_eq!(rt; Start::read(0, &SECOND_CHECKPOINT), Ok(second));
-    assert_eq!(rt; Start::read(1, &SECOND_CHECKPOINT), Ok(second));
-    Ok(())
+// Whether a start has these bytes, and they are read as it in this half.
+fn stands(start: Start, half: u8, bytes: &[u8]) -> bool {
+    start.bytes().as_slice() == bytes && Start::read(half, bytes) == Ok(start)
 }
 
 #[test]
-fn what_a_start_says(rt: HostRuntime) -> Result<(), Fail> {
-    let [plain_first, first, _, second] = four_starts(SHAPE);
-    assert_eq!(rt; plain_first.epoch(), 0);
-    assert_eq!(rt; plain_first.commands(), 0);
-    assert_eq!(rt; plain_first.records(), 0);
-    assert_eq!(rt; first.epoch(), 2);
-    assert_eq!(rt; first.recipes_end(), 4_194_304);
-    assert_eq!(rt; second.commands(), 600);
-    assert_eq!(rt; second.records(), 3);
-    assert_eq!(rt; second.region(), 1);
-    assert_eq!(rt; second.bytes().len(), 57);
+fn each_start_both_ways(rt: HostRuntime) -> Result<(), Fail> {
+    assert!(rt; stands(start(1, None), 0, &FIRST));
+    assert!(rt; stands(start(2, None), 0, &SECOND));
+    for half in 0..2 {
+        assert!(rt; stands(start(1, of_first()), half, &FIRST_CHECKPOINT));
+        assert!(rt; stands(start(2, of_second()), half, &SECOND_CHECKPOINT));
+    }
     Ok(())
 }
 
@@ -219,6 +199,16 @@ fn each_wrong_field(rt: HostRuntime) -> Result<(), Fail> {
     Ok(())
 }
 
+// Rooms that aren't allowed, and the first field that isn't.
+static REFUSED: [(u32, u64, u64, u32, u32, RoomsField); 6] = [
+    (0, 0, 0, 0, 0, RoomsField::Users),
+    (257, u64::MAX, 0, 0, 0, RoomsField::Users),
+    (2, u64::MAX, u64::MAX, 0, 0, RoomsField::Shares),
+    (1, 8_589_934_592, 1_073_741_825, 0, 0, RoomsField::Recipes),
+    (256, 33_554_432, 4_194_304, 2_049, 65, RoomsField::Owners),
+    (256, 33_554_432, 4_194_304, 2_048, 65, RoomsField::Files),
+];
+
 #[test]
 fn rooms_and_their_products(rt: HostRuntime) -> Result<(), Fail> {
     let usual = Rooms::usual();
@@ -229,23 +219,9 @@ fn rooms_and_their_products(rt: HostRuntime) -> Result<(), Fail> {
         Ok(usual)
     );
     assert_eq!(rt; Rooms::of(1, 0, 0, 0, 0), Ok(Rooms::least()));
-    assert_eq!(rt; Rooms::of(0, 0, 0, 0, 0), Err(RoomsField::Users));
-    assert_eq!(rt; Rooms::of(257, u64::MAX, 0, 0, 0), Err(RoomsField::Users));
-    assert_eq!(rt;
-        Rooms::of(2, u64::MAX, u64::MAX, 0, 0),
-        Err(RoomsField::Shares)
-    );
-    assert_eq!(rt;
-        Rooms::of(1, 8_589_934_592, 1_073_741_825, 0, 0),
-        Err(RoomsField::Recipes)
-    );
-    assert_eq!(rt;
-        Rooms::of(256, 33_554_432, 4_194_304, 2_049, 65),
-        Err(RoomsField::Owners)
-    );
-    assert_eq!(rt;
-        Rooms::of(256, 33_554_432, 4_194_304, 2_048, 65),
-        Err(RoomsField::Files)
-    );
+    for (users, shares, recipes, owners, files, field) in &REFUSED {
+        let rooms = Rooms::of(*users, *shares, *recipes, *owners, *files);
+        assert!(rt; rooms == Err(*field));
+    }
     Ok(())
 }
